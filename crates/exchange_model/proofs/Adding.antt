@@ -1,5 +1,5 @@
 -- What each entry takes of a journal's room.
-use Rattle.std.proofs.Common.{◌≡◌, ℕ, ◌+◌, ◌*◌, ◌≤◌, Bool, true, false, cond, eqb, List, [], ◌∷◌, ◌++◌, length, Option, Some, None, refl, ap, ◌∙◌, arith, length-append}
+use Rattle.std.proofs.Common.{◌≡◌, ℕ, ◌+◌, ◌*◌, ◌≤◌, cond, eqb, List, [], ◌∷◌, ◌++◌, length, Option, Some, None, refl, ap, ◌∙◌, arith, length-append}
 use Rattle.std.specs.Prelude.{count_by, sum_by}
 use Rattle.std.proofs.lemmas.List.{length-map}
 use Rattle.std.proofs.lemmas.List.Sums.{sum_by_push}
@@ -89,30 +89,30 @@ given-adds t p mid R.Ack S h = still-adds 68 S _ _ refl refl refl h (omega arith
 given-adds t p mid R.Rst S h = still-adds 68 S _ _ refl refl refl h (omega arith)
 
 -- a message, or a copy
-pub next-adds : (t : ℕ) (p : Peer) (S : State) → Tidy S.links → Adds 1 2080 S (next t p S)
+pub next-adds : (t : ℕ) (p : Peer) (S : State) → Tidy S.links → Adds 1 2088 S (next t p S)
 next-adds t p S h = by (link_of S.links p).outstanding (link_of S.links p).waiting refl
   where
     by : (v : Option Outstanding) (ws : List Waiting) → (link_of S.links p).waiting ≡ ws
-        → Adds 1 2080 S (next_by t p v ws S)
-    by None [] is = stays 1 2080 S h
-    by (Some o) ws is = stays 1 2080 S h
+        → Adds 1 2088 S (next_by t p v ws S)
+    by None [] is = stays 1 2088 S h
+    by (Some o) ws is = stays 1 2088 S h
     by None (w ∷ ws) is =
         let short = short-first t (link_of S.links p) w ws (short-link S.links p h.short) is in
         let size = short.0 in
-        still-adds 2080 S (sends_first t p w ws S) _ refl refl refl
+        still-adds 2088 S (sends_first t p w ws S) _ refl refl refl
         (tidy-with p _ S.links h short.1) (omega (arith, size))
 
 pub copy-adds : (t : ℕ) (p : Peer) (o : Outstanding) (S : State) → Tidy S.links
-    → (link_of S.links p).outstanding ≡ Some o → Adds 1 2080 S (sends_copy t p o S)
+    → (link_of S.links p).outstanding ≡ Some o → Adds 1 2088 S (sends_copy t p o S)
 copy-adds t p o S h is =
     let short = short-copy t (link_of S.links p) o (short-link S.links p h.short) is in
     let size = short.0 in
-    still-adds 2080 S (sends_copy t p o S) _ refl refl refl (tidy-with p _ S.links h short.1)
+    still-adds 2088 S (sends_copy t p o S) _ refl refl refl (tidy-with p _ S.links h short.1)
     (omega (arith, size))
 
 -- An answer was held free.
 pub answers-adds : (t c k : ℕ) (g : Grounds) (S : State) → Tidy S.links → HasConn S.conns c (Some k)
-    → grounds_size g ≤ 4 → Adds 0 0 S (answers t c k g S)
+    → grounds_size g ≤ 16388 → Adds 0 0 S (answers t c k g S)
 answers-adds t c k g S h has small =
     let all = length-map S.conns
     (λ (x : Conn). cond (eqb x.id c) (record x { pending = None }) x) in

@@ -1,13 +1,12 @@
 -- After the seal a tick adds answers alone.
 use Rattle.std.proofs.Common.{◌≡◌, ℕ, Bool, true, false, cond, List, [], ◌∷◌, ◌++◌, refl, sym, ap, ◌∙◌}
-use Rattle.std.specs.Prelude.{filter, fold, unwrap_or}
-use Rattle.std.specs.List.{AllByRecursion, list_any}
+use Rattle.std.specs.Prelude.{filter, fold}
+use Rattle.std.specs.List.{AllByRecursion}
 use Rattle.std.proofs.lemmas.Bool.{false≢true}
 use Rattle.std.proofs.lemmas.List.{append-nil, append_assoc}
-use Rattle.ask_model.specs.declared.cause.Cause.TheVariants as C
-use Rattle.journal_book.specs.Entries.{Fault, Written}
+use Rattle.journal_book.specs.Entries.{Written}
 use Rattle.exchange_model.specs.State.{State}
-use Rattle.exchange_model.specs.Steps.{answers, seals, is_past}
+use Rattle.exchange_model.specs.Steps.{seals, is_past}
 use Rattle.exchange_model.specs.Calls.{Telling, tells, told_late, ticked}
 use Rattle.exchange_model.specs.Room.{fits}
 use Rattle.exchange_model.specs.Sealing.{late, IsAnswer, AnswersAlone, SealedAnswers}
@@ -21,6 +20,7 @@ none-added S = record {
   opened = refl;
   issued = refl;
   exchanges = refl;
+  pieces = refl;
   links = refl;
 }
 
@@ -42,6 +42,7 @@ both-added S S1 S2 a b = record {
   opened = b.opened ∙ a.opened;
   issued = b.issued ∙ a.issued;
   exchanges = b.exchanges ∙ a.exchanges;
+  pieces = b.pieces ∙ a.pieces;
   links = b.links ∙ a.links;
 }
 
@@ -54,6 +55,7 @@ one-added t S x = record {
   opened = refl;
   issued = refl;
   exchanges = refl;
+  pieces = refl;
   links = refl;
 }
 

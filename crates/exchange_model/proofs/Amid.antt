@@ -90,7 +90,7 @@ has-sent : (token : List ℕ) (i : ℕ) (es : List Exchange) (k : ℕ) → HasEx
 has-sent token i [] k h = h
 has-sent token i (e ∷ es) k (inl h) = inl (by (is_under token e))
   where
-    by : (b : Bool) → (cond b (record e { sending = Some i }) e).opening ≡ k
+    by : (b : Bool) → (cond b (record e { sending = Some i; awaits = true }) e).opening ≡ k
     by true = h
     by false = h
 has-sent token i (e ∷ es) k (inr h) = inr (has-sent token i es k h)
@@ -98,7 +98,7 @@ has-sent token i (e ∷ es) k (inr h) = inr (has-sent token i es k h)
 since-sent : (tick : ℕ) (token : List ℕ) (i : ℕ) (e : Exchange) → tick < e.since + MAX_TRANSMIT_WAIT → tick < (went_out token i e).since + MAX_TRANSMIT_WAIT
 since-sent tick token i e h = by (is_under token e)
   where
-    by : (b : Bool) → tick < (cond b (record e { sending = Some i }) e).since + MAX_TRANSMIT_WAIT
+    by : (b : Bool) → tick < (cond b (record e { sending = Some i; awaits = true }) e).since + MAX_TRANSMIT_WAIT
     by true = h
     by false = h
 

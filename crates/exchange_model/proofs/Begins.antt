@@ -1,5 +1,5 @@
 -- An ask opens an exchange.
-use Rattle.std.proofs.Common.{◌≡◌, ℕ, ◌+◌, ◌<◌, inl, inr, Bool, true, false, not, List, [], ◌∷◌, ◌++◌, length, map, refl, sym, ap, subst, ◌∙◌, arith}
+use Rattle.std.proofs.Common.{◌≡◌, ℕ, ◌+◌, ◌<◌, inl, inr, Bool, true, false, not, List, [], ◌∷◌, ◌++◌, length, map, refl, sym, ap, subst, ◌∙◌, arith, Some}
 use Rattle.std.specs.Prelude.{is_none, is_some, ◌||◌}
 use Rattle.std.specs.List.{AllByRecursion, Contains, list_any}
 use Rattle.std.specs.Str.{bytes_eq}
@@ -18,14 +18,16 @@ use Rattle.history_laws.specs.Transmissions.{FirstSending, firsts, bears_token}
 use Rattle.history_laws.specs.Exchanges.{openings, is_going, is_waiting, waiting}
 use Rattle.history_laws.specs.Justified.{Follows, AskNote}
 use Rattle.history_laws.specs.Exchanges as H
-use Rattle.history_laws.proofs.CallerLemmas.{all-more, all-push, at-new, contains-none, none-outran, entries-length, eqb-itself, filter-push, first-or-later, not-yet, opened-issued, opened-rank, rank-below, unbegun, waiting-all, waiting-goes}
+use Rattle.history_laws.proofs.CallerLemmas.{all-more, all-push, at-new, contains-none, none-outran, entries-length, eqb-itself, filter-push, first-or-later, not-yet, opened-issued, opened-rank, rank-below, replies-none, unbegun, waiting-all, waiting-goes}
 use Rattle.history_links.specs.Agrees.{Start, WaitIn, IsWaitingFor, Agrees}
 use Rattle.history_links.proofs.CallerLemmas.{ask-elsewhere, queued-agrees}
 use Rattle.exchange_model.specs.declared.kept.Exchange.{Exchange}
 use Rattle.exchange_model.specs.State.{PeerLink, State, link_of, with_link}
-use Rattle.exchange_model.specs.Reads.{ExchangeIn, WaitsUnder, opening_of, Reads}
-use Rattle.exchange_model.specs.Steps.{exchange_for}
+use Rattle.exchange_model.specs.Reads.{ExchangeIn, got_in, WaitsUnder, opening_of, Reads}
+use Rattle.exchange_model.specs.Steps.{exchange_for, numbers_of}
+use Rattle.history_laws.specs.Progress.{numbers}
 use Rattle.exchange_model.specs.Laws.{BeginsLeads}
+use Rattle.exchange_model.proofs.Pieces.{got-new, first-progress, none-of-new, pieces-quiet, unsent-new}
 use Rattle.exchange_model.proofs.Lists.{all-both}
 use Rattle.exchange_model.proofs.Opened.{OpenIn, open-ones}
 use Rattle.exchange_model.proofs.Outrun.{current-still, none-ends}
@@ -46,7 +48,7 @@ waits-for-one start l P (o ∷ os) (w ∷ ws) v all a h = elim (first-or-later w
   | inr k ↦ waits-for-one start l P os ws v all.1 a.1 k
 ]
 
-below-issued : (l : List Noted) (S : State) (p : Peer) (v : Waiting) → Reads l S → Contains (link_of S.links p).waiting v → token_number v.token < S.issued
+pub below-issued : (l : List Noted) (S : State) (p : Peer) (v : Waiting) → Reads l S → Contains (link_of S.links p).waiting v → token_number v.token < S.issued
 below-issued l S p v r h =
     let one = waits-for-one r.start l (λ (o : ℕ). is_waiting l p o ≡ true) (waiting l p) (link_of S.links p).waiting v (waiting-all l p) (r.links_are p).waits h in
     let less = rank-below l one.0 _ r.legal one.1.opening (ap is_none (waiting-goes l p one.0 one.2)) in
@@ -67,7 +69,7 @@ waits-with p s links (e ∷ es) new old = (
 )
 
 -- a token with the next number is borne by nothing
-unborne : (token : List ℕ) (n : ℕ) → token_number token ≡ n → (fs : List FirstSending) → AllByRecursion (λ (f : FirstSending). token_number f.message.token < n) fs
+pub unborne : (token : List ℕ) (n : ℕ) → token_number token ≡ n → (fs : List FirstSending) → AllByRecursion (λ (f : FirstSending). token_number f.message.token < n) fs
     → list_any (λ (f : FirstSending). bytes_eq f.message.token token) fs ≡ false
 unborne token n e [] a = refl
 unborne token n e (f ∷ fs) a = by (bytes_eq f.message.token token) refl (unborne token n e fs a.1)
@@ -78,7 +80,7 @@ unborne token n e (f ∷ fs) a = by (bytes_eq f.message.token token) refl (unbor
     by false h ih = ih
 
 pub begins-leads : BeginsLeads
-begins-leads l t c a q token text word S b may who sense misses alone room spelled size number =
+begins-leads l t c a q token text word S b may who sense misses alone room short spelled size number =
     let r = b.reads in
     let later = later-than l t S b in
     let x = noted t (Asks c a) (Begins q) in
@@ -94,6 +96,7 @@ begins-leads l t c a q token text word S b may who sense misses alone room spell
     let s = queued t w (link_of S.links q.peer) in
     let kept = all-both (OpenIn b.reads.start l) _ S.exchanges (open-ones l S r) r.waiting_are in
     let current-begun = current-still x l S r [] (none-ends x l S r (λ o. refl)) (r.legal, later, follows) refl in
+    let begun-new : H.begun n (length l) ≡ Some (record { since = t; request = q }) = rw (eqb-itself (length l)) refl in
     let begins : is_some (H.begun n (length l)) ≡ true = rw (eqb-itself (length l)) refl in
     record {
       follows = follows;
@@ -112,20 +115,29 @@ begins-leads l t c a q token text word S b may who sense misses alone room spell
         keys = filter-push (is_going n) (openings l) (length l) (ap is_none none.1)
             ∙ (ap (λ (os : List ℕ). os ++ length l ∷ []) r.keys
             ∙ (ap (λ (k : ℕ). map opening_of S.exchanges ++ k ∷ []) (sym here) ∙ sym (map_push opening_of S.exchanges e)));
-        exchanges_are = all-push (ExchangeIn b.reads.start n) S.exchanges e (all-more (ExchangeIn b.reads.start l) (ExchangeIn b.reads.start n) (λ y h. exchange-stays x l y y.current (λ k. k) refl h (current-begun y h)) S.exchanges r.exchanges_are)
+        exchanges_are = all-push (ExchangeIn b.reads.start n) S.exchanges e (all-more (ExchangeIn b.reads.start l) (ExchangeIn b.reads.start n) (λ y h. exchange-stays x l y y.current (λ k. k) refl refl h (current-begun y h)) S.exchanges r.exchanges_are)
             (subst (λ (k : ℕ). ExchangeIn b.reads.start n (record e { opening = k })) (sym here) (record {
               request = q;
               opening = rw (eqb-itself (length l)) refl;
               peer = refl;
               method = refl;
               number = ap (λ (k : ℕ). r.start.issued + k) (opened-rank x l r.legal) ∙ (r.issued_are ∙ sym number);
-              sending = none.0;
+              sending = unsent-new l r.legal;
+              awaits = none.0;
+              named = λ u. u;
               sent = fresh;
+              short = short;
+              progress = first-progress n (length l) t q begun-new (replies-none l (length l) r.legal (not-yet l)).1;
               current = ap not (sym (none-outran n (asked_place q) (length l) (omega arith)));
               conn = c;
               ask = a;
               stands = at-new x l;
             }));
+        pieces_are = (let old = pieces-quiet x l S.exchanges S.pieces (OpenIn b.reads.start l) (λ y h. (_, h.0.opening)) (λ y h. refl) (open-ones l S r) r.pieces_are in record {
+          fetched = all-push (λ (y : Exchange). numbers (got_in n y.opening) ≡ numbers_of y.opening S.pieces) S.exchanges e old.fetched
+              (subst (λ (k : ℕ). numbers (got_in n k) ≡ numbers_of k S.pieces) (sym here) (ap numbers (got-new n (length l) t q begun-new (replies-none l (length l) r.legal (not-yet l)).1) ∙ sym (none-of-new (length l) S.pieces r.pieces_are.below)));
+          below = old.below;
+        });
         store_is = store-still x l (r.legal, later, follows) (λ o. refl) tt S.store r.store_is;
         tokens_are = all-more _ (λ (f : FirstSending). token_number f.message.token < S.issued + 1) (λ f h. omega (arith, h)) (firsts l) r.tokens_are;
         waiting_are = waits-with q.peer s S.links (S.exchanges ++ e ∷ [])

@@ -1,6 +1,6 @@
 -- What an ask leaves.
 use Rattle.std.proofs.Common.{◌≡◌, ℕ, ◌+◌, Bool, true, false, cond, List, [], ◌∷◌, ◌++◌, length, map, Option, Some, None, refl, ap, ◌∙◌, arith, length-append}
-use Rattle.std.specs.Prelude.{is_none, option_map}
+use Rattle.std.specs.Prelude.{is_some, is_none, option_map}
 use Rattle.std.specs.List.{AllByRecursion}
 use Rattle.std.specs.Str.{bytes_eq}
 use Rattle.std.proofs.lemmas.Slice.Eq.{bytes_eq-Decides}
@@ -20,8 +20,8 @@ use Rattle.history_laws.proofs.CallerLemmas.{all-more, rank-below}
 use Rattle.exchange_model.specs.declared.kept.Exchange.{Exchange}
 use Rattle.exchange_model.specs.declared.kept.Reader.{Reader}
 use Rattle.exchange_model.specs.State.{PeerLink, State, link_of, with_link}
-use Rattle.exchange_model.specs.Steps.{exchange_for, begins, entered, given_out, is_under, went_out}
-use Rattle.exchange_model.specs.Calls.{Numbers, served_in, IsAlone, asked_for, asked_with, asked_by, refused, next}
+use Rattle.exchange_model.specs.Steps.{Numbers, exchange_for, begins, entered, given_out, is_under, went_out}
+use Rattle.exchange_model.specs.Calls.{served_in, IsAlone, asked_for, asked_with, asked_by, refused, next}
 use Rattle.exchange_model.specs.Entering.{going_as, sent_as, first_deeds, in_turn, at_once, begun, entered_all, BeginsEnter, ServedEnters, JoinsEnter, RefusalsEnter, BusyEnters}
 use Rattle.exchange_model.proofs.Opened.{OpenIn, open-ones}
 use Rattle.exchange_model.proofs.Entered.{put, next-put, turn_of, out-at}
@@ -55,7 +55,7 @@ itself token = (bytes_eq-Decides token token).1 refl
 
 pub not-under : (token : List ℕ) (i : ℕ) (e : Exchange) → is_under token e ≡ false
     → went_out token i e ≡ e
-not-under token i e h = ap (λ (b : Bool). cond b (record e { sending = Some i }) e) h
+not-under token i e h = ap (λ (b : Bool). cond b (record e { sending = Some i; awaits = true }) e) h
 
 others-stay : (token : List ℕ) (i : ℕ) (es : List Exchange)
     → AllByRecursion (λ (e : Exchange). is_under token e ≡ false) es
@@ -66,16 +66,17 @@ others-stay token i (e ∷ es) a =
     ∙ ap (λ (xs : List Exchange). e ∷ xs) (others-stay token i es a.1)
 
 new-sent : (w : Waiting) (i : ℕ) (v : Option Outstanding) (es : List Exchange) (e : Exchange)
-    → e.token ≡ w.token → e.sending ≡ None
+    → e.token ≡ w.token → e.sending ≡ None → e.awaits ≡ false
     → AllByRecursion (λ (x : Exchange). is_under w.token x ≡ false) es
     → sent_as (going_as i (at_once w v)) (es ++ e ∷ []) ≡ es
-    ++ record e { sending = option_map (λ (x : Waiting). i) (at_once w v) } ∷ []
-new-sent w i (Some o) es e same unsent a =
+    ++ record e { sending = option_map (λ (x : Waiting). i) (at_once w v); awaits = is_some (at_once w v) } ∷ []
+new-sent w i (Some o) es e same unsent still a =
     ap (λ (s : Option ℕ). es ++ record e { sending = s } ∷ []) unsent
-new-sent w i None es e same unsent a =
+    ∙ ap (λ (b : Bool). es ++ record e { sending = None; awaits = b } ∷ []) still
+new-sent w i None es e same unsent still a =
     map_push (went_out w.token i) es e
     ∙ (ap (λ (xs : List Exchange). xs ++ went_out w.token i e ∷ []) (others-stay w.token i es a)
-    ∙ ap (λ (b : Bool). es ++ cond b (record e { sending = Some i }) e ∷ [])
+    ∙ ap (λ (b : Bool). es ++ cond b (record e { sending = Some i; awaits = true }) e ∷ [])
     (ap (λ (k : List ℕ). bytes_eq k w.token) same ∙ itself w.token))
 
 -- where nothing is outstanding nothing else waits
@@ -104,7 +105,7 @@ begins-enter t c a q n S may drained numbered sense none place =
     (length-append S.entries (record { moment = t; deed = Asks c a } ∷ []))
     ∙ (ap (λ (es : List Exchange). put t ds es links S1)
     (new-sent w (length S.entries + 1) s.outstanding S.exchanges
-    (exchange_for t q n.token S) refl refl fresh)
+    (exchange_for t q n.token S) refl refl refl fresh)
     ∙ opens-framed t q.peer s.last_mid up (S.issued + 1) (begun t c a q n S).exchanges S1.readers links S1.exchanges S1.links (entered t (Asks c a) S)))))))
   where
     s : LinkState

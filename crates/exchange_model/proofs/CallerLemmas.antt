@@ -7,7 +7,7 @@ pub use Rattle.exchange_model.proofs.Due.{any-came, next-due}
 pub use Rattle.exchange_model.proofs.ToldAdds.{AreWaiting, for-served, kept-served, late-served, Served, still-waits}
 pub use Rattle.exchange_model.proofs.Entered.{entered-both, entries-more, sent-both}
 pub use Rattle.exchange_model.proofs.Grown.{asks-add, asks-answer, conns-both, hears-add, hears-answer, opens-add, opens-alone, ticks-add, ticks-answer}
-pub use Rattle.exchange_model.proofs.Heeded.{all-others, garbled-enters, message-enters, given-conns, next-conns}
+pub use Rattle.exchange_model.proofs.Heeded.{garbled-enters, message-enters, given-conns, next-conns}
 pub use Rattle.exchange_model.proofs.Heeding.{is-bytes}
 pub use Rattle.exchange_model.proofs.InRoom.{asks-in-room, fits-parts, hears-in-room, opens-in-room, shuts-in-room, start-in-room, ticks-in-room, ticks-promptly, within-limits}
 pub use Rattle.exchange_model.proofs.Known.{readers-known, readers-rise, store-heard}
@@ -20,9 +20,11 @@ pub use Rattle.exchange_model.proofs.Passed.{below, moved-conns}
 pub use Rattle.exchange_model.proofs.Stepping.{kept-stands}
 pub use Rattle.exchange_model.proofs.Tallies.{busy-count}
 pub use Rattle.exchange_model.proofs.Telling.{readers_in, tells-enter}
-pub use Rattle.exchange_model.proofs.Tellings.{late_reads, readers-for, readers-late, reads_it}
+pub use Rattle.exchange_model.proofs.Tellings.{late_reads, over_in, readers-for, readers-late, reads_it}
 pub use Rattle.exchange_model.proofs.TickAdds.{ticked-adds}
 pub use Rattle.exchange_model.proofs.TickEnters.{stays-drained, ticks-enter}
 pub use Rattle.exchange_model.proofs.Ticking.{ticks-do}
 pub use Rattle.exchange_model.proofs.TurnedRoom.{rotates-drained, rotates-in-room}
+pub use Rattle.exchange_model.proofs.OverTold.{EndsWhole, over-heard}
+pub use Rattle.exchange_model.proofs.Works.{all-asked-for, comes-get, restarts-few, work-of}
 pub use Rattle.exchange_model.proofs.Opened.{OpenIn, open-ones}

@@ -14,12 +14,12 @@ use Rattle.uri_map.specs.declared.peer.Peer.{Peer}
 use Rattle.uri_map.specs.Peers.{same_peer}
 use Rattle.journal_book.specs.Entries.{Past, Done, Asked, Sent, Heard, done_of, Written, Deed, Opens, Asks, Sends, Hears, Passes, Answers, Shuts, Seals, Carries}
 use Rattle.journal_book.specs.Entries as D
-use Rattle.history_laws.specs.Readings.{Noted, Note, Plain, Begins, Joins, Serves, First, Copies, Confirms, Says, Repeats, Garbled, Bygone, Recalls, Answered, entries}
-use Rattle.history_laws.specs.Hearing.{is_such, is_live, bears, is_like, heard_before, repeated}
+use Rattle.history_laws.specs.Readings.{Noted, Note, First, Copies, Confirms, Says, Repeats, Garbled, Bygone, Recalls, Answered, entries}
+use Rattle.history_laws.specs.Hearing.{is_such, heard_before, repeated}
 use Rattle.history_laws.specs.Justified.{Follows, Legal}
 use Rattle.history_laws.proofs.CallerLemmas.{entries-length, eqb-itself}
-use Rattle.exchange_model.specs.Rotating.{Seen, is_seen, seen_so, seen_by, seen_from, seen, is_recent_first, is_recent_seen, is_remembered, copy_if, copy_of, copies_from, copies}
-use Rattle.exchange_model.proofs.Shapes.{Kept, Sending, Hearing, if_such, kept_as, still_kept, copy_as, live_as, live-as, bears_as, like-as}
+use Rattle.exchange_model.specs.Rotating.{Seen, is_seen, seen_so, seen_by, seen_from, seen, is_recent_first, is_recent_seen, copy_if, copy_of, copies_from, copies}
+use Rattle.exchange_model.proofs.Shapes.{Kept, Sending, Hearing, if_such, kept_as, still_kept, copy_as, like-as}
 use Rattle.exchange_model.proofs.Heeding.{is-bytes}
 use Rattle.exchange_model.proofs.Copies.{cons_if, add_kept, copied, like_as}
 

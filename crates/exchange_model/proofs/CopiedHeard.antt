@@ -1,5 +1,5 @@
 -- What may be repeated yet is all among the copies, and is answered alike.
-use Rattle.std.proofs.Common.{◌≡◌, ◌≢◌, ◌⊎◌, ℕ, ◌+◌, ◌<◌, ◌≤◌, inl, inr, Bool, true, false, ◌&&◌, cond, eqb, ltb, List, [], ◌∷◌, length, Option, Some, None, refl, sym, ap, subst, ◌∙◌, arith}
+use Rattle.std.proofs.Common.{◌≡◌, ◌≢◌, ◌⊎◌, ℕ, ◌+◌, ◌<◌, ◌≤◌, inl, inr, Bool, true, false, ◌&&◌, cond, ltb, List, [], ◌∷◌, length, Option, Some, None, refl, sym, ap, ◌∙◌, arith}
 use Rattle.std.specs.Prelude.{option_map}
 use Rattle.std.proofs.lemmas.Bool.{false≢true, ltb-true, lt-ltb}
 use Rattle.limits.specs.declared.TheConstants.{EXCHANGE_LIFETIME}
@@ -11,8 +11,8 @@ use Rattle.uri_map.specs.Peers.{same_peer}
 use Rattle.journal_book.specs.Entries.{Deed, Sends, Hears, Carries}
 use Rattle.journal_book.specs.Entries as D
 use Rattle.message_layer.specs.declared.state.Reply.{Reply}
-use Rattle.history_laws.specs.Readings.{Noted, Note, First, Says, Bygone, Recalls, Answered, Acknowledged, Rejected, Ignored, at}
-use Rattle.history_laws.specs.Hearing.{is_such, is_live, bears, is_like, heard_before, live_heard}
+use Rattle.history_laws.specs.Readings.{Noted, Note, Says, Recalls, Answered, at}
+use Rattle.history_laws.specs.Hearing.{is_such, is_live, is_like, heard_before, live_heard}
 use Rattle.history_laws.specs.Confirming.{answered, answered_as, answer_kind}
 use Rattle.history_laws.proofs.CallerLemmas.{at-cases, at-new}
 use Rattle.history_links.specs.Agrees.{reply_of}

@@ -1,14 +1,13 @@
 -- Copies begin nothing: none is outstanding, open, awaited or waits, no token is issued, and no
 -- connection opened.
-use Rattle.std.proofs.Common.{◌≡◌, ℕ, ◌+◌, Bool, true, false, List, [], ◌∷◌, ◌++◌, length, Option, Some, None, refl, sym, ap, ◌∙◌}
-use Rattle.std.specs.Prelude.{filter, filter_map, is_some, option_and_then}
+use Rattle.std.proofs.Common.{◌≡◌, ℕ, Bool, true, false, List, [], ◌∷◌, ◌++◌, length, Option, Some, None, refl, ap, ◌∙◌}
+use Rattle.std.specs.Prelude.{filter, filter_map, option_and_then}
 use Rattle.std.specs.List.{list_any}
 use Rattle.uri_map.specs.declared.peer.Peer.{Peer}
 use Rattle.history_laws.specs.Readings.{Noted}
 use Rattle.history_laws.specs.Connections.{is_sealed, has_opened, opened}
-use Rattle.history_laws.specs.Transmissions.{FirstSending, Transmission, last_sent, transmission, outstanding, if_outstanding}
+use Rattle.history_laws.specs.Transmissions.{FirstSending, last_sent, transmission, outstanding, if_outstanding}
 use Rattle.history_laws.specs.Exchanges.{openings, open_exchanges, awaited, waits_for, waiting, is_waiting, is_submitted_at, is_going, is_issued_at, issued, issued_by}
-use Rattle.exchange_model.specs.declared.kept.Conn.{Conn}
 use Rattle.exchange_model.specs.Reads.{readers_of, conns_of, opens_in}
 use Rattle.exchange_model.proofs.Shapes.{Kept, Sending, Hearing, kept_as, still_kept, copy_as}
 use Rattle.exchange_model.proofs.Copies.{cons_if, add_kept, copied}

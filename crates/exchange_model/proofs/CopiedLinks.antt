@@ -1,20 +1,16 @@
 -- A link of which only what is remembered is kept agrees with the copies.
-use Rattle.std.proofs.Common.{◌≡◌, ℕ, ◌+◌, ◌≤◌, Bool, true, false, List, [], ◌∷◌, Option, Some, None, is_some, refl, sym, ap, subst, ◌∙◌, arith}
-use Rattle.std.specs.Prelude.{⊤, filter, count_by, option_map}
-use Rattle.std.specs.List.{list_any, find}
+use Rattle.std.proofs.Common.{◌≡◌, ℕ, ◌≤◌, Bool, false, List, [], None, is_some, sym, ap, subst, ◌∙◌, arith}
+use Rattle.std.specs.Prelude.{filter, option_map}
+use Rattle.std.specs.List.{list_any}
 use Rattle.uri_map.specs.declared.peer.Peer.{Peer}
-use Rattle.message_layer.specs.Values.{LinkState, empty_link}
-use Rattle.message_layer.specs.Mids.{is_in_use}
-use Rattle.message_layer.specs.Hearing.{is_fresh, is_repeat}
+use Rattle.message_layer.specs.Values.{LinkState}
+use Rattle.message_layer.specs.Hearing.{is_fresh}
 use Rattle.message_layer.specs.declared.state.Heard.{Heard}
-use Rattle.message_layer.specs.declared.state.Reply.{Reply}
-use Rattle.history_laws.specs.Readings.{Noted, at, newest}
-use Rattle.history_laws.specs.Transmissions.{FirstSending, firsts, last_sent, is_recent, mids_used}
-use Rattle.history_laws.specs.Hearing.{knows, heard_before, live_heard, went_under, went_as}
+use Rattle.history_laws.specs.Readings.{Noted}
+use Rattle.history_laws.specs.Hearing.{knows, went_under}
 use Rattle.history_laws.specs.Transmissions.{first_at}
-use Rattle.history_laws.specs.Confirming.{answered_as}
 use Rattle.history_laws.specs.Justified.{Legal}
-use Rattle.history_links.specs.Agrees.{Start, IsFrom, Agrees, HeardIn, WaitIn, TurnIn, CountUp, IsLast, recent_to, reply_of, awaits, awaits_ack}
+use Rattle.history_links.specs.Agrees.{Start, IsFrom, Agrees, HeardIn, WaitIn, TurnIn}
 use Rattle.history_links.proofs.CallerLemmas.{count-kept, firsts-falling, given-kept, repeats-kept}
 use Rattle.message_layer.specs.Calls.{kept_link}
 use Rattle.exchange_model.proofs.Copies.{copied}

@@ -1,21 +1,19 @@
 -- A peer of which nothing is copied has an empty link.
-use Rattle.std.proofs.Common.{◌≡◌, ℕ, ◌+◌, ◌≤◌, Bool, true, false, ◌&&◌, cond, ltb, List, [], ◌∷◌, ◌++◌, length, Option, Some, None, refl, sym, ap, subst, ◌∙◌, arith}
-use Rattle.std.specs.Prelude.{⊤, ◌||◌, filter, count_by, option_map, is_some}
+use Rattle.std.proofs.Common.{◌≡◌, ℕ, Bool, true, false, ◌&&◌, cond, List, [], ◌∷◌, length, Option, Some, None, refl, sym, ap, subst, ◌∙◌}
+use Rattle.std.specs.Prelude.{◌||◌, filter, option_map, is_some}
 use Rattle.std.specs.List.{list_any, find}
 use Rattle.std.proofs.lemmas.Bool.{false≢true}
 use Rattle.std.proofs.lemmas.List.Folds.{list_any-append}
 use Rattle.std.proofs.lemmas.List.Sums.{length-filter}
-use Rattle.limits.specs.declared.TheConstants.{EXCHANGE_LIFETIME, MESSAGE_ID_LIFETIME}
 use Rattle.coap_codec.specs.Spelling.{Content}
 use Rattle.uri_map.specs.declared.peer.Peer.{Peer}
 use Rattle.uri_map.specs.Peers.{same_peer}
-use Rattle.journal_book.specs.Entries.{Written, Deed, Carries}
-use Rattle.journal_book.specs.Entries as D
-use Rattle.message_layer.specs.Values.{LinkState, empty_link}
-use Rattle.history_laws.specs.Readings.{Noted, Note, Bygone, Recalls, at, newest, entries, are_copies}
-use Rattle.history_laws.specs.Transmissions.{FirstSending, firsts, first_at, last_sent, is_recent, mids_used}
-use Rattle.history_laws.specs.Hearing.{is_such, knows, recalls, recalls_by, heard_before, live_heard, is_live, is_like, bears, went_under, went_as}
-use Rattle.history_links.specs.Agrees.{Start, IsFrom, Agrees, HeardIn, WaitIn, TurnIn, CountUp, IsLast, recent_to, reply_of}
+use Rattle.journal_book.specs.Entries.{Written}
+use Rattle.message_layer.specs.Values.{empty_link}
+use Rattle.history_laws.specs.Readings.{Noted, entries}
+use Rattle.history_laws.specs.Transmissions.{FirstSending, firsts, first_at, last_sent, is_recent}
+use Rattle.history_laws.specs.Hearing.{is_such, knows, recalls, heard_before, live_heard, went_under}
+use Rattle.history_links.specs.Agrees.{Start, Agrees, WaitIn, CountUp, IsLast}
 use Rattle.exchange_model.specs.Rotating.{is_of}
 use Rattle.exchange_model.proofs.Shapes.{Kept, Sending, Hearing, kept_as, still_kept, copy_as}
 use Rattle.exchange_model.proofs.Copies.{cons_if, add_kept, copied}

@@ -1,18 +1,16 @@
 -- The reading of the copies of a history: what of it is a copy of what.
-use Rattle.std.proofs.Common.{◌≡◌, ℕ, ◌+◌, ◌<◌, ◌≤◌, ◌⊎◌, Bool, true, false, ◌&&◌, cond, eqb, ltb, inl, inr, List, [], ◌∷◌, length, Option, Some, None, is_some, refl, sym, ap, subst, ◌∙◌, arith}
-use Rattle.std.specs.Prelude.{◌||◌, count_by}
+use Rattle.std.proofs.Common.{◌≡◌, ℕ, ◌+◌, ◌≤◌, Bool, true, false, ◌&&◌, cond, List, [], ◌∷◌, length, Option, Some, None, refl, sym, ap, subst, ◌∙◌, arith}
+use Rattle.std.specs.Prelude.{◌||◌}
 use Rattle.std.specs.List.{list_any}
-use Rattle.std.proofs.lemmas.Bool.{false≢true, ltb-true, ltb-false, lt-ltb, le-ltb}
-use Rattle.limits.specs.declared.TheConstants.{EXCHANGE_LIFETIME, MESSAGE_ID_LIFETIME, MAX_REMEMBERED}
-use Rattle.coap_codec.specs.Spelling.{Content, Spells}
+use Rattle.std.proofs.lemmas.Bool.{false≢true}
+use Rattle.coap_codec.specs.Spelling.{Content}
 use Rattle.uri_map.specs.declared.peer.Peer.{Peer}
-use Rattle.uri_map.specs.Peers.{same_peer}
 use Rattle.journal_book.specs.Entries.{Past, Deed, Sends, Hears, Carries}
 use Rattle.journal_book.specs.Entries as D
-use Rattle.history_laws.specs.Readings.{Noted, Note, First, Says, Bygone, Recalls, Answered, noted, newest, are_copies}
-use Rattle.history_laws.specs.Transmissions.{FirstSending, firsts_by, firsts, bears_token, bears_mid, is_recent}
-use Rattle.history_laws.specs.Hearing.{is_such, is_live, bears, is_like, heard_before, live_heard, repeated, can_be_remembered}
-use Rattle.history_laws.specs.Justified.{Follows, Legal, IsApart, MayRecall, MaySay, copied_below}
+use Rattle.history_laws.specs.Readings.{Noted, Note, First, Says, Bygone, Recalls, Answered, newest, are_copies}
+use Rattle.history_laws.specs.Transmissions.{FirstSending, firsts}
+use Rattle.history_laws.specs.Hearing.{is_such, is_live, is_like, heard_before, live_heard}
+use Rattle.history_laws.specs.Justified.{Legal, copied_below}
 use Rattle.exchange_model.proofs.Shapes.{Kept, Sending, Hearing, if_such, kept_as, still_kept, copy_as, opening_as, first_as, firsts-as, live_as, live-as, bears_as, like-as}
 
 abbrev pub cons_if : Bool → Noted → List Noted → List Noted

@@ -20,7 +20,7 @@ use Rattle.message_layer.specs.declared.verdict.Verdict.{Verdict}
 use Rattle.history_laws.specs.Hearing.{is_such}
 use Rattle.exchange_model.specs.declared.kept.Exchange.{Exchange}
 use Rattle.exchange_model.specs.State.{State, link_of}
-use Rattle.exchange_model.specs.Steps.{hears_nothing, is_under, expires}
+use Rattle.exchange_model.specs.Steps.{Numbers, hears_nothing, is_under, expires}
 use Rattle.exchange_model.specs.Calls.{given_back, takes_by, repeats, reads_so}
 use Rattle.exchange_model.specs.Entering.{token_of, is_one_of, DroppedStays, GoneTokens}
 use Rattle.exchange_model.proofs.LinksHeard.{limits}
@@ -31,7 +31,7 @@ some-found : (v : Option Heard) → is_some v ≡ true → (h : Heard) × (v ≡
 some-found None e = absurd (false≢true e)
 some-found (Some h) e = (h, refl)
 
-repeat-quiet : (t : ℕ) (s : LinkState) (m : Content) (k : MsgType)
+pub repeat-quiet : (t : ℕ) (s : LinkState) (m : Content) (k : MsgType)
     → (is_such k && is_some (find (is_repeat t m.mid) s.heard)) ≡ true
     → (verdict_by t s m k).news ≡ N.Quiet
 repeat-quiet t s m K.Con e =
@@ -50,42 +50,42 @@ response-told m e = cc
 reset-told : (token : List ℕ) → was_reset token ≡ was_dropped → ⊥
 reset-told token e = cc
 
-message-dropped : (t : ℕ) (p : Peer) (d : List ℕ) (m : Content) (v : Verdict) (S : State)
-    (b : Bool)
+message-dropped : (t : ℕ) (p : Peer) (d : List ℕ) (m : Content) (v : Verdict) (n : Numbers)
+    (S : State) (b : Bool)
     → (b ≡ true → v.news ≡ N.Quiet) → says v.news m ≡ was_dropped
     → cond b (given_back t p (replies m.mid v.reply) (hears_nothing t p d S))
-    (takes_by t p d m v v.news S) ≡ S
-message-dropped t p d m v S true quiet e =
-    absurd (quiet-told (ap (λ (n : News). says n m) (sym (quiet refl)) ∙ e))
-message-dropped t p d m v S false quiet e = by v.news e
+    (takes_by t p d m v n v.news S) ≡ S
+message-dropped t p d m v n S true quiet e =
+    absurd (quiet-told (ap (λ (news : News). says news m) (sym (quiet refl)) ∙ e))
+message-dropped t p d m v n S false quiet e = by v.news e
   where
-    by : (n : News) → says n m ≡ was_dropped → takes_by t p d m v n S ≡ S
+    by : (news : News) → says news m ≡ was_dropped → takes_by t p d m v n news S ≡ S
     by N.Lost h = refl
     by N.Quiet h = absurd (quiet-told h)
     by N.Response h = absurd (response-told m h)
     by (N.Reset token) h = absurd (reset-told token h)
 
 pub dropped-stays : DroppedStays
-dropped-stays t p d S lost = by (link_of S.links p).last_mid lost
+dropped-stays t p d n S lost = by (link_of S.links p).last_mid lost
   where
     s : LinkState
     s = link_of S.links p
 
     read : (r : Result Content CodecFault) → (hears_read t d s r).1 ≡ was_dropped
-        → reads_so t p d r S ≡ S
+        → reads_so t p d n r S ≡ S
     read (Ok m) e =
-        message-dropped t p d m (verdict_of t s m) S (repeats t s m)
+        message-dropped t p d m (verdict_of t s m) n S (repeats t s m)
         (λ again. repeat-quiet t s m m.kind again) e
     read (Err f) e = absurd (quiet-told e)
 
     short : (c : Bool)
         → (cond (not c) (s, was_dropped) (hears_read t d s (message_at d))).1 ≡ was_dropped
-        → cond c (reads_so t p d (message_at d) S) S ≡ S
+        → cond c (reads_so t p d n (message_at d) S) S ≡ S
     short true e = read (message_at d) e
     short false e = refl
 
     by : (v : Option ℕ) → (hears_from t d s v).1 ≡ was_dropped
-        → cond (is_some v && leb (length d) 2048) (reads_so t p d (message_at d) S) S ≡ S
+        → cond (is_some v && leb (length d) 2048) (reads_so t p d n (message_at d) S) S ≡ S
     by None e = refl
     by (Some mid) e =
         short (leb (length d) 2048)

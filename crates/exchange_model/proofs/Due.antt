@@ -1,6 +1,6 @@
 -- When a tick has something to do.
 use Rattle.std.proofs.Common.{◌≡◌, ℕ, min, Bool, true, false, leb, List, [], ◌∷◌, Option, Some, None, refl, sym, ap, ◌∙◌, arith}
-use Rattle.std.specs.Prelude.{◌&&◌, ◌||◌, option_map, is_some}
+use Rattle.std.specs.Prelude.{◌&&◌, ◌||◌, option_map}
 use Rattle.std.specs.List.{list_any}
 use Rattle.std.proofs.lemmas.Bool.{leb-true, leb-false, le-leb, lt-leb}
 use Rattle.message_layer.specs.Values.{LinkState}
@@ -57,9 +57,9 @@ not-vain t s e none = by s.outstanding none
     and-false true c h = h
     and-false false c h = refl
 
-    by : (v : Option Outstanding) → is_due t v ≡ false → (is_some e.sending && (is_outstanding_under e.token v && is_over t v)) ≡ false
-    by None h = and-none (is_some e.sending) false false refl
-    by (Some o) h = and-none (is_some e.sending) (is_outstanding_under e.token (Some o)) (is_over t (Some o)) (and-false _ (leb (due_of o) t) h)
+    by : (v : Option Outstanding) → is_due t v ≡ false → (e.awaits && (is_outstanding_under e.token v && is_over t v)) ≡ false
+    by None h = and-none e.awaits false false refl
+    by (Some o) h = and-none e.awaits (is_outstanding_under e.token (Some o)) (is_over t (Some o)) (and-false _ (leb (due_of o) t) h)
 
 past-only : (t : ℕ) (links : List PeerLink) (es : List Exchange) → list_any (link_due t) links ≡ false → list_any (expires t links) es ≡ list_any (λ (e : Exchange). has_come t (deadline e)) es
 past-only t links [] h = refl

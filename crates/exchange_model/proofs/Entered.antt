@@ -13,6 +13,7 @@ use Rattle.message_layer.specs.declared.state.Waiting.{Waiting}
 use Rattle.resp_cache.specs.declared.pair.Pair.{Pair}
 use Rattle.journal_book.specs.Entries.{Deed}
 use Rattle.exchange_model.specs.declared.kept.Exchange.{Exchange}
+use Rattle.exchange_model.specs.declared.kept.Piece.{Piece}
 use Rattle.exchange_model.specs.State.{PeerLink, State, link_of, with_link}
 use Rattle.exchange_model.specs.Steps.{entered, given_out, went_out}
 use Rattle.exchange_model.specs.Calls.{next_by, next}
@@ -36,10 +37,17 @@ apart : (t : ℕ) (ds : List Deed) (es : List Exchange) (xs : List PeerLink) (S 
 apart t [] es xs S = refl
 apart t (d ∷ ds) es xs S = apart t ds es xs (entered t d S)
 
-pub stored : (t : ℕ) (ds : List Deed) (store : List Pair) (S : State)
-    → entered_all t ds (record S { store = store }) ≡ (let S1 = entered_all t ds S in record S1 { store = store })
-stored t [] store S = refl
-stored t (d ∷ ds) store S = stored t ds store (entered t d S)
+pub stored : (t : ℕ) (ds : List Deed) (pieces : List Piece) (store : List Pair) (S : State)
+    → entered_all t ds (record S { pieces = pieces; store = store })
+    ≡ (let S1 = entered_all t ds S in record S1 { pieces = pieces; store = store })
+stored t [] pieces store S = refl
+stored t (d ∷ ds) pieces store S = stored t ds pieces store (entered t d S)
+
+pub issued-stored : (t : ℕ) (ds : List Deed) (n : ℕ) (pieces : List Piece) (store : List Pair) (S : State)
+    → entered_all t ds (record S { issued = n; pieces = pieces; store = store })
+    ≡ (let S1 = entered_all t ds S in record S1 { issued = n; pieces = pieces; store = store })
+issued-stored t [] n pieces store S = refl
+issued-stored t (d ∷ ds) n pieces store S = issued-stored t ds n pieces store (entered t d S)
 
 pub entered-both : (t : ℕ) (ds fs : List Deed) (S : State)
     → entered_all t (ds ++ fs) S ≡ entered_all t fs (entered_all t ds S)

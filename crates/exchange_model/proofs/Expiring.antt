@@ -20,7 +20,7 @@ use Rattle.history_links.specs.Steps.{is_over}
 use Rattle.history_links.proofs.CallerLemmas.{is-outstanding, one-token, out-first}
 use Rattle.exchange_model.specs.declared.kept.Exchange.{Exchange}
 use Rattle.exchange_model.specs.State.{PeerLink, State, link_of}
-use Rattle.exchange_model.specs.Reads.{IsSentUnder, ExchangeIn, opening_of, Reads}
+use Rattle.exchange_model.specs.Reads.{IsSentUnder, ExchangeIn, opening_of, Reads, awaited_by}
 use Rattle.exchange_model.specs.Steps.{is_under, is_past, expires, is_gone}
 use Rattle.exchange_model.proofs.Opened.{cancel, OpenIn, one-rank, open-ones}
 
@@ -75,7 +75,7 @@ given-up-alike l t i p token f (Some o) legal at_i at_p under a = by (bytes_eq o
 
 pub expires-alike : {start : Start} (l : List Noted) (t : ℕ) (links : List PeerLink) (e : Exchange) → Legal l → ((p : Peer) → Agrees start l p (link_of links p)) → ExchangeIn start l e
     → expires t links e ≡ ends_at l e.opening t (waits_for l e.opening)
-expires-alike l t links e legal agrees a = by e.sending a.sent ∙ ap (ends_at l e.opening t) (sym a.sending)
+expires-alike l t links e legal agrees a = by e.awaits e.sending a.named a.sent ∙ ap (ends_at l e.opening t) (sym a.awaits)
   where
     late : is_past t e ≡ is_late t (begun l e.opening)
     late = ap (is_late t) (sym a.opening)
@@ -84,10 +84,14 @@ expires-alike l t links e legal agrees a = by e.sending a.sent ∙ ap (ends_at l
     or-false true = refl
     or-false false = refl
 
-    by : (s : Option ℕ) → IsSentUnder l e.peer e.token s
-        → (is_past t e || (is_some s && (is_outstanding_under e.token (link_of links e.peer).outstanding && is_over t (link_of links e.peer).outstanding))) ≡ ends_at l e.opening t s
-    by None u = or-false (is_past t e) ∙ late
-    by (Some i) u =
+    some-not : is_some {T = ℕ} None ≡ true → ⊥
+    some-not h = cc
+
+    by : (b : Bool) (s : Option ℕ) → (b ≡ true → is_some s ≡ true) → IsSentUnder l e.peer e.token (awaited_by b s)
+        → (is_past t e || (b && (is_outstanding_under e.token (link_of links e.peer).outstanding && is_over t (link_of links e.peer).outstanding))) ≡ ends_at l e.opening t (awaited_by b s)
+    by false s n u = or-false (is_past t e) ∙ late
+    by true None n u = absurd (some-not (n refl))
+    by true (Some i) n u =
         ap (λ (b : Bool). is_past t e || b) (given-up-alike l t i e.peer e.token u.0 (link_of links e.peer).outstanding legal u.1 u.2 u.3 (agrees e.peer).turn)
         ∙ ap (λ (b : Bool). b || given_up t (transmission l i)) late
 
@@ -100,7 +104,7 @@ going-step x l o i follows ih (Sent j) w e =
     waiting-goes l s.peer o
     (first-waits l x.written.moment o s.peer s.bytes s.message s.timeout (may-be x l x.written.moment o s.peer s.bytes s.timeout s.message follows s.entry))
 going-step x l o i follows ih Nothing w e = ih e
-going-step x l o i follows ih (Replied j m) w e = cc
+going-step x l o i follows ih (Replied j m place) w e = cc
 going-step x l o i follows ih Rejected w e = cc
 going-step x l o i follows ih Expired w e = cc
 

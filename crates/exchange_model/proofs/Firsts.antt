@@ -18,8 +18,9 @@ use Rattle.ask_model.specs.Sharing.{asked_place}
 use Rattle.journal_book.specs.Entries.{Sends, Written}
 use Rattle.history_laws.specs.Numbering.{token_number}
 use Rattle.history_laws.specs.Readings.{Noted}
-use Rattle.history_laws.specs.Transmissions.{FirstSending, bears_token}
-use Rattle.history_laws.specs.Exchanges.{Begun, begun, goes_to, openings, is_going, is_waiting, waits_for, rank}
+use Rattle.history_laws.specs.Progress.{numbers, progress}
+use Rattle.history_laws.specs.Transmissions.{FirstSending, bears_token, sent_last}
+use Rattle.history_laws.specs.Exchanges.{Begun, begun, goes_to, openings, is_going, is_waiting, waits_for, rank, replies}
 use Rattle.history_laws.specs.Joining.{outrun}
 use Rattle.history_laws.specs.Justified.{Legal}
 use Rattle.history_laws.proofs.CallerLemmas.{all-more, outrun-same, and-left, at-keeps, begun-keeps, contains-later, entries-length, eqb-itself, issued-same, rank-below, rank-keeps, replies-stay, waiting-goes}
@@ -27,8 +28,10 @@ use Rattle.history_links.specs.Agrees.{Start, IsWaitingFor, Agrees}
 use Rattle.history_links.proofs.CallerLemmas.{ends-sent, next-follows, send-elsewhere, sent, sent-quiet, waits-sent}
 use Rattle.exchange_model.specs.declared.kept.Exchange.{Exchange}
 use Rattle.exchange_model.specs.State.{link_of}
-use Rattle.exchange_model.specs.Reads.{ExchangeIn, WaitsUnder, opening_of}
-use Rattle.exchange_model.specs.Steps.{given_out, is_under, went_out}
+use Rattle.exchange_model.specs.Reads.{ExchangeIn, got_in, PiecesIn, WaitsUnder, opening_of}
+use Rattle.exchange_model.proofs.Pieces.{got-stays, pieces-quiet}
+use Rattle.exchange_model.specs.Steps.{given_out, is_under, numbers_of, progress_with, went_out}
+use Rattle.exchange_model.specs.declared.kept.Piece.{Piece}
 use Rattle.exchange_model.specs.Laws.{FirstLeads}
 use Rattle.exchange_model.proofs.Begins.{waits-with}
 use Rattle.exchange_model.proofs.Lists.{all-map, all-both}
@@ -41,9 +44,18 @@ keys-kept : (token : List ℕ) (i : ℕ) (es : List Exchange) → map opening_of
 keys-kept token i [] = refl
 keys-kept token i (e ∷ es) = rw (← keys-kept token i es) (ap (λ (o : ℕ). o ∷ map opening_of es) (by (is_under token e)))
   where
-    by : (b : Bool) → e.opening ≡ (cond b (record e { sending = Some i }) e).opening
+    by : (b : Bool) → e.opening ≡ (cond b (record e { sending = Some i; awaits = true }) e).opening
     by true = refl
     by false = refl
+
+-- The pieces are those of the same exchanges.
+pieces-sent : (n : List Noted) (token : List ℕ) (i : ℕ) (es : List Exchange) (xs : List Piece) → PiecesIn n es xs → PiecesIn n (map (went_out token i) es) xs
+pieces-sent n token i es xs h = record { fetched = all-map (went_out token i) _ es (all-more _ _ (λ e g. by e g (is_under token e)) es h.fetched); below = h.below }
+  where
+    by : (e : Exchange) → numbers (got_in n e.opening) ≡ numbers_of e.opening xs → (b : Bool)
+        → (let f : Exchange = cond b (record e { sending = Some i; awaits = true }) e in numbers (got_in n f.opening) ≡ numbers_of f.opening xs)
+    by e g true = g
+    by e g false = g
 
 current-sent : {start : Start} (l : List Noted) (t : ℕ) (p : Peer) (bytes : List ℕ) (timeout : Option ℕ) (o : ℕ) (m : Content) (e : Exchange) (a : ExchangeIn start l e)
     → e.current ≡ not (outrun (sent t p bytes timeout o m ∷ l) (asked_place a.request) e.opening)
@@ -53,12 +65,13 @@ current-sent l t p bytes timeout o m e a =
 -- what is kept of an exchange after it
 mine : {start : Start} (l : List Noted) (t : ℕ) (p : Peer) (bytes : List ℕ) (timeout : Option ℕ) (o : ℕ) (m : Content) (w : Waiting)
     → Legal l → is_waiting l p o ≡ true → (a : IsWaitingFor start l o w) → m.token ≡ w.token → (e : Exchange) → ExchangeIn start l e → is_going l e.opening ≡ true → (e.peer ≡ p → token_number w.token ≡ token_number e.token → w.token ≡ e.token)
-    → (b : Bool) → bytes_eq e.token w.token ≡ b → ExchangeIn start (sent t p bytes timeout o m ∷ l) (cond b (record e { sending = Some (length l) }) e)
+    → (b : Bool) → bytes_eq e.token w.token ≡ b → ExchangeIn start (sent t p bytes timeout o m ∷ l) (cond b (record e { sending = Some (length l); awaits = true }) e)
 mine {start = start} l t p bytes timeout o m w legal waits a token e h goes_on under true is =
     let same : e.token ≡ w.token = (bytes_eq-Decides e.token w.token).0 is in
     let at : o ≡ e.opening = one-rank l o e.opening _ _ legal a.opening h.opening (ap is_none (waiting-goes l p o waits)) goes_on (cancel start.issued _ _ (sym a.numbered ∙ (ap token_number (sym same) ∙ sym h.number))) in
     let x = sent t p bytes timeout o m in
     let f : FirstSending = record { number = length l; moment = t; opening = o; peer = p; message = m } in
+    let quiet : replies (x ∷ l) e.opening ≡ replies l e.opening = replies-stay (length l) _ _ (sent-quiet l t p bytes timeout o m e.opening) in
     let goes : goes_to p (begun l e.opening) ≡ true = subst (λ (k : ℕ). goes_to p (begun l k) ≡ true) at (and-left (goes_to p (begun l o)) _ waits) in
     let peer : same_peer h.request.peer p ≡ true = subst (λ (v : Option Begun). goes_to p v ≡ true) h.opening goes in
     record {
@@ -67,16 +80,20 @@ mine {start = start} l t p bytes timeout o m w legal waits a token e h goes_on u
       peer = h.peer;
       method = h.method;
       number = ap (λ (k : ℕ). start.issued + k) (rank-keeps x l e.opening _ h.opening (replies-stay (length l) _ _ (sent-quiet l t p bytes timeout o m e.opening))) ∙ h.number;
-      sending = waits-sent l t p bytes timeout o m e.opening ∙ ap (λ (k : ℕ). cond (eqb o k) (Some (length l)) (waits_for l k)) (sym at) ∙ rw (eqb-itself o) refl;
+      sending = subst (λ (k : ℕ). sent_last (x ∷ l) k ≡ Some (length l)) at (rw (eqb-itself o) refl);
+      awaits = waits-sent l t p bytes timeout o m e.opening ∙ ap (λ (k : ℕ). cond (eqb o k) (Some (length l)) (waits_for l k)) (sym at) ∙ rw (eqb-itself o) refl;
+      named = λ u. refl;
       sent = (f, rw (eqb-itself (length l)) refl, sym (same_peer-same h.request.peer p peer) ∙ h.peer, token ∙ sym same);
       current = current-sent l t p bytes timeout o m e h;
+      progress = ap (progress h.request) quiet ∙ (h.progress ∙ ap (progress_with e.work) (sym (got-stays x l e.opening _ h.opening quiet)));
+      short = h.short;
       conn = h.conn;
       ask = h.ask;
       stands = at-keeps x l e.opening _ h.stands;
     }
 mine {start = start} l t p bytes timeout o m w legal waits a token e h goes_on under false is =
     let x = sent t p bytes timeout o m in
-    exchange-stays x l e e.current unborne (waits-sent l t p bytes timeout o m e.opening ∙ rw (other) refl) h (current-sent l t p bytes timeout o m e h)
+    exchange-stays x l e e.current unborne (waits-sent l t p bytes timeout o m e.opening ∙ rw (other) refl) (rw (other) refl) h (current-sent l t p bytes timeout o m e h)
   where
     peer-of : o ≡ e.opening → e.peer ≡ p
     peer-of at =
@@ -134,6 +151,9 @@ first-leads l t p w ws S b q small few free is =
           exchanges_are = subst (λ (k : ℕ). AllByRecursion (ExchangeIn b.reads.start n) (map (went_out w.token k) S.exchanges)) (sym here)
               (all-map (went_out w.token (length l)) (ExchangeIn b.reads.start n) S.exchanges
               (all-more _ _ (λ e h. mine l t p v.datagram (Some v.timeout) o m w r.legal made.2 made.3 made.4 e h.0.0 h.0.1 (first-waits e h.1) (bytes_eq e.token w.token) refl) S.exchanges kept));
+          pieces_are = pieces-sent n w.token (length S.entries) S.exchanges S.pieces
+              (pieces-quiet x l S.exchanges S.pieces (OpenIn b.reads.start l) (λ e h. (_, h.0.opening))
+              (λ e h. replies-stay (length l) _ _ (sent-quiet l t p v.datagram (Some v.timeout) o m e.opening)) (open-ones l S r) r.pieces_are);
           store_is = store-still x l (r.legal, later, made.5.follows) (λ k. ends-sent l t p v.datagram (Some v.timeout) o m k) tt S.store r.store_is;
           tokens_are = (let less = rank-below l o _ r.legal made.3.opening (ap is_none (waiting-goes l p o made.2)) in let number = made.3.numbered in let issued = r.issued_are in let token = ap token_number made.4 in omega (arith, less, number, issued, token), r.tokens_are);
           waiting_are = waits-with p s S.links (map (went_out w.token (length S.entries)) S.exchanges)
@@ -149,11 +169,11 @@ first-leads l t p w ws S b q small few free is =
     first-waits e h at_p number = h w (subst (λ (k : List Waiting). Contains k w) (sym (subst (λ (k : Peer). (link_of S.links k).waiting ≡ w ∷ ws) (sym at_p) is)) (zero, omega arith, refl)) number
 
     fewer : (e : Exchange) → WaitsUnder (link_of S.links e.peer).waiting e → (c : Bool)
-        → (cond c (record e { sending = Some (length S.entries) }) e).peer ≡ p → WaitsUnder ws (cond c (record e { sending = Some (length S.entries) }) e)
+        → (cond c (record e { sending = Some (length S.entries); awaits = true }) e).peer ≡ p → WaitsUnder ws (cond c (record e { sending = Some (length S.entries); awaits = true }) e)
     fewer e h true at_p u has number = h u (subst (λ (k : List Waiting). Contains k u) (sym (subst (λ (k : Peer). (link_of S.links k).waiting ≡ w ∷ ws) (sym at_p) is)) (contains-later w ws u has)) number
     fewer e h false at_p u has number = h u (subst (λ (k : List Waiting). Contains k u) (sym (subst (λ (k : Peer). (link_of S.links k).waiting ≡ w ∷ ws) (sym at_p) is)) (contains-later w ws u has)) number
 
     same : (e : Exchange) → WaitsUnder (link_of S.links e.peer).waiting e → (c : Bool)
-        → WaitsUnder (link_of S.links (cond c (record e { sending = Some (length S.entries) }) e).peer).waiting (cond c (record e { sending = Some (length S.entries) }) e)
+        → WaitsUnder (link_of S.links (cond c (record e { sending = Some (length S.entries); awaits = true }) e).peer).waiting (cond c (record e { sending = Some (length S.entries); awaits = true }) e)
     same e h true = h
     same e h false = h

@@ -4,7 +4,7 @@ use Rattle.ask_model.specs.declared.cause.Cause.TheVariants as C
 use Rattle.journal_book.specs.Entries.{Grounds, Live, Kept, Fault}
 use Rattle.history_laws.specs.Responses.{Response}
 use Rattle.history_laws.specs.Readings.{Noted, at, ticked}
-use Rattle.history_laws.specs.Progress.{Reply, numbers, Whole, NotUnderstood, Reset, TimedOut}
+use Rattle.history_laws.specs.Progress.{Reply, numbers, Whole, NotUnderstood, Reset, TimedOut, Turned}
 use Rattle.history_laws.specs.Transmissions.{sent_last}
 use Rattle.history_laws.specs.Exchanges.{End, end_of}
 use Rattle.history_laws.specs.Justified.{Ends, HasGrounds, reads, reads_by}
@@ -18,15 +18,17 @@ GroundsOf l o (Fault C.Reset n) = Ends l o n Reset
 GroundsOf l o _ = ⊥
 
 -- It ended so, or took too long: its latest first sending is named, or the ask of who waits where nothing
--- was sent.
+-- was sent. That is named too where there was no place for its next message.
 abbrev pub GroundsFor : List Noted → ℕ → ℕ → Grounds → Type 0
 GroundsFor l k o (Fault C.Timeout n) = ((sent_last l o ≡ Some n) ⊎ ((sent_last l o ≡ None) × (n ≡ k))) × ((e : ℕ) × Ends l o e TimedOut)
+GroundsFor l k o (Fault C.Busy n) = (n ≡ k) × ((e : ℕ) × Ends l o e Turned)
 GroundsFor l k o g = GroundsOf l o g
 
 pub grounds-for : (l : List Noted) (k o : ℕ) (g : Grounds) → GroundsOf l o g → GroundsFor l k o g
 grounds-for l k o (Live js) h = h
 grounds-for l k o (Kept js) h = absurd h
 grounds-for l k o (Fault C.Timeout n) h = absurd h
+grounds-for l k o (Fault C.Busy n) h = absurd h
 grounds-for l k o (Fault cause n) h = h
 
 -- who is told waits for what has ended so
@@ -42,6 +44,7 @@ by-grounds l t k o (Kept js) is h = absurd h
 by-grounds l t k o (Fault C.NotUnderstood n) is h = (o, is, h)
 by-grounds l t k o (Fault C.Reset n) is h = (o, is, h)
 by-grounds l t k o (Fault C.Timeout n) is h = (o, is, h.0, inl h.1)
+by-grounds l t k o (Fault C.Busy n) is h = (h.0, inr (o, h.1.0, is, h.1.1))
 by-grounds l t k o (Fault cause n) is h = absurd h
 
 pub told-grounds : (l : List Noted) (t : ℕ) (x : Telling) → IsTold l x → HasGrounds l t x.reader.ask x.grounds
@@ -82,6 +85,7 @@ moved-for l n k o (Fault C.Timeout i) a h = (by h.0, (h.1.0, a.ends o _ h.1.1))
     by (inr e) = inr (a.sent o _ h.1.1 ∙ e.0, e.1)
 moved-for l n k o (Fault C.NotUnderstood i) a h = moved l n o (Fault C.NotUnderstood i) a h
 moved-for l n k o (Fault C.Reset i) a h = moved l n o (Fault C.Reset i) a h
+moved-for l n k o (Fault C.Busy i) a h = (h.0, (h.1.0, a.ends o _ h.1.1))
 moved-for l n k o (Fault cause i) a h = absurd h
 
 pub told-moves : (l n : List Noted) (x : Telling) → GoesOn l n → IsTold l x → IsTold n x

@@ -21,8 +21,8 @@ use Rattle.ask_model.specs.Views.{Ask}
 use Rattle.ask_model.specs.declared.cause.Cause.TheVariants as C
 use Rattle.journal_book.specs.Entries.{Kept, Grounds, Fault, Deed, Opens, Asks, Sends, Hears, Passes, Answers, Shuts, Seals, Written}
 use Rattle.history_laws.proofs.CallerLemmas.{all-more}
-use Rattle.exchange_model.specs.Steps.{recalls, joins, opens, asks, shuts, seals, begins, hears, hears_nothing, sends_first, sends_copy, is_past, passes, timed_out}
-use Rattle.exchange_model.specs.Calls.{served_in, serves, asked_for, joined, asked_with, Numbers, next_by, next, refused, has_place, asked_by, asked, given_back, Telling, tells, told_for, told_late, takes_new, takes_by, repeats, resets, reads_so, heard, is_due, moves_by, moves, move_all, peer_of, something_due, ticked, ended_by, grounds_of}
+use Rattle.exchange_model.specs.Steps.{Numbers, matter_of, recalls, joins, opens, asks, shuts, seals, begins, hears, hears_nothing, sends_first, sends_copy, is_past, passes, timed_out}
+use Rattle.exchange_model.specs.Calls.{served_in, serves, asked_for, joined, asked_with, next_by, next, refused, has_place, asked_by, asked, given_back, Telling, tells, told_for, told_late, takes_new, takes_by, repeats, resets, reads_so, heard, is_due, moves_by, moves, move_all, peer_of, something_due, ticked}
 use Rattle.exchange_model.specs.declared.kept.Conn.{Conn}
 use Rattle.exchange_model.specs.declared.kept.Exchange.{Exchange}
 use Rattle.exchange_model.specs.State.{State, link_of, conns_after}
@@ -182,10 +182,11 @@ sends-inner p bytes timeout = refl
 answer-inner : (c k : ℕ) (g : Grounds) → Inner (Answers c k g)
 answer-inner c k g = refl
 
-heard-such : (t : ℕ) (p : Peer) (d : List ℕ) (S : State) → Such t Inner S (heard t p d S)
-heard-such t p d S =
+heard-such : (t : ℕ) (p : Peer) (d : List ℕ) (n : Numbers) (S : State)
+    → Such t Inner S (heard t p d n S)
+heard-such t p d n S =
     either t Inner (is_some (link_of S.links p).last_mid && nat_le (length d) 2048) S
-    (reads_so t p d (message_at d) S) S (read (message_at d)) (none t Inner S)
+    (reads_so t p d n (message_at d) S) S (read (message_at d)) (none t Inner S)
   where
     nothing : (bs : List (List ℕ)) → Such t Inner S (given_back t p bs (hears_nothing t p d S))
     nothing bs =
@@ -193,19 +194,19 @@ heard-such t p d S =
         (one t Inner (Hears p d) S (hears_nothing t p d S) refl refl refl)
         (given-such t Inner sends-inner p bs (hears_nothing t p d S))
 
-    new : (m : Content) (v : Verdict) → Such t Inner S (takes_new t p d m v S)
+    new : (m : Content) (v : Verdict) → Such t Inner S (takes_new t p d m v n S)
     new m v =
-        let S1 = hears t p d m S in
+        let S1 = hears t p d m n S in
         let S2 = given_back t p (replies m.mid v.reply) S1 in
         let S3 = next t p S2 in
-        both t Inner S S3 (takes_new t p d m v S)
+        both t Inner S S3 (takes_new t p d m v n S)
         (both t Inner S S2 S3
         (both t Inner S S1 S2 (one t Inner (Hears p d) S S1 refl refl refl)
         (given-such t Inner sends-inner p (replies m.mid v.reply) S1))
         (next-such t Inner sends-inner p S2))
-        (all-told-such t Inner answer-inner (told_for (ended_by v m S) (grounds_of v m S) S.readers) S3)
+        (all-told-such t Inner answer-inner (told_for (length S.entries) (matter_of t p m v S) S.readers) S3)
 
-    taken : (m : Content) (v : Verdict) (news : News) → Such t Inner S (takes_by t p d m v news S)
+    taken : (m : Content) (v : Verdict) (news : News) → Such t Inner S (takes_by t p d m v n news S)
     taken m v N.Lost = none t Inner S
     taken m v N.Quiet = new m v
     taken m v N.Response = new m v
@@ -215,16 +216,17 @@ heard-such t p d S =
         → Such t Inner S
         (cond (repeats t (link_of S.links p) m)
         (given_back t p (replies m.mid v.reply) (hears_nothing t p d S))
-        (takes_by t p d m v v.news S))
+        (takes_by t p d m v n v.news S))
     message m v = either t Inner (repeats t (link_of S.links p) m) S _ _
         (nothing (replies m.mid v.reply)) (taken m v v.news)
 
-    read : (r : Result Content CodecFault) → Such t Inner S (reads_so t p d r S)
+    read : (r : Result Content CodecFault) → Such t Inner S (reads_so t p d n r S)
     read (Ok m) = message m (verdict_of t (link_of S.links p) m)
     read (Err e) = nothing (resets (reset_for d))
 
-hears-such : (t : ℕ) (p : Peer) (d : List ℕ) (S : State) → Such t Inner S (hears_in_room t p d S)
-hears-such t p d S = unsealed t Inner S (heard t p d S) refl (heard-such t p d S)
+hears-such : (t : ℕ) (p : Peer) (d : List ℕ) (n : Numbers) (S : State)
+    → Such t Inner S (hears_in_room t p d n S)
+hears-such t p d n S = unsealed t Inner S (heard t p d n S) refl (heard-such t p d n S)
 
 late-such : (t : ℕ) (S : State) → Such t Inner S (late t S)
 late-such t S = all-told-such t Inner answer-inner (told_late (filter (is_past t) S.exchanges) S.readers) S
@@ -282,7 +284,7 @@ pub asks-add : AsksAdd
 asks-add t c a n S = adds-such t _ S (asks_in_room t c a n S) (asks-such t c a n S)
 
 pub hears-add : HearsAdd
-hears-add t p d S = adds-such t Inner S (hears_in_room t p d S) (hears-such t p d S)
+hears-add t p d n S = adds-such t Inner S (hears_in_room t p d n S) (hears-such t p d n S)
 
 pub late-adds : LateAdds
 late-adds t S = adds-such t Inner S (late t S) (late-such t S)
@@ -294,7 +296,7 @@ pub asks-answer : AsksAnswer
 asks-answer t c a n S x = all-such t _ S (asks_in_room t c a n S) (asks-such t c a n S) x
 
 pub hears-answer : HearsAnswer
-hears-answer t p d S x = all-such t Inner S (hears_in_room t p d S) (hears-such t p d S) x
+hears-answer t p d n S x = all-such t Inner S (hears_in_room t p d n S) (hears-such t p d n S) x
 
 pub ticks-answer : TicksAnswer
 ticks-answer t S x = all-such t Inner S (ticks_in_room t S) (ticks-such t S) x

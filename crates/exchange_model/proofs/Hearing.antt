@@ -1,9 +1,9 @@
--- A message that is new ends the exchange that it answers.
-use Rattle.std.proofs.Common.{◌≡◌, ℕ, zero, ◌⊎◌, arith, inl, inr, Bool, true, false, cond, eqb, List, [], ◌∷◌, map, Option, Some, None, refl, sym, ap, subst, ◌∙◌}
-use Rattle.std.specs.Prelude.{filter, find, is_some, option_to_list, not, ◌&&◌, ◌||◌}
-use Rattle.std.specs.List.{AllByRecursion, Contains, list_any, filter_map, cons_option}
+-- A message that is new is a reply to the exchange that it answers.
+use Rattle.std.proofs.Common.{◌≡◌, ℕ, inl, inr, Bool, true, false, cond, eqb, List, [], ◌∷◌, length, map, Option, Some, None, refl, sym, ap, subst, ◌∙◌}
+use Rattle.std.specs.Prelude.{filter, find, is_some, is_none, not, ◌&&◌, ◌||◌}
+use Rattle.std.specs.List.{Contains, list_any, filter_map, cons_option}
 use Rattle.std.specs.Str.{bytes_eq}
-use Rattle.std.proofs.lemmas.Bool.{false≢true, or_right, not-true, not-false}
+use Rattle.std.proofs.lemmas.Bool.{false≢true, or_right}
 use Rattle.std.proofs.lemmas.Bool.Decides.{eqb_tells}
 use Rattle.std.proofs.lemmas.Slice.Eq.{bytes_eq-Decides}
 use Rattle.std.proofs.lemmas.List.Elements.{filter_agree}
@@ -15,22 +15,18 @@ use Rattle.message_layer.specs.Hearing.{verdict_of}
 use Rattle.ask_model.specs.Sharing.{asked_place}
 use Rattle.history_laws.specs.Readings.{Noted}
 use Rattle.history_laws.specs.Transmissions.{FirstSending, firsts, first_at, bears_token}
-use Rattle.history_laws.specs.Exchanges.{begun, openings, is_going, open_exchanges, waits_for, awaited}
-use Rattle.history_laws.specs.Hearing.{went_under, answers}
+use Rattle.history_laws.specs.Exchanges.{begun, openings, is_going, open_exchanges, waits_for, awaited, Turn, replies_by, replies, end_of}
+use Rattle.history_laws.specs.Hearing.{went_under, answers, notice_of}
 use Rattle.history_laws.specs.Joining.{outrun}
-use Rattle.history_laws.specs.Numbering.{token_number}
 use Rattle.history_laws.specs.Justified.{Legal}
-use Rattle.history_laws.proofs.CallerLemmas.{all-more, all-of, any-find, any-of, begun-listed, contains-none, find-some, first-or-later, eqb-itself, filter-by, some-is}
+use Rattle.history_laws.proofs.CallerLemmas.{any-of, begun-listed, eqb-itself, going-before, some-is}
 use Rattle.history_links.specs.Agrees.{Start, Agrees}
 use Rattle.history_links.specs.Steps.{ended_token, heard}
-use Rattle.history_links.proofs.CallerLemmas.{ends_what, going-after, hit, is_ended, Judged, one-token, waits-after}
+use Rattle.history_links.proofs.CallerLemmas.{ends_what, going-still, hit, is_ended, Judged, one-token, still-after, waits-after}
 use Rattle.exchange_model.specs.declared.kept.Exchange.{Exchange}
-use Rattle.exchange_model.specs.State.{State, link_of}
-use Rattle.exchange_model.specs.Reads.{IsSentUnder, ExchangeIn, Reads, opening_of}
-use Rattle.exchange_model.specs.Steps.{is_under, is_other, ended_in}
+use Rattle.exchange_model.specs.Reads.{IsSentUnder, awaited_by, ExchangeIn, opening_of}
+use Rattle.exchange_model.specs.Steps.{is_other}
 use Rattle.exchange_model.proofs.Borne.{IsBorne, ended-borne, answers-peer}
-use Rattle.exchange_model.proofs.Opened.{cancel, OpenIn, one-rank, open-ones}
-use Rattle.exchange_model.proofs.Outrun.{EndsThose}
 use Rattle.exchange_model.proofs.Tables.{exchange-stays}
 
 -- lists
@@ -101,27 +97,32 @@ is-listed l o e = contained (openings l) o (begun-listed l o e)
 
 -- what is ended
 
-ended-other : (ended : Option (List ℕ)) (e : Exchange) → not (is_ended ended e.token) ≡ is_other ended e
+-- its token isn't that one
+abbrev pub is_apart : Option (List ℕ) → Exchange → Bool
+is_apart None e = true
+is_apart (Some token) e = is_other token e
+
+ended-other : (ended : Option (List ℕ)) (e : Exchange) → not (is_ended ended e.token) ≡ is_apart ended e
 ended-other None e = refl
 ended-other (Some of) e = refl
 
 -- The entry ends an exchange just where its link says that its token is awaited no more.
 pub ends-kept : {start : Start} (l : List Noted) (t : ℕ) (p : Peer) (s : LinkState) (m : Content) → Legal l → Agrees start l p s → Judged l p s m (answers l p m) (verdict_of t s m)
-    → (e : Exchange) → ExchangeIn start l e → (v : Option ℕ) → e.sending ≡ v → waits_for l e.opening ≡ v → IsSentUnder l e.peer e.token v
-    → not (hit (answers l p m) m v) ≡ is_other (ended_token (verdict_of t s m).news m.token) e
-ends-kept l t p s m legal agrees judged e h None sending waits under = sym (by (ended_token (verdict_of t s m).news m.token) refl)
+    → (e : Exchange) → ExchangeIn start l e → (v : Option ℕ) → waits_for l e.opening ≡ v → IsSentUnder l e.peer e.token v
+    → not (hit (answers l p m) m v) ≡ is_apart (ended_token (verdict_of t s m).news m.token) e
+ends-kept l t p s m legal agrees judged e h None waits under = sym (by (ended_token (verdict_of t s m).news m.token) refl)
   where
     of-borne : (of : List ℕ) → IsBorne l p of → e.token ≡ of → ⊥
     of-borne of b same = false≢true (sym under ∙ borne-bears l b.first e.token b.number b.is (b.token_is ∙ sym same))
 
-    by : (ended : Option (List ℕ)) → ended_token (verdict_of t s m).news m.token ≡ ended → is_other ended e ≡ true
+    by : (ended : Option (List ℕ)) → ended_token (verdict_of t s m).news m.token ≡ ended → is_apart ended e ≡ true
     by None k = refl
     by (Some of) k = other (bytes_eq e.token of) refl
       where
         other : (b : Bool) → bytes_eq e.token of ≡ b → not b ≡ true
         other true same = absurd (of-borne of (ended-borne l t p s m of m.kind agrees k) ((bytes_eq-Decides e.token of).0 same))
         other false same = refl
-ends-kept l t p s m legal agrees judged e h (Some i) sending waits under = by (same_peer e.peer p) refl
+ends-kept l t p s m legal agrees judged e h (Some i) waits under = by (same_peer e.peer p) refl
   where
     f : FirstSending
     f = under.0
@@ -139,7 +140,7 @@ ends-kept l t p s m legal agrees judged e h (Some i) sending waits under = by (s
         let peer : same_peer f.peer p ≡ true = subst (λ (g : FirstSending). same_peer g.peer p ≡ true) (sym first) b.peer in
         false≢true (sym away ∙ subst (λ (q : Peer). same_peer q p ≡ true) under.2 peer)
 
-    away-other : same_peer e.peer p ≡ false → (ended : Option (List ℕ)) → ended_token (verdict_of t s m).news m.token ≡ ended → is_other ended e ≡ true
+    away-other : same_peer e.peer p ≡ false → (ended : Option (List ℕ)) → ended_token (verdict_of t s m).news m.token ≡ ended → is_apart ended e ≡ true
     away-other away None k = refl
     away-other away (Some of) k = other (bytes_eq e.token of) refl
       where
@@ -156,7 +157,7 @@ ends-kept l t p s m legal agrees judged e h (Some i) sending waits under = by (s
       | inr w ↦ rw (w.0) refl
     ]
 
-    by : (b : Bool) → same_peer e.peer p ≡ b → not (ends_what (answers l p m) m i) ≡ is_other (ended_token (verdict_of t s m).news m.token) e
+    by : (b : Bool) → same_peer e.peer p ≡ b → not (ends_what (answers l p m) m i) ≡ is_apart (ended_token (verdict_of t s m).news m.token) e
     by true at_p = ap not (judged.awaits i e.token listed (went at_p)) ∙ ended-other (ended_token (verdict_of t s m).news m.token) e
     by false away = ap not (away-to away (answers l p m) refl) ∙ sym (away-other away (ended_token (verdict_of t s m).news m.token) refl)
 
@@ -166,79 +167,39 @@ stay-waiting : (b : Bool) (v : Option ℕ) → b ≡ false → cond b None v ≡
 stay-waiting true v e = absurd (false≢true (sym e))
 stay-waiting false v e = refl
 
-pub kept-one : {start : Start} (l : List Noted) (t : ℕ) (p : Peer) (s : LinkState) (d : List ℕ) (m : Content) → Legal l → Agrees start l p s → Judged l p s m (answers l p m) (verdict_of t s m)
-    → (e : Exchange) (b : Bool) → (a : ExchangeIn start l e) → is_other (ended_token (verdict_of t s m).news m.token) e ≡ true
+-- What it answers is told by what an exchange waits for.
+pub hit-kept : {start : Start} (l : List Noted) (t : ℕ) (p : Peer) (s : LinkState) (m : Content) → Legal l → Agrees start l p s → Judged l p s m (answers l p m) (verdict_of t s m)
+    → (e : Exchange) → ExchangeIn start l e → not (hit (answers l p m) m (waits_for l e.opening)) ≡ is_apart (ended_token (verdict_of t s m).news m.token) e
+hit-kept l t p s m legal agrees judged e a =
+    ap (λ (v : Option ℕ). not (hit (answers l p m) m v)) a.awaits
+    ∙ ends-kept l t p s m legal agrees judged e a (awaited_by e.awaits e.sending) a.awaits a.sent
+
+-- An exchange that it doesn't answer stays as it is.
+pub kept-one : {start : Start} (l : List Noted) (t : ℕ) (p : Peer) (s : LinkState) (d : List ℕ) (m : Content) → Legal l
+    → (e : Exchange) (b : Bool) → (a : ExchangeIn start l e) → hit (answers l p m) m (waits_for l e.opening) ≡ false
     → b ≡ not (outrun (heard l t p d m ∷ l) (asked_place a.request) e.opening) → ExchangeIn start (heard l t p d m ∷ l) (record e { current = b })
-kept-one l t p s d m legal agrees judged e b a other current =
-    let stays = not-true (hit (answers l p m) m (waits_for l e.opening)) (subst (λ (v : Option ℕ). not (hit (answers l p m) m v) ≡ true) (sym a.sending)
-    (ends-kept l t p s m legal agrees judged e a e.sending refl a.sending a.sent ∙ other)) in
-    exchange-stays (heard l t p d m) l e b (λ k. k) (waits-after l t p d m (answers l p m) e.opening ∙ stay-waiting (hit (answers l p m) m (waits_for l e.opening)) (waits_for l e.opening) stays) a current
+kept-one l t p s d m legal e b a stays current =
+    exchange-stays (heard l t p d m) l e b (λ k. k) (waits-after l t p d m (answers l p m) (notice_of l t p m (answers l p m)) e.opening ∙ stay-waiting (hit (answers l p m) m (waits_for l e.opening)) (waits_for l e.opening) stays) refl a current
 
-pub open-after : {start : Start} (l : List Noted) (t : ℕ) (p : Peer) (s : LinkState) (d : List ℕ) (m : Content) (es : List Exchange) → Legal l → Agrees start l p s → Judged l p s m (answers l p m) (verdict_of t s m)
-    → AllByRecursion (ExchangeIn start l) es → open_exchanges l ≡ map opening_of es
-    → open_exchanges (heard l t p d m ∷ l) ≡ map opening_of (filter (is_other (ended_token (verdict_of t s m).news m.token)) es)
-open-after {start = start} l t p s d m es legal agrees judged kept keys =
-    let stays = λ (o : ℕ). not (hit (answers l p m) m (waits_for l o)) in
-    filter_agree (is_going (heard l t p d m ∷ l)) (λ (o : ℕ). stays o && is_going l o) (going-after l t p d m (answers l p m)) (openings l)
-    ∙ (filter-both stays (is_going l) (openings l)
-    ∙ (ap (filter stays) keys
-    ∙ (filter-map stays opening_of es
-    ∙ ap (map opening_of) (filter-by (λ (e : Exchange). stays e.opening) (is_other (ended_token (verdict_of t s m).news m.token)) es
-    (all-more (ExchangeIn start l) _ (λ e h. ap (λ (v : Option ℕ). not (hit (answers l p m) m v)) h.sending ∙ ends-kept l t p s m legal agrees judged e h e.sending refl h.sending h.sent) es kept)))))
+-- Nor does it get a reply, or end.
+pub replies-kept : (l : List Noted) (t : ℕ) (p : Peer) (d : List ℕ) (m : Content) (o : ℕ) → hit (answers l p m) m (waits_for l o) ≡ false
+    → replies (heard l t p d m ∷ l) o ≡ replies l o
+replies-kept l t p d m o stays =
+    ap (λ (u : Turn). replies_by (length l) u (replies l o)) (still-after l t p d m (answers l p m) (notice_of l t p m (answers l p m)) o stays)
 
--- Of the open exchanges it ends the one whose token is awaited no more.
-going-kept : {start : Start} (l : List Noted) (t : ℕ) (p : Peer) (s : LinkState) (d : List ℕ) (m : Content) → Legal l → Agrees start l p s → Judged l p s m (answers l p m) (verdict_of t s m)
-    → (e : Exchange) → OpenIn start l e → is_going (heard l t p d m ∷ l) e.opening ≡ is_other (ended_token (verdict_of t s m).news m.token) e
-going-kept l t p s d m legal agrees judged e a =
-    going-after l t p d m (answers l p m) e.opening
-    ∙ (ap (λ (b : Bool). not (hit (answers l p m) m (waits_for l e.opening)) && b) a.1
-    ∙ (and-true (not (hit (answers l p m) m (waits_for l e.opening)))
-    ∙ (ap (λ (v : Option ℕ). not (hit (answers l p m) m v)) a.0.sending ∙ ends-kept l t p s m legal agrees judged e a.0 e.sending refl a.0.sending a.0.sent)))
+pub end-kept : (l : List Noted) (t : ℕ) (p : Peer) (d : List ℕ) (m : Content) (o : ℕ) → hit (answers l p m) m (waits_for l o) ≡ false
+    → end_of (heard l t p d m ∷ l) o ≡ end_of l o
+end-kept l t p d m o stays = going-still l t p d m (answers l p m) (notice_of l t p m (answers l p m)) o stays
+
+-- After any entry that opens none, the open exchanges are those of before that go on.
+pub open-later : (x : Noted) (l : List Noted) (es : List Exchange) → openings (x ∷ l) ≡ openings l → open_exchanges l ≡ map opening_of es
+    → open_exchanges (x ∷ l) ≡ map opening_of (filter (λ (e : Exchange). is_going (x ∷ l) e.opening) es)
+open-later x l es same keys =
+    ap (filter (is_going (x ∷ l))) same
+    ∙ (filter_agree (is_going (x ∷ l)) (λ (o : ℕ). is_going (x ∷ l) o && is_going l o) (λ o. both o (is_going (x ∷ l) o) refl) (openings l)
+    ∙ (filter-both (is_going (x ∷ l)) (is_going l) (openings l)
+    ∙ (ap (filter (is_going (x ∷ l))) keys ∙ filter-map (is_going (x ∷ l)) opening_of es)))
   where
-    and-true : (b : Bool) → (b && true) ≡ b
-    and-true true = refl
-    and-true false = refl
-
-pub hears-ends : (l : List Noted) (t : ℕ) (p : Peer) (d : List ℕ) (m : Content) (S : State) (r : Reads l S) → Judged l p (link_of S.links p) m (answers l p m) (verdict_of t (link_of S.links p) m)
-    → EndsThose (heard l t p d m) l S (option_to_list (ended_in (ended_token (verdict_of t (link_of S.links p) m).news m.token) S.exchanges))
-hears-ends l t p d m S r judged = of (ended_token (verdict_of t (link_of S.links p) m).news m.token) refl
-  where
-    s : LinkState
-    s = link_of S.links p
-
-    open_in : (e : Exchange) → Contains S.exchanges e → OpenIn r.start l e
-    open_in e has = all-of (OpenIn r.start l) S.exchanges e (open-ones l S r) has
-
-    goes : (e : Exchange) → Contains S.exchanges e → (ended : Option (List ℕ)) → ended_token (verdict_of t s m).news m.token ≡ ended → is_going (heard l t p d m ∷ l) e.opening ≡ is_other ended e
-    goes e has ended is = going-kept l t p s d m r.legal (r.links_are p) judged e (open_in e has) ∙ ap (λ (v : Option (List ℕ)). is_other v e) is
-
-    of : (ended : Option (List ℕ)) → ended_token (verdict_of t s m).news m.token ≡ ended → EndsThose (heard l t p d m) l S (option_to_list (ended_in ended S.exchanges))
-    of None is = record { ended = λ f h. absurd (contains-none f h); all = λ f has gone. absurd (false≢true (sym gone ∙ goes f has None is)) }
-    of (Some token) is = found (find (is_under token) S.exchanges) refl
-      where
-        under : (f : Exchange) → Contains S.exchanges f → is_going (heard l t p d m ∷ l) f.opening ≡ false → is_under token f ≡ true
-        under f has gone = not-false (is_under token f) (sym (goes f has (Some token) is) ∙ gone)
-
-        found : (v : Option Exchange) → find (is_under token) S.exchanges ≡ v → EndsThose (heard l t p d m) l S (option_to_list v)
-        found None none = record {
-          ended = λ f h. absurd (contains-none f h);
-          all = λ f has gone. absurd (false≢true (sym (ap is_some none) ∙ (sym (any-find (is_under token) S.exchanges) ∙ any-of (is_under token) S.exchanges f has (under f has gone))));
-        }
-        found (Some g) first = record {
-          ended = λ f h. by f (first-or-later g [] f h);
-          all = λ f has gone. (g, (zero, omega arith, refl), same f has (under f has gone));
-        }
-          where
-            it : Contains S.exchanges g × (is_under token g ≡ true)
-            it = find-some (is_under token) S.exchanges g first
-
-            by : (f : Exchange) → (g ≡ f) ⊎ Contains [] f → Contains S.exchanges f × (is_going (heard l t p d m ∷ l) f.opening ≡ false)
-            by f (inl e) = subst (λ (f : Exchange). Contains S.exchanges f × (is_going (heard l t p d m ∷ l) f.opening ≡ false)) e (it.0, goes g it.0 (Some token) is ∙ ap not it.1)
-            by f (inr h) = absurd (contains-none f h)
-
-            same : (f : Exchange) → Contains S.exchanges f → is_under token f ≡ true → g.opening ≡ f.opening
-            same f has same_token =
-                let mine = open_in f has in
-                let its = open_in g it.0 in
-                let tokens : g.token ≡ f.token = (bytes_eq-Decides g.token token).0 it.1 ∙ sym ((bytes_eq-Decides f.token token).0 same_token) in
-                one-rank l g.opening f.opening _ _ r.legal its.0.opening mine.0.opening its.1 mine.1 (cancel r.start.issued _ _ (its.0.number ∙ (ap token_number tokens ∙ sym mine.0.number)))
+    both : (o : ℕ) (b : Bool) → is_going (x ∷ l) o ≡ b → b ≡ (b && is_going l o)
+    both o true is = sym (ap is_none (going-before x l o is).1)
+    both o false is = refl

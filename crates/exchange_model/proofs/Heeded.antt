@@ -1,8 +1,10 @@
 -- What a datagram leaves.
-use Rattle.std.proofs.Common.{◌≡◌, ℕ, ◌⊎◌, inl, inr, ◌+◌, Bool, true, false, cond, leb, List, [], ◌∷◌, ◌++◌, length, map, Option, Some, None, Result, Ok, Err, refl, sym, ap, ◌∙◌, arith, append_assoc, append-nil}
-use Rattle.std.specs.Prelude.{filter, fold, option_to_list, is_none, ◌&&◌}
+use Rattle.std.proofs.Common.{◌≡◌, ℕ, ◌⊎◌, inl, inr, ◌+◌, ◌<◌, Bool, true, false, cond, leb, List, [], ◌∷◌, ◌++◌, length, map, Option, Some, None, Result, Ok, Err, refl, sym, ap, ◌∙◌, arith, append_assoc, append-nil}
+use Rattle.std.specs.Prelude.{fold, ◌&&◌}
+use Rattle.std.specs.Str.{bytes_eq}
 use Rattle.std.proofs.lemmas.Bool.{le-leb}
 use Rattle.std.proofs.lemmas.List.{length-map}
+use Rattle.std.proofs.lemmas.Slice.Eq.{bytes_eq-Decides}
 use Rattle.limits.specs.declared.TheConstants.{MAX_DATAGRAM_LEN}
 use Rattle.coap_codec.specs.Spelling.{Content}
 use Rattle.coap_codec.specs.Reading.{message_at}
@@ -16,18 +18,24 @@ use Rattle.message_layer.specs.declared.verdict.News.{News}
 use Rattle.message_layer.specs.declared.verdict.Verdict.{Verdict}
 use Rattle.message_layer.specs.declared.state.Reply.TheVariants as R
 use Rattle.message_layer.specs.declared.verdict.News.TheVariants as N
-use Rattle.resp_cache.specs.declared.pair.Pair.{Pair}
-use Rattle.journal_book.specs.Entries.{Grounds, Deed, Hears}
+use Rattle.journal_book.specs.Entries.{Deed, Hears}
+use Rattle.history_laws.specs.Numbering.{token_number}
+use Rattle.history_laws.specs.Progress.{Progress}
+use Rattle.history_laws.specs.Transmissions.{FirstSending, firsts}
+use Rattle.history_laws.proofs.CallerLemmas.{all-of, find-some, some-is}
 use Rattle.history_links.specs.Steps.{ended_token, heard_link}
-use Rattle.exchange_model.specs.Steps.{content_at, settled, left_by, given_out, hears, hears_nothing, confirms, is_other, ended_in}
-use Rattle.exchange_model.specs.Calls.{Outcome, outcome_of, next_by, next, given_back, Telling, tells, told_for, takes_new, takes_by, repeats, resets, reads_so, heard, grounds_of}
+use Rattle.exchange_model.specs.Steps.{Numbers, Matter, Nothing, Goes, Over, matter_by, matter_of, has_next_place, answered_in, more_by, link_with, issued_by, exchanges_by, pieces_by, store_by, given_out, hears, hears_nothing, confirms}
+use Rattle.exchange_model.specs.Calls.{next_by, next, given_back, Telling, tells, told_for, takes_new, takes_by, repeats, resets, reads_so, goes_with, goes_as, heard}
 use Rattle.exchange_model.specs.declared.kept.Exchange.{Exchange}
 use Rattle.exchange_model.specs.State.{PeerLink, State, link_of, with_link}
-use Rattle.exchange_model.specs.Entering.{awaits_no_more, going_as, sent_as, first_deeds, in_turn, answer_of, confirm, heeded, garbled, IsMid, Comes, MessageEnters, GarbledEnters}
-use Rattle.exchange_model.proofs.Entered.{stored, put, after, next-put, entries-more, link-there, out-at, given-itself}
-use Rattle.exchange_model.proofs.Outrun.{none-left}
+use Rattle.exchange_model.specs.Keeping.{MayStep, MayGoOn}
+use Rattle.exchange_model.specs.Laws.{IsContinued}
+use Rattle.exchange_model.specs.Reads.{Reads}
+use Rattle.exchange_model.specs.Entering.{awaits_no_more, taken_with, next_out, effect_of, going_as, sent_as, first_deeds, answer_of, confirm, heeded, garbled, IsMid, Comes, MessageEnters, GarbledEnters}
+use Rattle.exchange_model.proofs.Borne.{IsBorne, ended-borne}
+use Rattle.exchange_model.proofs.Entered.{turn_of, issued-stored, put, after, next-put, entries-more, link-there, out-at, given-itself}
 use Rattle.exchange_model.proofs.Idle.{repeat-idle}
-use Rattle.exchange_model.proofs.LinksHeard.{turned, Turns, turns, links-given, without-is, heard-turned, new-unborne}
+use Rattle.exchange_model.proofs.LinksHeard.{turned, Turns, turns, links-given, IsFresh, out-with, last-with, turn-with, link-turned, new-unborne}
 
 -- one deed of the step after another
 
@@ -56,19 +64,42 @@ next-conns t p S = by (link_of S.links p).outstanding (link_of S.links p).waitin
 
 -- A message that is new.
 
-turn-ended : (b : Bool) (v : Option Outstanding) (ws : List Waiting) → Turns v ws
-    → in_turn (is_none (cond b None v)) ws ≡ in_turn b ws
-turn-ended true v ws h = refl
-turn-ended false (Some o) ws h = refl
-turn-ended false None ws h = ap (in_turn true) h
+-- By it the exchange goes on under the next token.
+abbrev IsNext : Matter → Numbers → State → Type 0
+IsNext x n S = (e : Exchange) (progress : Progress) → x ≡ Goes e progress → token_number n.token ≡ S.issued
 
-new-heeded : (t : ℕ) (p : Peer) (d : List ℕ) (m : Content) (S : State) → Comes t p d S
-    → let v = verdict_of t (link_of S.links p) m in takes_new t p d m v S
-    ≡ heeded t p d m.mid m.token v (outcome_of v m S) S
-new-heeded t p d m S come =
-    after t (H ++ F) G es2 es2 xs2 xs2 K C (fold (tells t) C (told_for ends g S.readers)) whole told
+-- It is none that went out.
+is-fresh : (t : ℕ) (p : Peer) (m : Content) (n : Numbers) (S : State) (may : MayStep t S) (x : Matter) → IsNext x n S
+    → IsFresh (more_by n x) (ended_token (verdict_of t (link_of S.links p) m).news m.token)
+is-fresh t p m n S may Nothing ahead w token is over = cc
+is-fresh t p m n S may (Over e how) ahead w token is over = cc
+is-fresh t p m n S may (Goes e progress) ahead w token is over = by (bytes_eq w.token token) refl
+  where
+    r : Reads may.kept.reading S
+    r = may.kept.rests.reads
+
+    borne : IsBorne may.kept.reading p token
+    borne = ended-borne may.kept.reading t p (link_of S.links p) m token m.kind (r.links_are p) over
+
+    less : token_number borne.first.message.token < S.issued
+    less = all-of (λ (f : FirstSending). token_number f.message.token < S.issued) (firsts may.kept.reading) borne.first r.tokens_are
+        (find-some _ (firsts may.kept.reading) borne.first borne.is).0
+
+    same : bytes_eq w.token token ≡ true → token_number n.token ≡ token_number borne.first.message.token
+    same e = ap token_number (ap (λ (v : Waiting). v.token) (some-is _ w is) ∙ ((bytes_eq-Decides w.token token).0 e ∙ sym borne.token_is))
+
+    by : (b : Bool) → bytes_eq w.token token ≡ b → b ≡ false
+    by true h = let alike = same h in let number = ahead e progress refl in absurd (omega (arith, alike, number, less))
+    by false e = refl
+
+new-heeded : (t : ℕ) (p : Peer) (d : List ℕ) (m : Content) (n : Numbers) (S : State) → Comes t p d S
+    → let v = verdict_of t (link_of S.links p) m in IsNext (matter_of t p m v S) n S
+    → takes_new t p d m v n S ≡ heeded t p d m.mid m.token v (effect_of t p m v n S) S
+new-heeded t p d m n S come ahead =
+    after t (H ++ F) G es2 es2 xs2 xs2 K C (fold (tells t) C (told_for (length S.entries) x S.readers)) whole told
     ∙ (ap (λ (ds : List Deed). put t (Hears p d ∷ ds) es2 xs2 K) (append_assoc R F G)
-    ∙ ap (λ (U : State). record U { exchanges = es2; links = xs2 }) (stored t (Hears p d ∷ (R ++ (F ++ G))) st S))
+    ∙ ap (λ (U : State). record U { exchanges = es2; links = xs2 })
+    (issued-stored t (Hears p d ∷ (R ++ (F ++ G))) (issued_by x S.issued) (pieces_by (length S.entries) x S.pieces) (store_by S.entries t x S.store) S))
   where
     s : LinkState
     s = link_of S.links p
@@ -76,30 +107,31 @@ new-heeded t p d m S come =
     v : Verdict
     v = verdict_of t s m
 
+    x : Matter
+    x = matter_of t p m v S
+
+    more : Option Waiting
+    more = more_by n x
+
     over : Option (List ℕ)
     over = ended_token v.news m.token
 
-    ends : Option Exchange
-    ends = ended_in over S.exchanges
-
-    g : Grounds
-    g = grounds_of v m S
-
     new : LinkState
-    new = heard_link t m.mid m.token v s
+    new = link_with t more (heard_link t m.mid m.token v s)
 
     up : Option Waiting
-    up = in_turn v.ends s.waiting
+    up = next_out v s more
 
-    st : List Pair
-    st = settled S.entries ends (content_at t (length S.entries) (outcome_of v m S).whole) S.store
-
-    -- the state with what is stored after it
+    -- the state with the number of tokens, the pieces and what is stored after it
     K : State
-    K = record S { store = st }
+    K = record S {
+      issued = issued_by x S.issued;
+      pieces = pieces_by (length S.entries) x S.pieces;
+      store = store_by S.entries t x S.store;
+    }
 
     A : State
-    A = hears t p d m S
+    A = hears t p d m n S
 
     B : State
     B = given_back t p (replies m.mid v.reply) A
@@ -117,22 +149,25 @@ new-heeded t p d m S come =
     F = first_deeds t p s.last_mid up
 
     G : List Deed
-    G = map answer_of (told_for ends g S.readers)
+    G = map answer_of (told_for (length S.entries) x S.readers)
 
-    n : ℕ
-    n = length S.entries + 1 + length (replies m.mid v.reply)
+    k : ℕ
+    k = length S.entries + 1 + length (replies m.mid v.reply)
 
     es1 : List Exchange
-    es1 = left_by S.entries (option_to_list ends) (filter (is_other over) S.exchanges)
+    es1 = exchanges_by S.entries n.token x S.exchanges
 
     es2 : List Exchange
-    es2 = sent_as (going_as n up) es1
+    es2 = sent_as (going_as k up) es1
 
     xs1 : List PeerLink
     xs1 = with_link p new S.links
 
+    last : LinkState
+    last = given_out (awaits_no_more over (taken_with t more (applied t m.mid m.token v s)))
+
     xs2 : List PeerLink
-    xs2 = with_link p (given_out (awaits_no_more over (applied t m.mid m.token v s))) S.links
+    xs2 = with_link p last S.links
 
     rest : Turns s.outstanding s.waiting
     rest = turns _ s.outstanding s.waiting (come.may.kept.rests.links p)
@@ -141,45 +176,45 @@ new-heeded t p d m S come =
     replied = after t (Hears p d ∷ []) R es1 es1 xs1 xs1 K A B refl
         (given-put t p (replies m.mid v.reply) A)
 
-    count : length B.entries ≡ n
+    count : length B.entries ≡ k
     count =
-        let k = length-map (replies m.mid v.reply) (confirm p) in
-        ap (λ (U : State). length U.entries) replied ∙ (entries-more t H K ∙ omega (arith, k))
+        let j = length-map (replies m.mid v.reply) (confirm p) in
+        ap (λ (U : State). length U.entries) replied ∙ (entries-more t H K ∙ omega (arith, j))
 
-    same : given_out (turned t new) ≡ given_out (awaits_no_more over (applied t m.mid m.token v s))
+    same : given_out (turned t new) ≡ last
     same =
         let r = come.may.kept.rests.reads in
-        heard-turned t m.mid m.token v s v.ends refl rest
+        link-turned t m.mid m.token v more s rest
         (new-unborne come.may.kept.reading t p s m (r.links_are p))
-        ∙ sym (ap given_out (without-is over (applied t m.mid m.token v s)))
+        (is-fresh t p m n S come.may x ahead)
 
     sent : C ≡ put t F es2 xs2 B
     sent =
         next-put t p new S.links B (links-given t p (replies m.mid v.reply) A)
-        (out-at p S.links come.drained.out)
-        ∙ (ap (λ (x : Option Waiting). put t (first_deeds t p s.last_mid x)
-        (sent_as (going_as (length B.entries) x) B.exchanges)
+        (out-with t more (heard_link t m.mid m.token v s) ∙ out-at p S.links come.drained.out)
+        ∙ (ap (λ (mid : Option ℕ). put t (first_deeds t p mid (turn_of new))
+        (sent_as (going_as (length B.entries) (turn_of new)) B.exchanges)
         (with_link p (given_out (turned t new)) S.links) B)
-        (turn-ended v.ends s.outstanding s.waiting rest)
-        ∙ (ap (λ (k : ℕ). put t F (sent_as (going_as k up) B.exchanges)
+        (last-with t more (heard_link t m.mid m.token v s))
+        ∙ (ap (λ (w : Option Waiting). put t (first_deeds t p s.last_mid w)
+        (sent_as (going_as (length B.entries) w) B.exchanges)
+        (with_link p (given_out (turned t new)) S.links) B)
+        (turn-with t m.mid m.token v more s rest)
+        ∙ (ap (λ (j : ℕ). put t F (sent_as (going_as j up) B.exchanges)
         (with_link p (given_out (turned t new)) S.links) B) count
-        ∙ (ap (λ (U : State). put t F (sent_as (going_as n up) U.exchanges)
+        ∙ (ap (λ (U : State). put t F (sent_as (going_as k up) U.exchanges)
         (with_link p (given_out (turned t new)) S.links) B) replied
-        ∙ ap (λ (u : LinkState). put t F es2 (with_link p u S.links) B) same)))
+        ∙ ap (λ (u : LinkState). put t F es2 (with_link p u S.links) B) same))))
 
     whole : C ≡ put t (H ++ F) es2 xs2 K
     whole = after t H F es1 es2 xs1 xs2 K B C replied sent
 
-    told : fold (tells t) C (told_for ends g S.readers) ≡ put t G es2 xs2 C
+    told : fold (tells t) C (told_for (length S.entries) x S.readers) ≡ put t G es2 xs2 C
     told =
-        told-put t (told_for ends g S.readers) C
+        told-put t (told_for (length S.entries) x S.readers) C
         ∙ ap (λ (U : State). put t G U.exchanges U.links C) whole
 
 -- What is nothing new leaves all but the entries.
-
-pub all-others : (es : List Exchange) → filter (is_other None) es ≡ es
-all-others [] = refl
-all-others (e ∷ es) = ap (λ (xs : List Exchange). e ∷ xs) (all-others es)
 
 abbrev quiet_with : Verdict → Verdict
 quiet_with v = record { reply = v.reply; remembered = false; ends = false; news = N.Quiet }
@@ -191,46 +226,57 @@ quiet-is v r e n =
     ∙ (ap (λ (b : Bool). record v { ends = b; news = N.Quiet }) (sym e)
     ∙ ap (λ (k : News). record v { news = k }) (sym n))
 
-idle-heeded : (t : ℕ) (p : Peer) (d : List ℕ) (mid : ℕ) (token : List ℕ) (v : Verdict) (g : Outcome)
+quiet-nothing : (news : News) (place : Bool) (m : Content) (S : State) → news ≡ N.Quiet
+    → Nothing ≡ matter_by news place m S (answered_in (ended_token news m.token) S.exchanges)
+quiet-nothing news place m S e =
+    sym (ap (λ (k : News). matter_by k place m S (answered_in (ended_token k m.token) S.exchanges)) e)
+
+idle-heeded : (t : ℕ) (p : Peer) (d : List ℕ) (mid : ℕ) (token : List ℕ) (v : Verdict) (n : Numbers)
     (S : State) → Comes t p d S
     → v.remembered ≡ false → v.ends ≡ false → v.news ≡ N.Quiet
-    → given_back t p (replies mid v.reply) (hears_nothing t p d S) ≡ heeded t p d mid token v g S
-idle-heeded t p d mid token v g S come r e n =
+    → given_back t p (replies mid v.reply) (hears_nothing t p d S)
+    ≡ heeded t p d mid token v (record { matter = Nothing; numbers = n }) S
+idle-heeded t p d mid token v n S come r e q =
     given-put t p (replies mid v.reply) (hears_nothing t p d S)
     ∙ (sym (ap (λ (ds : List Deed). put t (Hears p d ∷ ds) S.exchanges S.links S)
     (append-nil (map (confirm p) (replies mid v.reply))))
-    ∙ (sym (ap (λ (es : List Exchange). put t (Hears p d ∷
-    (map (confirm p) (replies mid v.reply) ++ [])) es S.links S)
-    (none-left S.entries (filter (is_other None) S.exchanges) ∙ all-others S.exchanges))
     ∙ (sym (ap (λ (xs : List PeerLink). put t (Hears p d ∷
-    (map (confirm p) (replies mid v.reply) ++ [])) (left_by S.entries [] (filter (is_other None) S.exchanges)) xs S)
+    (map (confirm p) (replies mid v.reply) ++ [])) S.exchanges xs S)
     (ap (λ (u : LinkState). with_link p u S.links)
     (given-itself (link_of S.links p) (out-at p S.links come.drained.out))
     ∙ link-there p S.links come.known))
-    ∙ (ap (λ (U : State). record U { exchanges = left_by S.entries [] (filter (is_other None) S.exchanges); links = with_link p (given_out (link_of S.links p)) S.links })
-    (stored t (Hears p d ∷ (map (confirm p) (replies mid v.reply) ++ [])) S.store S)
-    ∙ ap (λ (k : Verdict). heeded t p d mid token k g S) (quiet-is v r e n)))))
+    ∙ (ap (λ (U : State). record U { exchanges = S.exchanges; links = with_link p (given_out (link_of S.links p)) S.links })
+    (issued-stored t (Hears p d ∷ (map (confirm p) (replies mid v.reply) ++ [])) S.issued S.pieces S.store S)
+    ∙ ap (λ (k : Verdict). heeded t p d mid token k (record { matter = Nothing; numbers = n }) S) (quiet-is v r e q))))
 
 -- a datagram
 
-heard-read : (t : ℕ) (p : Peer) (d : List ℕ) (r : Result Content CodecFault) (S : State)
-    → Comes t p d S → message_at d ≡ r → heard t p d S ≡ reads_so t p d r S
-heard-read t p d r S come e =
-    ap (λ (b : Bool). cond (b && leb (length d) MAX_DATAGRAM_LEN) (reads_so t p d (message_at d) S) S)
+heard-read : (t : ℕ) (p : Peer) (d : List ℕ) (n : Numbers) (r : Result Content CodecFault) (S : State)
+    → Comes t p d S → message_at d ≡ r → heard t p d n S ≡ reads_so t p d n r S
+heard-read t p d n r S come e =
+    ap (λ (b : Bool). cond (b && leb (length d) MAX_DATAGRAM_LEN) (reads_so t p d n (message_at d) S) S)
     come.known
-    ∙ (ap (λ (b : Bool). cond b (reads_so t p d (message_at d) S) S)
+    ∙ (ap (λ (b : Bool). cond b (reads_so t p d n (message_at d) S) S)
     (le-leb (length d) MAX_DATAGRAM_LEN come.short)
-    ∙ ap (λ (k : Result Content CodecFault). reads_so t p d k S) e)
+    ∙ ap (λ (k : Result Content CodecFault). reads_so t p d n k S) e)
 
-taken : (t : ℕ) (p : Peer) (d : List ℕ) (m : Content) (v : Verdict) (news : News) (S : State)
-    → (news ≡ N.Lost → ⊥) → takes_by t p d m v news S ≡ takes_new t p d m v S
-taken t p d m v N.Lost S h = absurd (h refl)
-taken t p d m v N.Quiet S h = refl
-taken t p d m v N.Response S h = refl
-taken t p d m v (N.Reset token) S h = refl
+taken : (t : ℕ) (p : Peer) (d : List ℕ) (m : Content) (v : Verdict) (n : Numbers) (news : News) (S : State)
+    → (news ≡ N.Lost → ⊥) → takes_by t p d m v n news S ≡ takes_new t p d m v n S
+taken t p d m v n N.Lost S h = absurd (h refl)
+taken t p d m v n N.Quiet S h = refl
+taken t p d m v n N.Response S h = refl
+taken t p d m v n (N.Reset token) S h = refl
+
+-- It is the next token, where a message that is new brings an exchange on.
+pub next-token : (t : ℕ) (p : Peer) (d : List ℕ) (m : Content) (n : Numbers) (S : State) → message_at d ≡ Ok m → MayGoOn t p d n S
+    → repeats t (link_of S.links p) m ≡ false → (e : Exchange) (progress : Progress)
+    → matter_of t p m (verdict_of t (link_of S.links p) m) S ≡ Goes e progress → IsContinued e progress n S
+next-token t p d m n S is goes new e progress at =
+    goes e progress (ap (λ (r : Result Content CodecFault). goes_as t p r S) is
+    ∙ (ap (λ (b : Bool). cond b None (goes_with (matter_of t p m (verdict_of t (link_of S.links p) m) S))) new ∙ ap goes_with at))
 
 pub message-enters : MessageEnters
-message-enters t p d m S come e kept = heard-read t p d (Ok m) S come e ∙ by (repeats t s m) refl
+message-enters t p d m n S come e goes kept = heard-read t p d n (Ok m) S come e ∙ by (repeats t s m) refl
   where
     s : LinkState
     s = link_of S.links p
@@ -245,21 +291,24 @@ message-enters t p d m S come e kept = heard-read t p d (Ok m) S come e ∙ by (
 
     by : (b : Bool) → repeats t s m ≡ b → cond b
         (given_back t p (replies m.mid v.reply) (hears_nothing t p d S))
-        (takes_by t p d m v v.news S)
-        ≡ heeded t p d m.mid m.token v (outcome_of v m S) S
+        (takes_by t p d m v n v.news S)
+        ≡ heeded t p d m.mid m.token v (effect_of t p m v n S) S
     by true k =
         let i = repeat-idle t s m m.kind k in
-        idle-heeded t p d m.mid m.token v (outcome_of v m S) S come i.0 i.1
-        (quiet v.news i.2 kept)
-    by false k = taken t p d m v v.news S kept ∙ new-heeded t p d m S come
+        let is_quiet = quiet v.news i.2 kept in
+        idle-heeded t p d m.mid m.token v n S come i.0 i.1 is_quiet
+        ∙ ap (λ (x : Matter). heeded t p d m.mid m.token v (record { matter = x; numbers = n }) S)
+        (quiet-nothing v.news (has_next_place t p v S) m S is_quiet)
+    by false k = taken t p d m v n v.news S kept
+        ∙ new-heeded t p d m n S come (λ f progress at. (next-token t p d m n S e goes k f progress at).number)
 
 pub garbled-enters : GarbledEnters
-garbled-enters t p d e mid token g S come is at = heard-read t p d (Err e) S come is
+garbled-enters t p d e mid token n S come is at = heard-read t p d n (Err e) S come is
     ∙ by (reset_for d) at
   where
     by : (k : Option ℕ) → IsMid k mid → given_back t p (resets k) (hears_nothing t p d S)
-        ≡ heeded t p d mid token (garbled k) g S
-    by None h = idle-heeded t p d mid token (garbled None) g S come refl refl refl
+        ≡ heeded t p d mid token (garbled k) (record { matter = Nothing; numbers = n }) S
+    by None h = idle-heeded t p d mid token (garbled None) n S come refl refl refl
     by (Some i) h =
-        ap (λ (n : ℕ). given_back t p (replies n R.Rst) (hears_nothing t p d S)) (sym h)
-        ∙ idle-heeded t p d mid token (garbled (Some i)) g S come refl refl refl
+        ap (λ (k : ℕ). given_back t p (replies k R.Rst) (hears_nothing t p d S)) (sym h)
+        ∙ idle-heeded t p d mid token (garbled (Some i)) n S come refl refl refl

@@ -1,11 +1,11 @@
 -- A datagram that is heard: a step keeps what holds between steps.
-use Rattle.std.proofs.Common.{◌≡◌, ℕ, zero, ◌+◌, ◌<◌, ◌⊎◌, inl, inr, Bool, true, false, cond, ltb, leb, List, [], ◌∷◌, length, Option, Some, None, Result, Ok, Err, refl, sym, ap, subst, ◌∙◌, arith}
-use Rattle.std.specs.Prelude.{option_to_list, filter, find, ◌&&◌, is_some, option_map, count_by}
+use Rattle.std.proofs.Common.{◌≡◌, ℕ, zero, ◌+◌, ◌<◌, ◌⊎◌, inl, inr, Bool, true, false, cond, ltb, leb, ◌≤◌, ◌-◌, List, [], ◌∷◌, length, Option, Some, None, Result, Ok, Err, refl, sym, ap, subst, ◌∙◌, arith}
+use Rattle.std.specs.Prelude.{map, filter, find, ◌&&◌, is_some, option_map, count_by}
 use Rattle.std.specs.List.{AllByRecursion, Contains}
-use Rattle.std.proofs.lemmas.Bool.{false≢true, leb-true, not-false}
+use Rattle.std.proofs.lemmas.Bool.{false≢true, leb-true, ltb-true, not-false}
 use Rattle.std.proofs.lemmas.Slice.Eq.{bytes_eq-Decides}
 use Rattle.std.proofs.lemmas.Option.{none-some}
-use Rattle.limits.specs.declared.TheConstants.{MAX_TRANSMIT_WAIT}
+use Rattle.limits.specs.declared.TheConstants.{MAX_MESSAGE_IDS, MAX_TRANSMIT_WAIT}
 use Rattle.coap_codec.specs.Spelling.{Content, Spells}
 use Rattle.coap_codec.specs.Reading.{message_at}
 use Rattle.coap_codec.specs.declared.fault.CodecFault.{CodecFault}
@@ -18,7 +18,7 @@ use Rattle.uri_map.specs.declared.peer.Peer.{Peer}
 use Rattle.uri_map.specs.Peers.{same_peer}
 use Rattle.uri_map.proofs.CallerLemmas.{same_peer-same}
 use Rattle.message_layer.specs.Values.{LinkState}
-use Rattle.message_layer.specs.Sending.{due_of}
+use Rattle.message_layer.specs.Sending.{due_of, mids_in_use, waits}
 use Rattle.message_layer.specs.Hearing.{is_fresh, is_repeat, replies, reset_for, heard_verdict, verdict_by, verdict_of}
 use Rattle.message_layer.specs.declared.state.Heard.{Heard}
 use Rattle.message_layer.specs.declared.state.Outstanding.{Outstanding}
@@ -27,13 +27,14 @@ use Rattle.message_layer.specs.declared.state.Reply.{Reply}
 use Rattle.message_layer.specs.declared.verdict.News.{News}
 use Rattle.message_layer.specs.declared.state.Reply.TheVariants as R
 use Rattle.message_layer.specs.declared.verdict.News.TheVariants as N
-use Rattle.journal_book.specs.Entries.{Hears}
+use Rattle.journal_book.specs.Entries.{Grounds, grounds_size, Hears, Written}
 use Rattle.history_laws.specs.Numbering.{token_number}
+use Rattle.history_laws.specs.Progress.{Ending, Whole, NotUnderstood, Reset as ResetSo, TimedOut, Turned, Progress, Fetches, Gives, Ends}
 use Rattle.history_laws.specs.Readings.{Noted, Repeats, Garbled, ticked, noted}
 use Rattle.history_laws.specs.Confirming.{owed}
 use Rattle.history_laws.specs.Hearing.{is_such, heard_before, repeated, can_be_remembered}
 use Rattle.history_laws.specs.Justified.{Legal, HasGrounds}
-use Rattle.history_laws.proofs.CallerLemmas.{all-filter, all-more, all-of, and-left, and-right, any-of, contains-later, find-any, find-some, is-some}
+use Rattle.history_laws.proofs.CallerLemmas.{all-filter, all-more, begun-keeps, some-is, all-of, and-left, and-right, any-of, contains-later, entries-length, find-any, is-some}
 use Rattle.history_links.specs.Agrees.{Start, IsFrom, due, Agrees}
 use Rattle.history_links.specs.Steps.{ended_token, heard_link, heard as heard_entry, reset}
 use Rattle.history_links.proofs.CallerLemmas.{none-before}
@@ -41,28 +42,35 @@ use Rattle.exchange_model.specs.declared.kept.Conn.{Conn}
 use Rattle.exchange_model.specs.declared.kept.Exchange.{Exchange}
 use Rattle.exchange_model.specs.declared.kept.Reader.{Reader}
 use Rattle.exchange_model.specs.State.{State, link_of}
-use Rattle.exchange_model.specs.Steps.{is_under, is_other, hears, hears_nothing, ended_in}
+use Rattle.ask_model.specs.Requests.{CoapRequest}
+use Rattle.history_laws.specs.Exchanges.{Begun}
+use Rattle.exchange_model.specs.Reads.{ExchangeIn}
+use Rattle.exchange_model.specs.Steps.{is_under, is_other, Numbers, Matter, Nothing, Goes, Over, answered_in, let_go, matter_by, matter_of, replied, comes_to, has_next_place, continued, goes_so, exchanges_by, more_by, link_with, hears, hears_nothing}
 use Rattle.exchange_model.specs.Resting.{IsUndue, LinkRests, HasExchange}
 use Rattle.exchange_model.specs.Growing.{RiseByAsk}
-use Rattle.exchange_model.specs.Laws.{Before, MayHear, Heeds}
-use Rattle.exchange_model.specs.Calls.{Telling, tell, told_for, next, given_back, takes_new, takes_by, repeats, resets, reads_so, grounds_of}
+use Rattle.exchange_model.specs.Laws.{Before, MayHear, Heeds, IsContinued}
+use Rattle.exchange_model.specs.Calls.{Telling, grounds_for, tell_of, told_for, next, given_back, takes_new, takes_by, repeats, resets, reads_so}
 use Rattle.exchange_model.specs.Keeping.{HasMids, Kept, MayStep, HearsKeeps}
 use Rattle.exchange_model.proofs.Amid.{Amid, Moved, RestAt, IsEarly, next-moves, given-moves}
 use Rattle.exchange_model.proofs.Telling.{readers_in, AreServed, IsAmong, ReadWith, all-in, all-told, kept-told}
 use Rattle.exchange_model.proofs.Readers.{ReaderIn, reader-keeps, readers-wait, readers-rise-in, readers-apart, rise-filter, Apart}
-use Rattle.exchange_model.proofs.Tellings.{is-told, reads_it, ended_list, readers-for, among-for, for-all}
-use Rattle.exchange_model.proofs.Lists.{all-both}
+use Rattle.exchange_model.proofs.Tellings.{is-told, over_in, reads_it, ended_list, grounds-bare, grounds-as, readers-for, among-for, for-all}
+use Rattle.exchange_model.proofs.Lists.{all-map, all-both}
 use Rattle.exchange_model.proofs.Outrun.{left-all, left-has}
 use Rattle.exchange_model.proofs.Opened.{cancel, OpenIn, one-rank, open-ones}
-use Rattle.exchange_model.proofs.Grounds.{GroundsOf, IsTold, grounds-for, told-grounds, told-moves, both-go}
+use Rattle.exchange_model.proofs.Brief.{IsShortFor, ends-brief}
+use Rattle.exchange_model.proofs.Calling.{IsBriefBy}
+use Rattle.exchange_model.proofs.Grounds.{GroundsFor, IsTold, told-grounds, told-moves, both-go}
+use Rattle.exchange_model.proofs.Heeded.{next-token}
 use Rattle.exchange_model.proofs.Heard.{hears-leads}
-use Rattle.exchange_model.proofs.Over.{heard-over}
+use Rattle.exchange_model.proofs.LinksHeard.{waits-with}
+use Rattle.exchange_model.proofs.Over.{IsOver, IsMatter, is-matter}
 use Rattle.exchange_model.proofs.Quiet.{repeats-leads, garbled-leads}
 use Rattle.exchange_model.proofs.Silent.{now-from}
-use Rattle.exchange_model.proofs.Stepping.{may-come, before-step}
+use Rattle.exchange_model.proofs.Stepping.{may-come, before-step, enough-ids}
 use Rattle.exchange_model.proofs.Tables.{all-links, link-same, link-other}
 
-may-hear : (t : ℕ) (p : Peer) (d : List ℕ) (S : State) (m : MayStep t S) → is_some (link_of S.links p).last_mid ≡ true → leb (length d) 2048 ≡ true → MayHear m.kept.reading t p d S
+pub may-hear : (t : ℕ) (p : Peer) (d : List ℕ) (S : State) (m : MayStep t S) → is_some (link_of S.links p).last_mid ≡ true → leb (length d) 2048 ≡ true → MayHear m.kept.reading t p d S
 may-hear t p d S m known short = record {
   before = before-step t S m;
   come = may-come t S m;
@@ -124,7 +132,7 @@ repeats-so l t p s m a later e = by (heard_before l t p m.mid) refl
     by (Some j) is = (j, rw (such) is)
     by None is = absurd (some-none h.0.reply (sym (ap (option_map (λ (k : Heard). k.reply)) h.1) ∙ (a.heard.repeats t m.mid later ∙ ap (option_map _) is)))
 
-lost-or-new : {start : Start} (l : List Noted) (t : ℕ) (p : Peer) (s : LinkState) (m : Content) (k : MsgType) → m.kind ≡ k → Agrees start l p s → IsFrom start l t → repeats t s m ≡ false
+pub lost-or-new : {start : Start} (l : List Noted) (t : ℕ) (p : Peer) (s : LinkState) (m : Content) (k : MsgType) → m.kind ≡ k → Agrees start l p s → IsFrom start l t → repeats t s m ≡ false
     → ((verdict_by t s m k).news ≡ N.Lost) ⊎ ((repeated l t p m ≡ None) × (can_be_remembered l t p m ≡ true))
 lost-or-new l t p s m k is a later e = by k is
   where
@@ -176,77 +184,133 @@ pub is-bytes : (d : List ℕ) → AllByRecursion (λ (b : ℕ). b < 256) d → I
 is-bytes [] a = tt
 is-bytes (b ∷ d) a = (a.0, is-bytes d a.1)
 
--- what was open is open still, or has just ended
-served-part : (start : Start) (l : List Noted) (S : State) (ended : Option (List ℕ)) → Legal l → AllByRecursion (OpenIn start l) S.exchanges → (k : ℕ) → HasExchange S.exchanges k
-    → HasExchange (filter (is_other ended) S.exchanges) k ⊎ HasExchange (ended_list (ended_in ended S.exchanges)) k
-served-part start l S ended legal all k h = elim (has-part (is_other ended) S.exchanges k h) [ inl w ↦ inl w | inr w ↦ inr (by ended w.0 w.1 w.2 w.3) ]
-  where
-    by : (of : Option (List ℕ)) (e : Exchange) → Contains S.exchanges e → is_other of e ≡ false → e.opening ≡ k → HasExchange (ended_list (ended_in of S.exchanges)) k
-    by None e has is at = absurd (false≢true (sym is))
-    by (Some token) e has is at = found (find (is_under token) S.exchanges) refl
-      where
-        under : is_under token e ≡ true
-        under = not-false (is_under token e) is
+-- What an exchange keeps that goes on.
 
-        found : (v : Option Exchange) → find (is_under token) S.exchanges ≡ v → HasExchange (ended_list v) k
-        found None f = absurd (find-none (is_under token) S.exchanges e f has under)
-        found (Some g) f =
-            let first = find-some (is_under token) S.exchanges g f in
-            let mine = all-of (OpenIn start l) S.exchanges e all has in
-            let its = all-of (OpenIn start l) S.exchanges g all first.0 in
-            let same : g.token ≡ e.token = (bytes_eq-Decides g.token token).0 first.1 ∙ sym ((bytes_eq-Decides e.token token).0 under) in
-            inl (one-rank l g.opening e.opening _ _ legal its.0.opening mine.0.opening its.1 mine.1 (cancel start.issued _ _ (its.0.number ∙ (ap token_number same ∙ sym mine.0.number))) ∙ at)
+goes-opening : (e : Exchange) (token : List ℕ) (progress : Progress) (y : Exchange) → (goes_so e token progress y).opening ≡ y.opening
+goes-opening e token progress y = by (is_under e.token y) progress
+  where
+    by : (b : Bool) (progress : Progress) → (cond b (continued token progress y) y).opening ≡ y.opening
+    by false progress = refl
+    by true progress = refl
+
+goes-since : (e : Exchange) (token : List ℕ) (progress : Progress) (y : Exchange) → (goes_so e token progress y).since ≡ y.since
+goes-since e token progress y = by (is_under e.token y) progress
+  where
+    by : (b : Bool) (progress : Progress) → (cond b (continued token progress y) y).since ≡ y.since
+    by false progress = refl
+    by true progress = refl
+
+goes-has : (e : Exchange) (token : List ℕ) (progress : Progress) (es : List Exchange) (k : ℕ) → HasExchange es k → HasExchange (map (goes_so e token progress) es) k
+goes-has e token progress [] k h = absurd h
+goes-has e token progress (y ∷ es) k (inl h) = inl (goes-opening e token progress y ∙ h)
+goes-has e token progress (y ∷ es) k (inr h) = inr (goes-has e token progress es k h)
+
+by-since : (tick : ℕ) (ws : List Written) (token : List ℕ) (x : Matter) (es : List Exchange) → AllByRecursion (λ (e : Exchange). tick < e.since + MAX_TRANSMIT_WAIT) es
+    → AllByRecursion (λ (e : Exchange). tick < e.since + MAX_TRANSMIT_WAIT) (exchanges_by ws token x es)
+by-since tick ws token Nothing es a = a
+by-since tick ws token (Goes e progress) es a =
+    all-map (goes_so e token progress) (λ (y : Exchange). tick < y.since + MAX_TRANSMIT_WAIT) es
+    (all-more (λ (y : Exchange). tick < y.since + MAX_TRANSMIT_WAIT) (λ (y : Exchange). tick < (goes_so e token progress y).since + MAX_TRANSMIT_WAIT)
+    (λ y h. subst (λ (n : ℕ). tick < n + MAX_TRANSMIT_WAIT) (sym (goes-since e token progress y)) h) es a)
+by-since tick ws token (Over e how) es a =
+    left-all (λ (e : Exchange). tick < e.since + MAX_TRANSMIT_WAIT) (λ e h. h) ws (e ∷ []) (filter (is_other e.token) es)
+    (all-filter (λ (e : Exchange). tick < e.since + MAX_TRANSMIT_WAIT) (is_other e.token) es a)
+
+-- what was open is open still, or has just ended
+served-part : (start : Start) (l : List Noted) (S : State) (token : List ℕ) (x : Matter) → Legal l → AllByRecursion (OpenIn start l) S.exchanges
+    → ((e : Exchange) (how : Ending) → x ≡ Over e how → Contains S.exchanges e) → (k : ℕ) → HasExchange S.exchanges k
+    → HasExchange (exchanges_by S.entries token x S.exchanges) k ⊎ HasExchange (ended_list (over_in x)) k
+served-part start l S token Nothing legal all among k h = inl h
+served-part start l S token (Goes e progress) legal all among k h = inl (goes-has e token progress S.exchanges k h)
+served-part start l S token (Over e how) legal all among k h = elim (has-part (is_other e.token) S.exchanges k h) [
+  | inl w ↦ inl (left-has S.entries (e ∷ []) (filter (is_other e.token) S.exchanges) k w)
+  | inr w ↦ inr (inl (by w.0 w.1 w.2 ∙ w.3))
+]
+  where
+    by : (y : Exchange) → Contains S.exchanges y → is_other e.token y ≡ false → e.opening ≡ y.opening
+    by y has is =
+        let its = all-of (OpenIn start l) S.exchanges e all (among e how refl) in
+        let mine = all-of (OpenIn start l) S.exchanges y all has in
+        let same : y.token ≡ e.token = (bytes_eq-Decides y.token e.token).0 (not-false (is_under e.token y) is) in
+        one-rank l e.opening y.opening _ _ legal its.0.opening mine.0.opening its.1 mine.1 (cancel start.issued _ _ (its.0.number ∙ (ap token_number (sym same) ∙ sym mine.0.number)))
+
+-- There is a place for the next message of an exchange that goes on.
+
+replied-goes : (place : Bool) (f : Exchange) (u : Progress) (e : Exchange) (progress : Progress) → replied place f u ≡ Goes e progress → place ≡ true
+replied-goes true f u e progress h = refl
+replied-goes false f (Fetches restarts pieces got) e progress h = absurd cc
+replied-goes false f (Gives upload got) e progress h = absurd cc
+replied-goes false f (Ends how) e progress h = absurd cc
+
+goes-place : (news : News) (place : Bool) (m : Content) (S : State) (v : Option Exchange) (e : Exchange) (progress : Progress)
+    → matter_by news place m S v ≡ Goes e progress → place ≡ true
+goes-place news place m S None e progress h = absurd cc
+goes-place (N.Reset token) place m S (Some f) e progress h = absurd cc
+goes-place N.Quiet place m S (Some f) e progress h = replied-goes place f (comes_to m S f) e progress h
+goes-place N.Response place m S (Some f) e progress h = replied-goes place f (comes_to m S f) e progress h
+goes-place N.Lost place m S (Some f) e progress h = replied-goes place f (comes_to m S f) e progress h
+
+ids-with : (t : ℕ) (x : Matter) (n : Numbers) (s u : LinkState) → HasMids u → mids_in_use t u ≡ mids_in_use t s
+    → ((e : Exchange) (progress : Progress) → x ≡ Goes e progress → mids_in_use t s < MAX_MESSAGE_IDS) → HasMids (link_with t (more_by n x) u)
+ids-with t Nothing n s u h same few = h
+ids-with t (Over e how) n s u h same few = h
+ids-with t (Goes e progress) n s u h same few =
+    let less = few e progress refl in enough-ids t u (waits n.token n.text n.word) h (omega arith) (omega (arith, less, same))
 
 early-after : (tick : ℕ) (ends : Bool) (v : Option Outstanding) (ws : List Waiting) (o : Outstanding) → IsUndue tick v ws → cond ends None v ≡ Some o → tick < due_of o
 early-after tick true v ws o h e = cc
 early-after tick false v ws o h e = subst (λ (k : Option Outstanding). IsUndue tick k ws) e h
 
-new-keeps : (t : ℕ) (p : Peer) (d : List ℕ) (mess : Content) (S : State) (m : MayStep t S) → MayHear m.kept.reading t p d S → Spells mess d → repeated m.kept.reading t p mess ≡ None
-    → can_be_remembered m.kept.reading t p mess ≡ true → Kept (takes_new t p d mess (verdict_of t (link_of S.links p) mess) S)
-new-keeps t p d mess S m h spelled none room =
+new-keeps : (t : ℕ) (p : Peer) (d : List ℕ) (mess : Content) (n : Numbers) (S : State) (m : MayStep t S) → MayHear m.kept.reading t p d S → Spells mess d → repeated m.kept.reading t p mess ≡ None
+    → can_be_remembered m.kept.reading t p mess ≡ true
+    → ((e : Exchange) (progress : Progress) → matter_of t p mess (verdict_of t (link_of S.links p) mess) S ≡ Goes e progress → IsContinued e progress n S)
+    → Kept (takes_new t p d mess (verdict_of t (link_of S.links p) mess) n S)
+new-keeps t p d mess n S m h spelled none room onward =
     let l = m.kept.reading in
     let rests = m.kept.rests in
     let s = link_of S.links p in
     let v = verdict_of t s mess in
     let x = heard_entry l t p d mess in
-    let made = hears-leads l t p d mess S h spelled none room in
-    let S1 = hears t p d mess S in
-    let new = heard_link t mess.mid mess.token v s in
-    let other = is_other (ended_token v.news mess.token) in
-    let over = option_to_list (ended_in (ended_token v.news mess.token) S.exchanges) in
+    let mt = matter_of t p mess v S in
+    let made = hears-leads l t p d mess n S h spelled none room onward in
+    let S1 = hears t p d mess n S in
+    let heard_so = heard_link t mess.mid mess.token v s in
+    let new = link_with t (more_by n mt) heard_so in
+    let ids : HasMids new = ids-with t mt n s heard_so (record { small = (m.kept.mids p).small; enough = (m.kept.mids p).enough }) refl
+    (λ e progress is. ltb-true _ _ (and-right (ltb (length s.waiting - let_go v) 64) _ (goes-place v.news (has_next_place t p v S) mess S (answered_in (ended_token v.news mess.token) S.exchanges) e progress is))) in
     let amid : Amid (x ∷ l) t S1 = record {
       before = record { reads = made.leads.reads; later = omega arith };
       unsealed = m.unsealed;
-      mids = all-links (λ (q : Peer) (u : LinkState). HasMids u) p new S.links (record { small = (m.kept.mids p).small; enough = (m.kept.mids p).enough }) (λ q away. m.kept.mids q);
-      in_time = left-all (λ (e : Exchange). ticked l < e.since + MAX_TRANSMIT_WAIT) (λ e h. h) S.entries over (filter other S.exchanges)
-          (all-filter (λ (e : Exchange). ticked l < e.since + MAX_TRANSMIT_WAIT) other S.exchanges rests.in_time);
+      mids = all-links (λ (q : Peer) (u : LinkState). HasMids u) p new S.links ids (λ q away. m.kept.mids q);
+      in_time = by-since (ticked l) S.entries n.token mt S.exchanges rests.in_time;
     } in
     let given = given-moves (x ∷ l) t p S1 mess.mid v.reply amid made.owes in
     let S2 = given_back t p (replies mess.mid v.reply) S1 in
     let here : link_of S2.links p ≡ new = given.2 ∙ link-same p new S.links in
     let early : IsEarly given.0 S2 p = λ o is. subst (λ (k : ℕ). k < due_of o) (sym given.1.goes.tick)
-    (early-after (ticked l) v.ends s.outstanding s.waiting o (rests.links p) (sym (ap (λ (u : LinkState). u.outstanding) here) ∙ is)) in
+    (early-after (ticked l) v.ends s.outstanding s.waiting o (rests.links p) (sym (waits-with t (more_by n mt) heard_so) ∙ (sym (ap (λ (u : LinkState). u.outstanding) here) ∙ is))) in
     let moved = next-moves given.0 t p S2 given.1.amid given.1.quiet early in
     let S3 = next t p S2 in
     let goes = both-go (x ∷ l) given.0 moved.0 given.1.goes moved.1.goes in
     let rest : (q : Peer) → RestAt moved.0 S3 q = λ q. all-rest q moved.0 S3 moved.2 goes.tick (λ away. moved.1.others q away ∙ (given.1.others q away ∙ link-other p q new away S.links)) (same_peer p q) refl in
-    let xs = told_for (ended_in (ended_token v.news mess.token) S.exchanges) (grounds_of v mess S) S.readers in
+    let k = length S.entries in
+    let xs = told_for k mt S.readers in
     let readers_same : S3.readers ≡ S.readers = moved.1.readers ∙ given.1.readers in
     let readers : AllByRecursion (ReaderIn l) S.readers = subst (AllByRecursion (ReaderIn l)) rests.reads.readers_are (readers-wait l rests.reads.legal) in
-    let q = reads_it (ended_in (ended_token v.news mess.token) S.exchanges) in
-    let listed = readers-for (ended_in (ended_token v.news mess.token) S.exchanges) (grounds_of v mess S) S.readers in
+    let q = reads_it (over_in mt) in
+    let listed = readers-for k mt S.readers in
     let apart : Apart (readers_in xs) = rw (listed)
     (readers-apart l _ (rise-filter q S.readers (subst RiseByAsk rests.reads.readers_are (readers-rise-in l rests.reads.legal))) (all-filter (ReaderIn l) q S.readers readers)) in
     let has : AllByRecursion (Contains S3.readers) (readers_in xs) = rw (listed, readers_same) (all-filter (Contains S.readers) q S.readers (all-in S.readers)) in
-    let grounds = for-all (IsTold (x ∷ l)) (ReaderIn (x ∷ l)) (ended_in (ended_token v.news mess.token) S.exchanges) (grounds_of v mess S) S.readers
-    (λ e r is a same. is-told (x ∷ l) (tell (grounds_of v mess S) r) a (grounds-for (x ∷ l) r.ask r.opening (grounds_of v mess S) (subst (λ (o : ℕ). GroundsOf (x ∷ l) o (grounds_of v mess S)) (sym same) (heard-over l t p d mess S h none room e is))))
+    let grounds = for-all (IsTold (x ∷ l)) (ReaderIn (x ∷ l)) k mt S.readers
+    (λ e how r is a same. is-told (x ∷ l) (tell_of how k e.sending r) a (over-grounds e how r is same))
     (all-more (ReaderIn l) (ReaderIn (x ∷ l)) (λ r k. reader-keeps x l r (λ e. e) refl refl k) S.readers readers) in
     let told = all-told xs moved.0 t S3 moved.1.amid.before moved.1.quiet (rw (readers_same, moved.1.conns, given.1.conns) rests.served) has apart
     (all-more (IsTold (x ∷ l)) (λ (y : Telling). HasGrounds moved.0 t y.reader.ask y.grounds) (λ y k. told-grounds moved.0 t y (told-moves (x ∷ l) moved.0 y goes k)) xs grounds) in
     let reading : ReadWith S3.exchanges xs S3.readers = rw (readers_same)
-    (all-more (λ (r : Reader). HasExchange S.exchanges r.opening × (HasExchange (ended_list (ended_in (ended_token v.news mess.token) S.exchanges)) r.opening → IsAmong xs r.ask)) _
-    (λ r k. still S3.exchanges xs r (λ j w. moved.1.has j (given.1.has j (left-has S.entries over (filter other S.exchanges) j w))) k) S.readers
-    (all-both _ _ S.readers rests.reading (among-for (ended_in (ended_token v.news mess.token) S.exchanges) (grounds_of v mess S) S.readers))) in
+    (all-more (λ (r : Reader). HasExchange S.exchanges r.opening × (HasExchange (ended_list (over_in mt)) r.opening → IsAmong xs r.ask)) _
+    (λ r k. still S3.exchanges xs r (λ j w. moved.1.has j (given.1.has j w)) k) S.readers
+    (all-both _ _ S.readers rests.reading (among-for k mt S.readers))) in
     kept-told moved.0 t xs S3 told.0 told.1 rest moved.1.amid.in_time reading moved.1.amid.mids
   where
     all-rest : (q : Peer) (n : List Noted) (S3 : State) → RestAt n S3 p → ticked n ≡ ticked m.kept.reading → (same_peer p q ≡ false → link_of S3.links q ≡ link_of S.links q)
@@ -254,16 +318,35 @@ new-keeps t p d mess S m h spelled none room =
     all-rest q n S3 rest tick others true is = subst (RestAt n S3) (same_peer-same p q is) rest
     all-rest q n S3 rest tick others false is = rw (others is, tick) (m.kept.rests.links q)
 
-    still : (es : List Exchange) (xs : List Telling) (r : Reader) → ((k : ℕ) → HasExchange (filter (is_other (ended_token (verdict_of t (link_of S.links p) mess).news mess.token)) S.exchanges) k → HasExchange es k)
-        → HasExchange S.exchanges r.opening × (HasExchange (ended_list (ended_in (ended_token (verdict_of t (link_of S.links p) mess).news mess.token) S.exchanges)) r.opening → IsAmong xs r.ask)
+    over : (e : Exchange) (how : Ending) → matter_of t p mess (verdict_of t (link_of S.links p) mess) S ≡ Over e how
+        → IsOver h.before.reads.start m.kept.reading t p d mess S e how
+    over e how is = subst (IsMatter h.before.reads.start m.kept.reading t p d mess S) is (is-matter m.kept.reading t p d mess S h none room)
+
+    over-grounds : (e : Exchange) (how : Ending) (r : Reader) → matter_of t p mess (verdict_of t (link_of S.links p) mess) S ≡ Over e how → r.opening ≡ e.opening
+        → GroundsFor (heard_entry m.kept.reading t p d mess ∷ m.kept.reading) r.ask r.opening (grounds_for how (length S.entries) e.sending r)
+    over-grounds e how r is same =
+        let l = m.kept.reading in
+        let x = heard_entry l t p d mess in
+        let it = over e how is in
+        let long : length l ≡ length S.entries = sym (entries-length l) ∙ ap length m.kept.rests.reads.entries_are in
+        let told : GroundsFor (x ∷ l) r.ask e.opening (grounds_for it.real (length l) e.sending r) = grounds-as (x ∷ l) e.opening (length l) it.real e.sending r it.ends it.it.kept.sending in
+        let equal : grounds_for it.real (length l) e.sending r ≡ grounds_for how (length S.entries) e.sending r =
+        ap (λ (k : ℕ). grounds_for it.real k e.sending r) long ∙ (grounds-bare it.real (length S.entries) e.sending r ∙ ap (λ (u : Ending). grounds_for u (length S.entries) e.sending r) (sym it.same)) in
+        subst (λ (o : ℕ). GroundsFor (x ∷ l) r.ask o (grounds_for how (length S.entries) e.sending r)) (sym same)
+        (subst (GroundsFor (x ∷ l) r.ask e.opening) equal told)
+
+    still : (es : List Exchange) (xs : List Telling) (r : Reader)
+        → ((k : ℕ) → HasExchange (exchanges_by S.entries n.token (matter_of t p mess (verdict_of t (link_of S.links p) mess) S) S.exchanges) k → HasExchange es k)
+        → HasExchange S.exchanges r.opening × (HasExchange (ended_list (over_in (matter_of t p mess (verdict_of t (link_of S.links p) mess) S))) r.opening → IsAmong xs r.ask)
         → HasExchange es r.opening ⊎ IsAmong xs r.ask
-    still es xs r has h = elim (served-part m.kept.rests.reads.start m.kept.reading S (ended_token (verdict_of t (link_of S.links p) mess).news mess.token) m.kept.rests.reads.legal (open-ones m.kept.reading S m.kept.rests.reads) r.opening h.0) [
-      | inl w ↦ inl (has r.opening w)
-      | inr w ↦ inr (h.1 w)
-    ]
+    still es xs r has k = elim (served-part m.kept.rests.reads.start m.kept.reading S n.token (matter_of t p mess (verdict_of t (link_of S.links p) mess) S) m.kept.rests.reads.legal
+        (open-ones m.kept.reading S m.kept.rests.reads) (λ e how is. (over e how is).it.has) r.opening k.0) [
+          | inl w ↦ inl (has r.opening w)
+          | inr w ↦ inr (k.1 w)
+        ]
 
 pub hears-keeps : HearsKeeps
-hears-keeps t p d S m bytes = by (is_some (link_of S.links p).last_mid) refl (leb (length d) 2048) refl
+hears-keeps t p d n S m bytes onward = by (is_some (link_of S.links p).last_mid) refl (leb (length d) 2048) refl
   where
     l : List Noted
     l = m.kept.reading
@@ -301,37 +384,71 @@ hears-keeps t p d S m bytes = by (is_some (link_of S.links p).last_mid) refl (le
         let made = repeats-leads l t p d k j.0 S h spelled j.1 in
         answered-only t p S (hears_nothing t p d S) (noted t (Hears p d) (Repeats k j.0)) k.mid (verdict_of t s k).reply m (record { reads = made.leads.reads; later = omega arith }) m.unsealed refl refl refl refl refl made.owes
 
-    fresh : MayHear l t p d S → (k : Content) → Spells k d → repeats t s k ≡ false → ((verdict_of t s k).news ≡ N.Lost → ⊥) → Kept (takes_new t p d k (verdict_of t s k) S)
-    fresh h k spelled e kept = elim (lost-or-new l t p s k k.kind refl agrees later e) [
+    fresh : MayHear l t p d S → (k : Content) → message_at d ≡ Ok k → Spells k d → repeats t s k ≡ false → ((verdict_of t s k).news ≡ N.Lost → ⊥) → Kept (takes_new t p d k (verdict_of t s k) n S)
+    fresh h k at spelled e kept = elim (lost-or-new l t p s k k.kind refl agrees later e) [
       | inl w ↦ absurd (kept w)
-      | inr w ↦ new-keeps t p d k S m h spelled w.0 w.1
+      | inr w ↦ new-keeps t p d k n S m h spelled w.0 w.1 (next-token t p d k n S at onward e)
     ]
 
-    new : MayHear l t p d S → (k : Content) → Spells k d → repeats t s k ≡ false → (news : News) → (verdict_of t s k).news ≡ news → Kept (takes_by t p d k (verdict_of t s k) news S)
-    new h k spelled e N.Lost is = m.kept
-    new h k spelled e N.Quiet is = fresh h k spelled e (λ w. quiet-lost (sym is ∙ w))
+    new : MayHear l t p d S → (k : Content) → message_at d ≡ Ok k → Spells k d → repeats t s k ≡ false → (news : News) → (verdict_of t s k).news ≡ news → Kept (takes_by t p d k (verdict_of t s k) n news S)
+    new h k at spelled e N.Lost is = m.kept
+    new h k at spelled e N.Quiet is = fresh h k at spelled e (λ w. quiet-lost (sym is ∙ w))
       where
         quiet-lost : N.Quiet ≡ N.Lost → ⊥
         quiet-lost w = cc
-    new h k spelled e N.Response is = fresh h k spelled e (λ w. response-lost (sym is ∙ w))
+    new h k at spelled e N.Response is = fresh h k at spelled e (λ w. response-lost (sym is ∙ w))
       where
         response-lost : N.Response ≡ N.Lost → ⊥
         response-lost w = cc
-    new h k spelled e (N.Reset token) is = fresh h k spelled e (λ w. reset-lost (sym is ∙ w))
+    new h k at spelled e (N.Reset token) is = fresh h k at spelled e (λ w. reset-lost (sym is ∙ w))
       where
         reset-lost : N.Reset token ≡ N.Lost → ⊥
         reset-lost w = cc
 
-    message : MayHear l t p d S → (k : Content) → Spells k d → (b : Bool) → repeats t s k ≡ b
-        → Kept (cond b (given_back t p (replies k.mid (verdict_of t s k).reply) (hears_nothing t p d S)) (takes_by t p d k (verdict_of t s k) (verdict_of t s k).news S))
-    message h k spelled true e = again h k spelled e
-    message h k spelled false e = new h k spelled e (verdict_of t s k).news refl
+    message : MayHear l t p d S → (k : Content) → message_at d ≡ Ok k → Spells k d → (b : Bool) → repeats t s k ≡ b
+        → Kept (cond b (given_back t p (replies k.mid (verdict_of t s k).reply) (hears_nothing t p d S)) (takes_by t p d k (verdict_of t s k) n (verdict_of t s k).news S))
+    message h k at spelled true e = again h k spelled e
+    message h k at spelled false e = new h k at spelled e (verdict_of t s k).news refl
 
-    read : MayHear l t p d S → (r : Result Content CodecFault) → message_at d ≡ r → Kept (reads_so t p d r S)
-    read h (Ok k) is = message h k (message_takes d k (is-bytes d bytes) is) (repeats t s k) refl
+    read : MayHear l t p d S → (r : Result Content CodecFault) → message_at d ≡ r → Kept (reads_so t p d n r S)
+    read h (Ok k) is = message h k is (message_takes d k (is-bytes d bytes) is) (repeats t s k) refl
     read h (Err e) is = garbled h e is
 
-    by : (b : Bool) → is_some (link_of S.links p).last_mid ≡ b → (c : Bool) → leb (length d) 2048 ≡ c → Kept (cond (b && c) (reads_so t p d (message_at d) S) S)
+    by : (b : Bool) → is_some (link_of S.links p).last_mid ≡ b → (c : Bool) → leb (length d) 2048 ≡ c → Kept (cond (b && c) (reads_so t p d n (message_at d) S) S)
     by true known true short = read (may-hear t p d S m known short) (message_at d) refl
     by true known false long = m.kept
     by false none c any = m.kept
+
+-- The body that it was opened for keeps its limit.
+short-for : {start : Start} (l : List Noted) (x : Noted) (e : Exchange) → ExchangeIn start l e → IsShortFor (x ∷ l) e.opening
+short-for l x e a b opened write =
+    subst (λ (q : CoapRequest). length q.body ≤ 65536)
+    (ap (λ (b : Begun). b.request) (some-is _ _ (sym (begun-keeps x l e.opening _ a.opening) ∙ opened))) a.short
+
+-- What an exchange ended with by it isn't long.
+pub heard-brief : (t : ℕ) (p : Peer) (d : List ℕ) (S : State) → MayStep t S → IsBriefBy t p d S
+heard-brief t p d S m k at again kept known short e how r is = elim (lost-or-new l t p s k k.kind refl (m.kept.rests.reads.links_are p) later again) [
+  | inl w ↦ absurd (kept w)
+  | inr w ↦
+      let h = may-hear t p d S m known short in
+      let it : IsOver h.before.reads.start l t p d k S e how = subst (IsMatter h.before.reads.start l t p d k S) is (is-matter l t p d k S h w.0 w.1) in
+      let small = ends-brief (heard_entry l t p d k ∷ l) e.opening (length l) it.real e.sending r (short-for l (heard_entry l t p d k) e it.it.kept) it.ends in
+      let as_real : grounds_size (grounds_for it.real (length S.entries) e.sending r) ≤ 16388 = any-number it.real (length l) (length S.entries) e.sending r small in
+      subst (λ (g : Grounds). grounds_size g ≤ 16388) (grounds-bare it.real (length S.entries) e.sending r ∙ ap (λ (u : Ending). grounds_for u (length S.entries) e.sending r) (sym it.same)) as_real
+]
+  where
+    l : List Noted
+    l = m.kept.reading
+
+    s : LinkState
+    s = link_of S.links p
+
+    later : IsFrom m.kept.rests.reads.start l t
+    later = now-from l t S record { reads = m.kept.rests.reads; later = m.later }
+
+    any-number : (how : Ending) (i j : ℕ) (sending : Option ℕ) (r : Reader) → grounds_size (grounds_for how i sending r) ≤ 16388 → grounds_size (grounds_for how j sending r) ≤ 16388
+    any-number (Whole w rs) i j sending r h = h
+    any-number NotUnderstood i j sending r h = h
+    any-number ResetSo i j sending r h = h
+    any-number TimedOut i j sending r h = h
+    any-number Turned i j sending r h = h

@@ -26,7 +26,7 @@ use Rattle.exchange_model.proofs.Adding.{Adds, counted}
 use Rattle.exchange_model.proofs.ToldAdds.{late-adds, kept-served}
 use Rattle.exchange_model.proofs.Calling.{opens-adds, asked-adds, heard-adds}
 use Rattle.exchange_model.proofs.Counting.{count-filter}
-use Rattle.exchange_model.proofs.Heeding.{hears-keeps}
+use Rattle.exchange_model.proofs.Heeding.{hears-keeps, heard-brief}
 use Rattle.exchange_model.proofs.Late.{late-kept, late-prompt}
 use Rattle.exchange_model.proofs.Stepping.{start-keeps, opens-keeps, shuts-keeps, seals-keeps, asks-keeps}
 use Rattle.exchange_model.proofs.Tallies.{is_busy, conns-count, asks-count, busy-count}
@@ -140,8 +140,8 @@ guarded t S S1 k step = by S.sealed refl
 three : (l : List Noted) → 3 ≤ H.step_entries l
 three l = le-max_left 3 (1 + H.outstanding_count l)
 
-an-ask : (l : List Noted) → 2189296 ≤ H.step_bytes l
-an-ask l = le-max_left 2189296 (64 + H.sending_size * H.outstanding_count l)
+an-ask : (l : List Noted) → 2189304 ≤ H.step_bytes l
+an-ask l = le-max_left 2189304 (64 + H.sending_size * H.outstanding_count l)
 
 -- the calls
 
@@ -184,18 +184,19 @@ asks-in-room t c a n S k later has proper numbered sized = guarded t S (asked t 
     let few = three l in
     let small = an-ask l in
     let size = sized.request in
-    stepped t S (asked t c a n S) 3 (92144 + came_size a.came) k unsealed later
+    stepped t S (asked t c a n S) 3 (92152 + came_size a.came) k unsealed later
     (asks-keeps t c a n S (may-step t S k unsealed later) has proper numbered)
     (asked-adds l t c a n S k.kept.rests.reads (tidy-of S k) has sized.message) few
     (omega (arith, small, size)))
 
 pub hears-in-room : HearsInRoom
-hears-in-room t p d S k later bytes = guarded t S (heard t p d S) k
+hears-in-room t p d n S k later bytes onward short = guarded t S (heard t p d n S) k
     (λ unsealed.
     let l = k.kept.reading in
     let small = an-ask l in
-    stepped t S (heard t p d S) 3 4260 k unsealed later
-    (hears-keeps t p d S (may-step t S k unsealed later) bytes) (heard-adds t p d S (tidy-of S k) (kept-served l S k.kept.rests.reads))
+    let may = may-step t S k unsealed later in
+    stepped t S (heard t p d n S) 3 4268 k unsealed later (hears-keeps t p d n S may bytes onward)
+    (heard-adds t p d n S (tidy-of S k) (kept-served l S k.kept.rests.reads) short (heard-brief t p d S may))
     (three l) (omega (arith, small)))
 
 -- a tick
@@ -221,8 +222,8 @@ tick-full t S k unsealed e =
     let n = count_by (is_busy S.links) (map peer_of S.links) in
     let busy = busy-count l S r.reads k.apart in
     let few = le-max_right 3 (1 + H.outstanding_count l) in
-    let small = le-max_right 2189296 (64 + H.sending_size * H.outstanding_count l) in
-    full l S (ticked t S) (1 + n) (64 + 2080 * n) r.reads unsealed
+    let small = le-max_right 2189304 (64 + H.sending_size * H.outstanding_count l) in
+    full l S (ticked t S) (1 + n) (64 + 2088 * n) r.reads unsealed
     (ticked-adds t _ S (tidy-of S k) (kept-served l S r.reads) r.links) e (omega (arith, busy, few))
     (omega (arith, busy, small))
 

@@ -1,14 +1,11 @@
 -- A GET joins in the history what it joins in the state.
-use Rattle.std.proofs.Common.{◌≡◌, ℕ, Bool, true, false, not, cond, List, [], ◌∷◌, map, Option, Some, None, refl, sym, ap, ◌∙◌}
+use Rattle.std.proofs.Common.{◌≡◌, ℕ, Bool, true, false, not, cond, List, [], ◌∷◌, map, Some, refl, sym, ap, ◌∙◌}
 use Rattle.std.specs.Prelude.{◌&&◌, find, option_map}
 use Rattle.std.specs.List.{AllByRecursion}
-use Rattle.std.specs.Option.{option_map_or}
-use Rattle.cache_key.specs.declared.place.Place.{Place}
 use Rattle.ask_model.specs.Requests.{CoapRequest}
 use Rattle.ask_model.specs.Sharing.{asked_place, asks_same}
 use Rattle.ask_model.proofs.CallerLemmas.{same-place}
 use Rattle.history_laws.specs.Readings.{Noted}
-use Rattle.history_laws.specs.Exchanges.{open_exchanges}
 use Rattle.history_laws.specs.Joining.{outrun, is_joinable, joins}
 use Rattle.history_laws.proofs.CallerLemmas.{all-more}
 use Rattle.exchange_model.specs.declared.kept.Exchange.{Exchange}

@@ -1,38 +1,31 @@
 -- A tick of a sealed core: who waits for an exchange that is past is answered.
 use Rattle.history_links.specs.Agrees.{Start}
-use Rattle.std.proofs.Common.{◌≡◌, ◌⊎◌, ℕ, ◌+◌, ◌<◌, ◌≤◌, Bool, true, false, cond, inl, inr, List, [], ◌∷◌, Option, Some, None, refl, sym, ap, subst, ◌∙◌, arith}
-use Rattle.std.specs.Prelude.{filter, fold, unwrap_or}
-use Rattle.std.specs.List.{AllByRecursion, Contains, list_any}
+use Rattle.std.proofs.Common.{◌≡◌, ◌⊎◌, ℕ, ◌+◌, ◌<◌, ◌≤◌, Bool, true, false, cond, inl, inr, List, [], ◌∷◌, Option, Some, None, refl, sym, ap, subst, ◌∙◌}
+use Rattle.std.specs.Prelude.{filter, unwrap_or}
+use Rattle.std.specs.List.{AllByRecursion, Contains}
 use Rattle.std.proofs.lemmas.Bool.{false≢true}
 use Rattle.std.proofs.lemmas.Bool.Decides.{eqb_tells, leb_tells}
-use Rattle.std.proofs.lemmas.List.Elements.{All-contains_itself, recursion_from_All}
 use Rattle.limits.specs.declared.TheConstants.{MAX_TRANSMIT_WAIT}
-use Rattle.ask_model.specs.declared.cause.Cause.TheVariants as C
-use Rattle.journal_book.specs.Entries.{Grounds, Fault}
-use Rattle.history_laws.specs.Readings.{Noted, Begins}
+use Rattle.history_laws.specs.Readings.{Noted}
 use Rattle.history_laws.specs.Connections.{is_sealed}
 use Rattle.history_laws.specs.Transmissions.{sent_last}
 use Rattle.history_laws.specs.Exchanges.{end_of, is_late, begun}
 use Rattle.history_laws.specs.Justified.{HasGrounds}
-use Rattle.history_laws.proofs.CallerLemmas.{all-filter, all-more, all-of, all-passes, none-of, none-some}
+use Rattle.history_laws.proofs.CallerLemmas.{all-filter, all-more, all-of, all-passes, none-of}
 use Rattle.exchange_model.specs.declared.kept.Exchange.{Exchange}
 use Rattle.exchange_model.specs.declared.kept.Reader.{Reader}
-use Rattle.exchange_model.specs.State.{State, pend}
-use Rattle.exchange_model.specs.Steps.{answers, is_past}
-use Rattle.exchange_model.specs.Resting.{IsServed, HasConn}
+use Rattle.exchange_model.specs.State.{State}
+use Rattle.exchange_model.specs.Steps.{is_past}
 use Rattle.exchange_model.specs.Calls.{Telling, is_reader_of, timeout_for, told_late}
 use Rattle.exchange_model.specs.Keeping.{Kept}
 use Rattle.exchange_model.specs.Sealing.{late, IsPrompt, ArePrompt}
-use Rattle.exchange_model.proofs.ConnsTell.{conns-tell}
 use Rattle.exchange_model.proofs.Readers.{ReaderIn, readers-wait, readers-rise-in, readers-apart, rise-filter, Apart}
 use Rattle.exchange_model.proofs.Telling.{readers_in, Told, all-in, all-told, kept-told, tells-exchanges}
 use Rattle.exchange_model.proofs.Tellings.{late_reads, readers-late, among-late, late-all}
 use Rattle.exchange_model.specs.Growing.{RiseByAsk}
 use Rattle.exchange_model.specs.Resting.{HasExchange}
-use Rattle.exchange_model.proofs.Lists.{all-map, all-both}
+use Rattle.exchange_model.proofs.Lists.{all-both}
 use Rattle.exchange_model.proofs.Opened.{OpenIn, open-ones}
-use Rattle.exchange_model.proofs.Silent.{answers-leads}
-use Rattle.exchange_model.proofs.TimingOut.{own-asked, sent-alike}
 
 -- That an exchange is past is a reason in a sealed journal.
 overdue : {start : Start} (l : List Noted) (t : ℕ) (e : Exchange) (r : Reader) → OpenIn start l e → ReaderIn l r → r.opening ≡ e.opening → is_sealed l ≡ true
@@ -42,7 +35,7 @@ overdue l t e r a w same sealed past =
     let late_now : is_late t (begun l e.opening) ≡ true = rw (a.0.opening) past in (
       e.opening,
       rw (w.stands, w.reads) (ap Some same),
-      named e.sending (sent-alike l e.opening (own-asked l e a.0) going ∙ a.0.sending),
+      named e.sending a.0.sending,
       inr (sealed, going, late_now),
     )
   where

@@ -14,6 +14,8 @@ mod Turned
 mod TurnedRoom
 mod Outrun
 mod Joined
+mod Bare
+mod Pieces
 mod Tables
 mod Silent
 mod Quiet
@@ -31,6 +33,7 @@ mod Heard
 mod Conns
 mod ConnsTell
 mod Readers
+mod Brief
 mod Known
 mod Resting
 mod Grounds
@@ -41,7 +44,16 @@ mod Expiring
 mod Passing
 mod Stepping
 mod Heeding
+mod Comes
+mod Places
 mod Over
+mod Answered
+mod Fetched
+mod Onward
+mod Left
+mod LeftAlone
+mod LeftOver
+mod LeftGoing
 mod Moving
 mod TimingOut
 mod Ticking
@@ -69,3 +81,5 @@ mod Alone
 mod InRoom
 mod Grown
 mod Numbered
+mod OverTold
+mod Works

@@ -1,5 +1,6 @@
 -- What hearing a datagram makes of a link, as the step does it.
-use Rattle.std.proofs.Common.{◌≡◌, ℕ, Bool, true, false, cond, not, ltb, leb, inl, inr, List, [], ◌∷◌, ◌++◌, Option, Some, None, refl, sym, ap, ◌∙◌}
+use Rattle.std.proofs.Common.{◌≡◌, ℕ, Bool, true, false, cond, not, ◌||◌, ltb, leb, inl, inr, List, [], ◌∷◌, ◌++◌, Option, Some, None, refl, sym, ap, ◌∙◌}
+use Rattle.std.specs.Prelude.{is_none, is_some}
 use Rattle.std.specs.Str.{bytes_eq}
 use Rattle.std.proofs.lemmas.Bool.{false≢true, lt-ltb, le-ltb}
 use Rattle.std.proofs.lemmas.Bool.Decides.{leb_tells}
@@ -8,7 +9,9 @@ use Rattle.coap_codec.specs.Spelling.{Content}
 use Rattle.uri_map.specs.declared.peer.Peer.{Peer}
 use Rattle.message_layer.specs.Values.{LinkState}
 use Rattle.message_layer.specs.Calls.{is_other}
-use Rattle.message_layer.specs.Sending.{first_sent, with_outstanding, next_by as call_next_by, submitted_by}
+use Rattle.message_layer.specs.Sending.{first_sent, with_outstanding, next_by as call_next_by, queued, submitted, submitted_by}
+use Rattle.message_layer.specs.Laws.{heard_so}
+use Rattle.message_layer.proofs.After.{takes-after}
 use Rattle.message_layer.specs.Hearing.{replies, verdict_of, answered_in, remembered_in, applied, ended}
 use Rattle.message_layer.specs.declared.state.Awaited.{Awaited}
 use Rattle.message_layer.specs.declared.state.Outstanding.{Outstanding}
@@ -21,10 +24,10 @@ use Rattle.history_laws.proofs.CallerLemmas.{filter-push}
 use Rattle.history_links.specs.Agrees.{Start, WaitIn, Agrees}
 use Rattle.history_links.specs.Steps.{ended_token, unawaited, heard_link}
 use Rattle.exchange_model.specs.State.{State}
-use Rattle.exchange_model.specs.Steps.{given_out}
+use Rattle.exchange_model.specs.Steps.{given_out, link_with}
 use Rattle.exchange_model.specs.Calls.{given_back}
 use Rattle.exchange_model.specs.Resting.{IsUndue}
-use Rattle.exchange_model.specs.Entering.{awaits_no_more}
+use Rattle.exchange_model.specs.Entering.{in_turn, next_out, awaits_no_more, taken_with}
 use Rattle.exchange_model.proofs.Borne.{ended-borne}
 use Rattle.exchange_model.proofs.Hearing.{borne-bears}
 
@@ -107,6 +110,79 @@ heard-turned t mid token v s b e rest h = ap (λ (c : Bool). given_out (turned t
     by true =
         sym (unanswered t (record (heard_link t mid token v s) { outstanding = None }) s.waiting (s.out ++ replies mid v.reply) s.outstanding)
         ∙ ap given_out (next-without t of (answering t mid token v s) s.waiting h)
+
+-- the same where the message is queued by which an exchange goes on
+
+unanswered-all : (t : ℕ) (s : LinkState) (v : Option Outstanding) (out : List (List ℕ))
+    → given_out (submitted_by t (record s { out = out; outstanding = v }) v) ≡ given_out (submitted_by t (record s { outstanding = v }) v)
+unanswered-all t s None out = unanswered t s s.waiting out None ∙ sym (unanswered t s s.waiting s.out None)
+unanswered-all t s (Some o) out = refl
+
+turned-without : (t : ℕ) (of : Option (List ℕ)) (s : LinkState) (v : Option Outstanding) → Unborne of s.waiting
+    → submitted_by t (without of s) v ≡ without of (submitted_by t s v)
+turned-without t of s None h = next-without t of s s.waiting h
+turned-without t of s (Some o) h = refl
+
+unborne-more : (of : Option (List ℕ)) (ws : List Waiting) (w : Waiting) → Unborne of ws
+    → ((token : List ℕ) → of ≡ Some token → bytes_eq w.token token ≡ false) → Unborne of (ws ++ w ∷ [])
+unborne-more of [] w h new = new
+unborne-more of (v ∷ ws) w h new = h
+
+went-on : (t mid : ℕ) (token : List ℕ) (v : Verdict) (w : Waiting) (s : LinkState)
+    → Unborne (ended_token v.news token) s.waiting → ((other : List ℕ) → ended_token v.news token ≡ Some other → bytes_eq w.token other ≡ false)
+    → given_out (turned t (queued t w (heard_link t mid token v s)))
+    ≡ given_out (without (ended_token v.news token) (submitted t w (applied t mid token v s)))
+went-on t mid token v w s h new =
+    let of : Option (List ℕ) = ended_token v.news token in
+    let so : LinkState = queued t w (heard_so t mid token v s) in
+    sym (unanswered-all t (record so { awaited = unawaited of so.awaited; out = s.out }) so.outstanding so.out)
+    ∙ (ap given_out (turned-without t of so so.outstanding (unborne-more of s.waiting w h new))
+    ∙ sym (ap (λ (u : LinkState). given_out (without of u)) (takes-after t mid token v w s)))
+
+-- with the next message of an exchange that goes on, or without
+
+pub out-with : (t : ℕ) (more : Option Waiting) (s : LinkState) → (link_with t more s).out ≡ s.out
+out-with t None s = refl
+out-with t (Some w) s = refl
+
+pub last-with : (t : ℕ) (more : Option Waiting) (s : LinkState) → (link_with t more s).last_mid ≡ s.last_mid
+last-with t None s = refl
+last-with t (Some w) s = refl
+
+pub waits-with : (t : ℕ) (more : Option Waiting) (s : LinkState) → (link_with t more s).outstanding ≡ s.outstanding
+waits-with t None s = refl
+waits-with t (Some w) s = refl
+
+turn-ended : (b : Bool) (v : Option Outstanding) (ws : List Waiting) → Turns v ws
+    → in_turn (is_none (cond b None v)) ws ≡ in_turn b ws
+turn-ended true v ws h = refl
+turn-ended false (Some o) ws h = refl
+turn-ended false None ws h = ap (in_turn true) h
+
+free-then : (b : Bool) (v : Option Outstanding) → is_none (cond b None v) ≡ (b || not (is_some v))
+free-then true v = refl
+free-then false (Some o) = refl
+free-then false None = refl
+
+-- what has its turn then
+pub turn-with : (t mid : ℕ) (token : List ℕ) (v : Verdict) (more : Option Waiting) (s : LinkState) → Turns s.outstanding s.waiting
+    → (let u = link_with t more (heard_link t mid token v s) in in_turn (is_none u.outstanding) u.waiting) ≡ next_out v s more
+turn-with t mid token v None s h = turn-ended v.ends s.outstanding s.waiting h
+turn-with t mid token v (Some w) s h = ap (λ (b : Bool). in_turn b (s.waiting ++ w ∷ [])) (free-then v.ends s.outstanding)
+
+-- the new message doesn't bear the token under which nothing is awaited any more
+abbrev pub IsFresh : Option Waiting → Option (List ℕ) → Type 0
+IsFresh more over = (w : Waiting) (token : List ℕ) → more ≡ Some w → over ≡ Some token → bytes_eq w.token token ≡ false
+
+pub link-turned : (t mid : ℕ) (token : List ℕ) (v : Verdict) (more : Option Waiting) (s : LinkState)
+    → Turns s.outstanding s.waiting → Unborne (ended_token v.news token) s.waiting → IsFresh more (ended_token v.news token)
+    → given_out (turned t (link_with t more (heard_link t mid token v s)))
+    ≡ given_out (awaits_no_more (ended_token v.news token) (taken_with t more (applied t mid token v s)))
+link-turned t mid token v None s rest h fresh =
+    heard-turned t mid token v s v.ends refl rest h ∙ sym (ap given_out (without-is (ended_token v.news token) (applied t mid token v s)))
+link-turned t mid token v (Some w) s rest h fresh =
+    went-on t mid token v w s h (λ other e. fresh w other refl e)
+    ∙ sym (ap given_out (without-is (ended_token v.news token) (submitted t w (applied t mid token v s))))
 
 -- A token that a message ends went out, so that none that waits bears it.
 

@@ -1,6 +1,6 @@
 -- What holds of each element of a list.
-use Rattle.std.proofs.Common.{◌≡◌, Bool, true, List, [], ◌∷◌, map, refl}
-use Rattle.std.specs.List.{AllByRecursion, list_all}
+use Rattle.std.proofs.Common.{◌≡◌, zero, suc, Bool, true, List, [], ◌∷◌, map, refl, arith}
+use Rattle.std.specs.List.{AllByRecursion, Contains, list_all}
 
 module _ {X Y : Type 0} (f : X → Y) (P : Y → Type 0) where
   pub all-map : (xs : List X) → AllByRecursion (λ (x : X). P (f x)) xs → AllByRecursion P (map f xs)
@@ -23,3 +23,7 @@ module _ {X : Type 0} (q : X → Bool) where
   pub every-passes : ((x : X) → q x ≡ true) → (xs : List X) → list_all q xs ≡ true
   every-passes h [] = refl
   every-passes h (x ∷ xs) = rw (h x) (every-passes h xs)
+
+pub each-of : {X : Type 0} (P : X → Type 0) (xs : List X) → ((x : X) → Contains xs x → P x) → AllByRecursion P xs
+each-of P [] f = tt
+each-of P (x ∷ xs) f = (f x (zero, omega arith, refl), each-of P xs (λ y h. f y (suc h.0, let lt = h.1 in omega arith, h.2)))

@@ -1,6 +1,6 @@
 -- The exchanges that are kept are open, and told apart by the numbers of their tokens.
 use Rattle.history_links.specs.Agrees.{Start}
-use Rattle.std.proofs.Common.{◌≡◌, ℕ, ◌+◌, ◌<◌, ◌⊎◌, inl, inr, Bool, true, List, Option, Some, subst, arith}
+use Rattle.std.proofs.Common.{◌≡◌, ℕ, ◌+◌, inl, inr, true, List, Some, subst, arith}
 use Rattle.std.specs.List.{AllByRecursion}
 use Rattle.std.proofs.lemmas.Bool.{cases_lt}
 use Rattle.history_laws.specs.Readings.{Noted}

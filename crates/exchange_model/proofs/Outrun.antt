@@ -1,19 +1,16 @@
 -- Which of the open exchanges writes have outrun.
-use Rattle.std.proofs.Common.{◌≡◌, ℕ, ◌+◌, ◌<◌, Bool, true, false, cond, not, inl, inr, List, [], ◌∷◌, map, length, Option, Some, None, is_some, is_none, refl, sym, ap, subst, ◌∙◌}
-use Rattle.std.specs.Prelude.{option_and_then, option_to_list}
-use Rattle.std.specs.Option.{option_map_or}
+use Rattle.std.proofs.Common.{◌≡◌, ℕ, Bool, true, false, cond, not, inl, inr, List, [], ◌∷◌, map, Option, Some, None, is_some, is_none, refl, sym, ap, subst, ◌∙◌}
+use Rattle.std.specs.Prelude.{option_and_then}
 use Rattle.std.specs.List.{AllByRecursion, Contains, list_any, slice_get}
 use Rattle.std.proofs.lemmas.Bool.{false≢true}
-use Rattle.cache_key.specs.declared.place.Place.{Place}
 use Rattle.ask_model.specs.Requests.{CoapRequest, Sense, Requests, Refuses}
 use Rattle.ask_model.specs.Sharing.{asked_place, writes_to}
-use Rattle.journal_book.specs.Entries.{Deed, Asks, Written}
+use Rattle.journal_book.specs.Entries.{Asks, Written}
 use Rattle.history_laws.specs.Readings.{Noted, Begins, before}
 use Rattle.history_laws.specs.Exchanges.{Begun, begun, End, end_of, is_going, open_exchanges}
 use Rattle.history_laws.specs.Joining.{outrun}
 use Rattle.history_laws.specs.Justified.{AskNote, Legal}
 use Rattle.history_laws.proofs.CallerLemmas.{all-of, any-of, at-below, at-entries, contains-none, contains-map, contains-mapped, EndsWrite, find-any, find-some, follows-at, open-exactly, outrun-keeps, outrun-new, write-outruns}
-use Rattle.history_links.specs.Agrees.{Start}
 use Rattle.exchange_model.specs.declared.kept.Exchange.{Exchange}
 use Rattle.exchange_model.specs.State.{State}
 use Rattle.exchange_model.specs.Steps.{asked_in, request_by, request_in, outruns, outrun_by, left_by}

@@ -1,5 +1,5 @@
--- How an exchange has ended that a message ends.
-use Rattle.std.proofs.Common.{◌≡◌, ℕ, inl, inr, Bool, true, false, cond, eqb, ltb, leb, List, [], ◌∷◌, length, Option, Some, None, refl, sym, ap, subst, ◌∙◌, arith}
+-- What a message that is new is to the exchange that it answers.
+use Rattle.std.proofs.Common.{◌≡◌, ℕ, inl, inr, Bool, true, false, cond, eqb, ltb, leb, List, [], ◌∷◌, ◌++◌, length, Option, Some, None, refl, sym, ap, subst, ◌∙◌}
 use Rattle.std.specs.Prelude.{find, ◌&&◌, count_by}
 use Rattle.std.specs.List.{Contains, list_any}
 use Rattle.std.proofs.lemmas.Bool.{false≢true, not-false}
@@ -16,31 +16,28 @@ use Rattle.message_layer.specs.declared.state.Reply.{Reply as LinkReply}
 use Rattle.message_layer.specs.declared.verdict.News.{News}
 use Rattle.message_layer.specs.declared.verdict.Verdict.{Verdict}
 use Rattle.message_layer.specs.declared.verdict.News.TheVariants as N
-use Rattle.ask_model.specs.declared.cause.Cause.TheVariants as C
-use Rattle.journal_book.specs.Entries.{Live, Fault}
-use Rattle.history_laws.specs.Responses.{Response, is_whole, response_of}
 use Rattle.history_laws.specs.Readings.{Noted}
-use Rattle.history_laws.specs.Progress.{Reply, Ending, Whole, NotUnderstood, Reset}
-use Rattle.history_laws.specs.Exchanges.{Begun, begun, Turn, Replied, Rejected, answered_by, turn, waits_for, replies, End, end_here, end_of, open_exchanges}
-use Rattle.history_laws.specs.Hearing.{repeated, can_be_remembered, answers}
+use Rattle.history_laws.specs.Progress.{Reply, Ending, Reset, Turned, Progress, Fetches, Gives, Ends as EndsSoFar, progress, ended_by}
+use Rattle.history_laws.specs.Exchanges.{Begun, begun, Turn, Replied, Rejected, answered_by, turn, waits_for, replies, replied_end, end_here, end_of, open_exchanges}
+use Rattle.history_laws.specs.Hearing.{repeated, can_be_remembered, answers, notice_of}
 use Rattle.history_laws.specs.Justified.{Ends}
-use Rattle.history_laws.proofs.CallerLemmas.{all-of, and-left, and-right, contains-map, entries-length, eqb-itself, find-some, open-exactly, some-is}
+use Rattle.history_laws.proofs.CallerLemmas.{all-of, and-left, and-right, contains-map, eqb-itself, find-some, open-exactly}
 use Rattle.history_links.specs.Agrees.{Start}
 use Rattle.history_links.specs.Steps.{ended_token, heard}
-use Rattle.history_links.proofs.CallerLemmas.{ends_by, hit, is_to, judge, unreplied}
+use Rattle.history_links.proofs.CallerLemmas.{ends_by, hit, is_to, judge}
 use Rattle.exchange_model.specs.declared.kept.Exchange.{Exchange}
 use Rattle.exchange_model.specs.State.{State, link_of}
-use Rattle.exchange_model.specs.Reads.{ExchangeIn, opening_of}
-use Rattle.exchange_model.specs.Steps.{is_under, is_other, ended_in, method_in, whole_by}
-use Rattle.exchange_model.specs.Calls.{grounds_by, grounds_of}
-use Rattle.exchange_model.specs.Laws.{Before, MayHear}
+use Rattle.exchange_model.specs.Reads.{ExchangeIn, opening_of, Reads}
+use Rattle.exchange_model.specs.Steps.{is_under, answered_in, Matter, Nothing, Goes, Over, replied, matter_by, matter_of, has_next_place}
+use Rattle.exchange_model.specs.Laws.{MayHear}
+use Rattle.exchange_model.proofs.Bare.{bare_ending, bare_progress}
 use Rattle.exchange_model.proofs.Borne.{split}
-use Rattle.exchange_model.proofs.Grounds.{GroundsOf}
-use Rattle.exchange_model.proofs.Hearing.{ends-kept}
-use Rattle.exchange_model.proofs.Settling.{CameTo}
+use Rattle.exchange_model.proofs.Comes.{comes-to}
+use Rattle.exchange_model.proofs.Hearing.{hit-kept, is_apart}
+use Rattle.exchange_model.proofs.Places.{place-same}
 use Rattle.exchange_model.proofs.Silent.{now-from}
 
--- which news ends an exchange: a Reset of an RST, and of any other message a response
+-- which news answers an exchange: a Reset of an RST, and of any other message a response
 
 abbrev NotReset : News → Type 0
 NotReset N.Quiet = Unit {0}
@@ -84,64 +81,29 @@ reset-only m (Some o) token of e = elim (split ((eqb m.code 0) && (eqb o.mid m.m
 
 -- how it ends
 
-ends-now : (l : List Noted) (o : ℕ) (x : Noted) (u : Turn) (how : Ending) → turn l o x ≡ u → end_of l o ≡ None → end_here (begun l o) (length l) (replies l o) u ≡ Some how → Ends (x ∷ l) o (length l) how
+pub ends-now : (l : List Noted) (o : ℕ) (x : Noted) (u : Turn) (how : Ending) → turn l o x ≡ u → end_of l o ≡ None → end_here (begun l o) (length l) (replies l o) u ≡ Some how → Ends (x ∷ l) o (length l) how
 ends-now l o x u how is going here = rw (is, going, here) refl
 
-turn-now : (l : List Noted) (t : ℕ) (p : Peer) (d : List ℕ) (m : Content) (o i : ℕ) → waits_for l o ≡ Some i → answers l p m ≡ Some i → turn l o (heard l t p d m) ≡ answered_by i m m.kind
+turn-now : (l : List Noted) (t : ℕ) (p : Peer) (d : List ℕ) (m : Content) (o i : ℕ) → waits_for l o ≡ Some i → answers l p m ≡ Some i
+    → turn l o (heard l t p d m) ≡ answered_by i m (notice_of l t p m (answers l p m)).place m.kind
 turn-now l t p d m o i waits is = rw (is, waits, eqb-itself i) refl
 
 is-to-it : (to : Option ℕ) (i : ℕ) → is_to to i ≡ true → to ≡ Some i
 is-to-it None i e = absurd (false≢true e)
 is-to-it (Some j) i e = elim (eqb_tells j i) [ inl w ↦ ap Some w.1 | inr w ↦ absurd (false≢true (sym w.0 ∙ e)) ]
 
-reply-of : ℕ → ℕ → Content → Reply
-reply-of n i m = record { number = n; sending = i; message = m }
-
-by-reply : (l : List Noted) (t : ℕ) (p : Peer) (d : List ℕ) (m : Content) (o i : ℕ) (a : Begun) → begun l o ≡ Some a
-    → turn l o (heard l t p d m) ≡ Replied i m → end_of l o ≡ None → (b : Bool) → is_whole a.request.method m ≡ b
-    → GroundsOf (heard l t p d m ∷ l) o (cond b (Live (length l ∷ [])) (Fault C.NotUnderstood (length l)))
-unfolding reply-of
-by-reply l t p d m o i a opened turned going true is =
-    let none = unreplied l o going in
-    (length l, response_of m, reply-of (length l) i m ∷ [], ends-now l o (heard l t p d m) (Replied i m) (Whole (response_of m) (reply-of (length l) i m ∷ [])) turned going (rw (none, opened, is) refl), refl)
-by-reply l t p d m o i a opened turned going false is =
-    let none = unreplied l o going in
-    ends-now l o (heard l t p d m) (Replied i m) NotUnderstood turned going (rw (none, opened, is) refl)
-
-by-kind : (l : List Noted) (t : ℕ) (p : Peer) (d : List ℕ) (m : Content) (o i : ℕ) (s : LinkState) (of : List ℕ) (k : MsgType) (a : Begun) → begun l o ≡ Some a → m.kind ≡ k → waits_for l o ≡ Some i → answers l p m ≡ Some i
-    → ends_by m.kind m.code ≡ true → end_of l o ≡ None → ended_token (verdict_by t s m k).news m.token ≡ Some of
-    → GroundsOf (heard l t p d m ∷ l) o (grounds_by (verdict_by t s m k).news (length l) a.request.method m)
-by-kind l t p d m o i s of Rst a opened kind waits to ends going ended =
-    let turned = turn-now l t p d m o i waits to ∙ ap (answered_by i m) kind in
-    let news = reset-only m s.outstanding m.token of ended in
-    subst (λ (n : News). GroundsOf (heard l t p d m ∷ l) o (grounds_by n (length l) a.request.method m)) (sym news.1) (ends-now l o (heard l t p d m) Rejected Reset turned going refl)
-by-kind l t p d m o i s of Con a opened kind waits to ends going ended =
-    let response : leb 32 m.code ≡ true = subst (λ (k : MsgType). ends_by k m.code ≡ true) kind ends in
-    let turned : turn l o (heard l t p d m) ≡ Replied i m = turn-now l t p d m o i waits to ∙ (ap (answered_by i m) kind ∙ rw (response) refl) in
-    let news = response-only (verdict_by t s m Con).news m.token of (heard-news t s m true (find (is_repeat t m.mid) s.heard)) ended in
-    subst (λ (n : News). GroundsOf (heard l t p d m ∷ l) o (grounds_by n (length l) a.request.method m)) (sym news) (by-reply l t p d m o i a opened turned going (is_whole a.request.method m) refl)
-by-kind l t p d m o i s of Non a opened kind waits to ends going ended =
-    let response : leb 32 m.code ≡ true = subst (λ (k : MsgType). ends_by k m.code ≡ true) kind ends in
-    let turned : turn l o (heard l t p d m) ≡ Replied i m = turn-now l t p d m o i waits to ∙ (ap (answered_by i m) kind ∙ rw (response) refl) in
-    let news = response-only (verdict_by t s m Non).news m.token of (heard-news t s m false (find (is_repeat t m.mid) s.heard)) ended in
-    subst (λ (n : News). GroundsOf (heard l t p d m ∷ l) o (grounds_by n (length l) a.request.method m)) (sym news) (by-reply l t p d m o i a opened turned going (is_whole a.request.method m) refl)
-by-kind l t p d m o i s of Ack a opened kind waits to ends going ended =
-    let response : leb 32 m.code ≡ true = subst (λ (k : MsgType). ends_by k m.code ≡ true) kind ends in
-    let turned : turn l o (heard l t p d m) ≡ Replied i m = turn-now l t p d m o i waits to ∙ (ap (answered_by i m) kind ∙ rw (response) refl) in
-    let news = response-only (verdict_by t s m Ack).news m.token of (ack-news s m) ended in
-    subst (λ (n : News). GroundsOf (heard l t p d m ∷ l) o (grounds_by n (length l) a.request.method m)) (sym news) (by-reply l t p d m o i a opened turned going (is_whole a.request.method m) refl)
-
 -- a kept exchange is open
-pub kept-open : (l : List Noted) (S : State) (e : Exchange) → Before l S.moment S → Contains S.exchanges e → end_of l e.opening ≡ None
-kept-open l S e b has =
-    let r = b.reads in
+pub kept-open : (l : List Noted) (S : State) (e : Exchange) → Reads l S → Contains S.exchanges e → end_of l e.opening ≡ None
+kept-open l S e r has =
     let listed : Contains (open_exchanges l) e.opening = subst (λ (os : List ℕ). Contains os e.opening) (sym r.keys) (contains-map opening_of S.exchanges e has) in
     ((open-exactly l e.opening).0 listed).1
 
--- how the message ends it: under this token it answers its latest first sending
-record EndsIt (start : Start) (l : List Noted) (t : ℕ) (p : Peer) (m : Content) (S : State) (e : Exchange) : Type 0 where
+-- The exchange that the message answers: under this token it answers its latest first sending.
+pub record AnswersIt (start : Start) (l : List Noted) (t : ℕ) (p : Peer) (m : Content) (S : State) (e : Exchange) : Type 0 where
   pub of : List ℕ
   pub token : ended_token (verdict_of t (link_of S.links p) m).news m.token ≡ Some of
+  pub has : Contains S.exchanges e
+  pub under : is_under of e ≡ true
   pub kept : ExchangeIn start l e
   pub sending : ℕ
   pub waits : waits_for l e.opening ≡ Some sending
@@ -149,93 +111,171 @@ record EndsIt (start : Start) (l : List Noted) (t : ℕ) (p : Peer) (m : Content
   pub ends : ends_by m.kind m.code ≡ true
   pub going : end_of l e.opening ≡ None
 
-ends-it : (l : List Noted) (t : ℕ) (p : Peer) (d : List ℕ) (m : Content) (S : State) → (h : MayHear l t p d S) → repeated l t p m ≡ None → can_be_remembered l t p m ≡ true
-    → (e : Exchange) → ended_in (ended_token (verdict_of t (link_of S.links p) m).news m.token) S.exchanges ≡ Some e → EndsIt h.before.reads.start l t p m S e
-ends-it l t p d m S h none room e is = by (ended_token (verdict_of t (link_of S.links p) m).news m.token) refl is
+pub answers-it : (l : List Noted) (t : ℕ) (p : Peer) (d : List ℕ) (m : Content) (S : State) → (h : MayHear l t p d S) → repeated l t p m ≡ None → can_be_remembered l t p m ≡ true
+    → (e : Exchange) → answered_in (ended_token (verdict_of t (link_of S.links p) m).news m.token) S.exchanges ≡ Some e → AnswersIt h.before.reads.start l t p m S e
+answers-it l t p d m S h none room e is = by (ended_token (verdict_of t (link_of S.links p) m).news m.token) refl is
   where
-    made : (of : List ℕ) → ended_token (verdict_of t (link_of S.links p) m).news m.token ≡ Some of → Contains S.exchanges e → (a : ExchangeIn h.before.reads.start l e)
-        → (v : Option ℕ) → e.sending ≡ v → hit (answers l p m) m v ≡ true → EndsIt h.before.reads.start l t p m S e
-    made of ended has a None sending hits = absurd (false≢true hits)
-    made of ended has a (Some i) sending hits = record {
+    made : (of : List ℕ) → ended_token (verdict_of t (link_of S.links p) m).news m.token ≡ Some of → Contains S.exchanges e → is_under of e ≡ true → (a : ExchangeIn h.before.reads.start l e)
+        → (v : Option ℕ) → waits_for l e.opening ≡ v → hit (answers l p m) m v ≡ true → AnswersIt h.before.reads.start l t p m S e
+    made of ended has under a None waits hits = absurd (false≢true hits)
+    made of ended has under a (Some i) waits hits = record {
       of = of;
       token = ended;
+      has = has;
+      under = under;
       kept = a;
       sending = i;
-      waits = a.sending ∙ sending;
+      waits = waits;
       answered = is-to-it (answers l p m) i (and-left (is_to (answers l p m) i) _ hits);
       ends = and-right (is_to (answers l p m) i) _ hits;
-      going = kept-open l S e (record { reads = h.before.reads; later = omega arith }) has;
+      going = kept-open l S e h.before.reads has;
     }
 
-    by : (ended : Option (List ℕ)) → ended_token (verdict_of t (link_of S.links p) m).news m.token ≡ ended → ended_in ended S.exchanges ≡ Some e → EndsIt h.before.reads.start l t p m S e
+    by : (ended : Option (List ℕ)) → ended_token (verdict_of t (link_of S.links p) m).news m.token ≡ ended → answered_in ended S.exchanges ≡ Some e → AnswersIt h.before.reads.start l t p m S e
     by None ended found = absurd cc
     by (Some of) ended found =
         let first = find-some (is_under of) S.exchanges e found in
         let a = all-of (ExchangeIn h.before.reads.start l) S.exchanges e h.before.reads.exchanges_are first.0 in
         let judged = judge l t p (link_of S.links p) m m.kind (now-from l t S h.before) h.before.reads.legal (h.before.reads.links_are p) refl none room in
-        let kept = ends-kept l t p (link_of S.links p) m h.before.reads.legal (h.before.reads.links_are p) judged e a e.sending refl a.sending a.sent in
-        let other : is_other (ended_token (verdict_of t (link_of S.links p) m).news m.token) e ≡ false = rw (ended, first.1) refl in
-        made of ended first.0 a e.sending refl (not-false (hit (answers l p m) m e.sending) (kept ∙ other))
+        let kept = hit-kept l t p (link_of S.links p) m h.before.reads.legal (h.before.reads.links_are p) judged e a in
+        let other : is_apart (ended_token (verdict_of t (link_of S.links p) m).news m.token) e ≡ false = rw (ended, first.1) refl in
+        made of ended first.0 first.1 a (waits_for l e.opening) refl (not-false (hit (answers l p m) m (waits_for l e.opening)) (kept ∙ other))
+
+-- It is rejected by it, or it is a reply.
+pub data HowAnswered (l : List Noted) (t : ℕ) (p : Peer) (d : List ℕ) (m : Content) (S : State) (e : Exchange) (i : ℕ) : Type 0 where
+  by_rst : (of : List ℕ) → (verdict_of t (link_of S.links p) m).news ≡ N.Reset of → turn l e.opening (heard l t p d m) ≡ Rejected
+      → HowAnswered l t p d m S e i
+  by_reply : (verdict_of t (link_of S.links p) m).news ≡ N.Response
+      → turn l e.opening (heard l t p d m) ≡ Replied i m (notice_of l t p m (answers l p m)).place → HowAnswered l t p d m S e i
+
+how-kind : (l : List Noted) (t : ℕ) (p : Peer) (d : List ℕ) (m : Content) (S : State) (e : Exchange) (i : ℕ) (of : List ℕ) (k : MsgType) → m.kind ≡ k
+    → waits_for l e.opening ≡ Some i → answers l p m ≡ Some i → ends_by m.kind m.code ≡ true
+    → ended_token (verdict_of t (link_of S.links p) m).news m.token ≡ Some of → HowAnswered l t p d m S e i
+how-kind l t p d m S e i of Rst kind waits to ends ended =
+    let s = link_of S.links p in
+    let is : verdict_of t s m ≡ rst_verdict m s.outstanding = ap (verdict_by t s m) kind in
+    let news = reset-only m s.outstanding m.token of (sym (ap (λ (v : Verdict). ended_token v.news m.token) is) ∙ ended) in
+    by_rst news.0 (ap (λ (v : Verdict). v.news) is ∙ news.1) (turn-now l t p d m e.opening i waits to ∙ ap (answered_by i m (notice_of l t p m (answers l p m)).place) kind)
+how-kind l t p d m S e i of Con kind waits to ends ended =
+    let s = link_of S.links p in
+    let response : leb 32 m.code ≡ true = subst (λ (k : MsgType). ends_by k m.code ≡ true) kind ends in
+    let news : NotReset (verdict_of t s m).news = subst (λ (k : MsgType). NotReset (verdict_by t s m k).news) (sym kind) (heard-news t s m true (find (is_repeat t m.mid) s.heard)) in
+    by_reply (response-only (verdict_of t s m).news m.token of news ended)
+    (turn-now l t p d m e.opening i waits to ∙ (ap (answered_by i m (notice_of l t p m (answers l p m)).place) kind ∙ rw (response) refl))
+how-kind l t p d m S e i of Non kind waits to ends ended =
+    let s = link_of S.links p in
+    let response : leb 32 m.code ≡ true = subst (λ (k : MsgType). ends_by k m.code ≡ true) kind ends in
+    let news : NotReset (verdict_of t s m).news = subst (λ (k : MsgType). NotReset (verdict_by t s m k).news) (sym kind) (heard-news t s m false (find (is_repeat t m.mid) s.heard)) in
+    by_reply (response-only (verdict_of t s m).news m.token of news ended)
+    (turn-now l t p d m e.opening i waits to ∙ (ap (answered_by i m (notice_of l t p m (answers l p m)).place) kind ∙ rw (response) refl))
+how-kind l t p d m S e i of Ack kind waits to ends ended =
+    let s = link_of S.links p in
+    let response : leb 32 m.code ≡ true = subst (λ (k : MsgType). ends_by k m.code ≡ true) kind ends in
+    let news : NotReset (verdict_of t s m).news = subst (λ (k : MsgType). NotReset (verdict_by t s m k).news) (sym kind) (ack-news s m) in
+    by_reply (response-only (verdict_of t s m).news m.token of news ended)
+    (turn-now l t p d m e.opening i waits to ∙ (ap (answered_by i m (notice_of l t p m (answers l p m)).place) kind ∙ rw (response) refl))
+
+-- What the exchange comes to is the same in the history and in the state.
+
+-- By it the exchange ended so,
+pub record IsOver (start : Start) (l : List Noted) (t : ℕ) (p : Peer) (d : List ℕ) (m : Content) (S : State) (e : Exchange) (how : Ending) : Type 0 where
+  pub it : AnswersIt start l t p m S e
+  pub real : Ending
+  pub ends : Ends (heard l t p d m ∷ l) e.opening (length l) real
+  pub same : how ≡ bare_ending real
+
+-- or goes on so.
+abbrev pub reply_of : List Noted → ℕ → Content → Reply
+reply_of l i m = record { number = length l; sending = i; message = m }
+
+pub record IsOnward (start : Start) (l : List Noted) (t : ℕ) (p : Peer) (d : List ℕ) (m : Content) (S : State) (e : Exchange) (how : Progress) : Type 0 where
+  pub it : AnswersIt start l t p m S e
+  pub turned : turn l e.opening (heard l t p d m) ≡ Replied it.sending m true
+  pub going : end_of (heard l t p d m ∷ l) e.opening ≡ None
+  pub real : Progress
+  pub comes : progress it.kept.request (replies l e.opening ++ reply_of l it.sending m ∷ []) ≡ real
+  pub same : how ≡ bare_progress real
+
+abbrev pub IsMatter : Start → List Noted → ℕ → Peer → List ℕ → Content → State → Matter → Type 0
+IsMatter start l t p d m S Nothing = answered_in (ended_token (verdict_of t (link_of S.links p) m).news m.token) S.exchanges ≡ None
+IsMatter start l t p d m S (Goes e how) = IsOnward start l t p d m S e how
+IsMatter start l t p d m S (Over e how) = IsOver start l t p d m S e how
+
+by-end : (l : List Noted) (t : ℕ) (p : Peer) (d : List ℕ) (m : Content) (S : State) (h : MayHear l t p d S) (e : Exchange)
+    (it : AnswersIt h.before.reads.start l t p m S e) → (place : Bool)
+    → turn l e.opening (heard l t p d m) ≡ Replied it.sending m place
+    → (u : Progress) → progress it.kept.request (replies l e.opening ++ reply_of l it.sending m ∷ []) ≡ u
+    → IsMatter h.before.reads.start l t p d m S (replied place e (bare_progress u))
+by-end l t p d m S h e it place turned (EndsSoFar how) is = record {
+  it = it;
+  real = how;
+  ends = ends-now l e.opening (heard l t p d m) _ how turned it.going
+      (ap (λ (b : Option Begun). replied_end b place (replies l e.opening ++ reply_of l it.sending m ∷ [])) it.kept.opening ∙ ap (ended_by place) is);
+  same = refl;
+}
+by-end l t p d m S h e it true turned (Gives u got) is = record {
+  it = it;
+  turned = turned;
+  going = rw (turned, it.going, it.kept.opening, is) refl;
+  real = Gives u got;
+  comes = is;
+  same = refl;
+}
+by-end l t p d m S h e it true turned (Fetches k q got) is = record {
+  it = it;
+  turned = turned;
+  going = rw (turned, it.going, it.kept.opening, is) refl;
+  real = Fetches k q got;
+  comes = is;
+  same = refl;
+}
+by-end l t p d m S h e it false turned (Gives u got) is = record {
+  it = it;
+  real = Turned;
+  ends = ends-now l e.opening (heard l t p d m) _ Turned turned it.going
+      (ap (λ (b : Option Begun). replied_end b false (replies l e.opening ++ reply_of l it.sending m ∷ [])) it.kept.opening ∙ ap (ended_by false) is);
+  same = refl;
+}
+by-end l t p d m S h e it false turned (Fetches k q got) is = record {
+  it = it;
+  real = Turned;
+  ends = ends-now l e.opening (heard l t p d m) _ Turned turned it.going
+      (ap (λ (b : Option Begun). replied_end b false (replies l e.opening ++ reply_of l it.sending m ∷ [])) it.kept.opening ∙ ap (ended_by false) is);
+  same = refl;
+}
+
+pub is-matter : (l : List Noted) (t : ℕ) (p : Peer) (d : List ℕ) (m : Content) (S : State) → (h : MayHear l t p d S) → repeated l t p m ≡ None → can_be_remembered l t p m ≡ true
+    → IsMatter h.before.reads.start l t p d m S (matter_of t p m (verdict_of t (link_of S.links p) m) S)
+is-matter l t p d m S h none room = by (answered_in (ended_token v.news m.token) S.exchanges) refl
+  where
+    v : Verdict
+    v = verdict_of t (link_of S.links p) m
+
+    place : Bool
+    place = has_next_place t p v S
+
+    made : (e : Exchange) (it : AnswersIt h.before.reads.start l t p m S e) → HowAnswered l t p d m S e it.sending
+        → IsMatter h.before.reads.start l t p d m S (matter_by v.news place m S (Some e))
+    made e it (by_rst of news turned) =
+        subst (λ (n : News). IsMatter h.before.reads.start l t p d m S (matter_by n place m S (Some e))) (sym news)
+        record { it = it; real = Reset; ends = ends-now l e.opening (heard l t p d m) Rejected Reset turned it.going refl; same = refl }
+    made e it (by_reply news turned) =
+        let same_place = place-same l t p m S e.opening it.sending h.before none room it.waits it.answered in
+        let comes = comes-to l S e it.sending m h.before.reads it.has it.going it.kept in
+        subst (λ (n : News). IsMatter h.before.reads.start l t p d m S (matter_by n place m S (Some e))) (sym news)
+        (subst (λ (u : Progress). IsMatter h.before.reads.start l t p d m S (replied place e u)) (sym comes)
+        (by-end l t p d m S h e it place (turned ∙ ap (Replied it.sending m) same_place)
+        (progress it.kept.request (replies l e.opening ++ reply_of l it.sending m ∷ [])) refl))
+
+    by : (w : Option Exchange) → answered_in (ended_token v.news m.token) S.exchanges ≡ w → IsMatter h.before.reads.start l t p d m S (matter_by v.news place m S w)
+    by None is = is
+    by (Some e) is =
+        let it = answers-it l t p d m S h none room e is in
+        made e it (how-kind l t p d m S e it.sending it.of m.kind refl it.waits it.answered it.ends it.token)
 
 pub heard-over : (l : List Noted) (t : ℕ) (p : Peer) (d : List ℕ) (m : Content) (S : State) → MayHear l t p d S → repeated l t p m ≡ None → can_be_remembered l t p m ≡ true
-    → (e : Exchange) → ended_in (ended_token (verdict_of t (link_of S.links p) m).news m.token) S.exchanges ≡ Some e
-    → GroundsOf (heard l t p d m ∷ l) e.opening (grounds_of (verdict_of t (link_of S.links p) m) m S)
-heard-over l t p d m S h none room e is =
-    let it = ends-it l t p d m S h none room e is in
-    let here : length S.entries ≡ length l = ap length (sym h.before.reads.entries_are) ∙ entries-length l in
-    subst (λ (v : Option Exchange). GroundsOf (heard l t p d m ∷ l) e.opening (grounds_by (verdict_of t (link_of S.links p) m).news (length S.entries) (method_in v) m)) (sym is)
-    (subst (λ (n : ℕ). GroundsOf (heard l t p d m ∷ l) e.opening (grounds_by (verdict_of t (link_of S.links p) m).news n e.method m)) (sym here)
-    (subst (λ (k : ℕ). GroundsOf (heard l t p d m ∷ l) e.opening (grounds_by (verdict_of t (link_of S.links p) m).news (length l) k m)) it.kept.method
-    (by-kind l t p d m e.opening it.sending (link_of S.links p) it.of m.kind (record { since = e.since; request = it.kept.request }) it.kept.opening refl it.waits it.answered it.ends it.going it.token)))
-
--- whether that is a whole response
-
-abbrev pub ended-as : ℕ → Ending → Option End
-ended-as n how = Some (record { number = n; how = how })
-
-pub no-whole : (n : ℕ) (how : Ending) (w : Response) (rs : List Reply) → (how ≡ Whole w rs → ⊥) → ended-as n how ≡ ended-as n (Whole w rs) → ⊥
-no-whole n how w rs other e = other (ap (λ (f : End). f.how) (some-is _ _ e))
-
-came-reply : (l : List Noted) (t : ℕ) (p : Peer) (d : List ℕ) (m : Content) (o i : ℕ) (a : Begun) → begun l o ≡ Some a
-    → turn l o (heard l t p d m) ≡ Replied i m → end_of l o ≡ None → (b : Bool) → is_whole a.request.method m ≡ b
-    → CameTo (heard l t p d m ∷ l) o (length l) (cond b (Some (response_of m)) None)
-unfolding reply-of
-came-reply l t p d m o i a opened turned going true is =
-    let none = unreplied l o going in
-    (reply-of (length l) i m, refl, ends-now l o (heard l t p d m) (Replied i m) (Whole (response_of m) (reply-of (length l) i m ∷ [])) turned going (rw (none, opened, is) refl))
-came-reply l t p d m o i a opened turned going false is =
-    let none = unreplied l o going in
-    let ends : Ends (heard l t p d m ∷ l) o (length l) NotUnderstood = ends-now l o (heard l t p d m) (Replied i m) NotUnderstood turned going (rw (none, opened, is) refl) in
-    λ w rs e. no-whole (length l) NotUnderstood w rs (λ h. cc) (sym ends ∙ e)
-
-came-kind : (l : List Noted) (t : ℕ) (p : Peer) (d : List ℕ) (m : Content) (o i : ℕ) (s : LinkState) (of : List ℕ) (k : MsgType) (a : Begun) → begun l o ≡ Some a → m.kind ≡ k → waits_for l o ≡ Some i → answers l p m ≡ Some i
-    → ends_by m.kind m.code ≡ true → end_of l o ≡ None → ended_token (verdict_by t s m k).news m.token ≡ Some of
-    → CameTo (heard l t p d m ∷ l) o (length l) (whole_by (verdict_by t s m k).news a.request.method m)
-came-kind l t p d m o i s of Rst a opened kind waits to ends going ended =
-    let turned = turn-now l t p d m o i waits to ∙ ap (answered_by i m) kind in
-    let news = reset-only m s.outstanding m.token of ended in
-    let over : Ends (heard l t p d m ∷ l) o (length l) Reset = ends-now l o (heard l t p d m) Rejected Reset turned going refl in
-    subst (λ (n : News). CameTo (heard l t p d m ∷ l) o (length l) (whole_by n a.request.method m)) (sym news.1) (λ w rs e. no-whole (length l) Reset w rs (λ h. cc) (sym over ∙ e))
-came-kind l t p d m o i s of Con a opened kind waits to ends going ended =
-    let response : leb 32 m.code ≡ true = subst (λ (k : MsgType). ends_by k m.code ≡ true) kind ends in
-    let turned : turn l o (heard l t p d m) ≡ Replied i m = turn-now l t p d m o i waits to ∙ (ap (answered_by i m) kind ∙ rw (response) refl) in
-    let news = response-only (verdict_by t s m Con).news m.token of (heard-news t s m true (find (is_repeat t m.mid) s.heard)) ended in
-    subst (λ (n : News). CameTo (heard l t p d m ∷ l) o (length l) (whole_by n a.request.method m)) (sym news) (came-reply l t p d m o i a opened turned going (is_whole a.request.method m) refl)
-came-kind l t p d m o i s of Non a opened kind waits to ends going ended =
-    let response : leb 32 m.code ≡ true = subst (λ (k : MsgType). ends_by k m.code ≡ true) kind ends in
-    let turned : turn l o (heard l t p d m) ≡ Replied i m = turn-now l t p d m o i waits to ∙ (ap (answered_by i m) kind ∙ rw (response) refl) in
-    let news = response-only (verdict_by t s m Non).news m.token of (heard-news t s m false (find (is_repeat t m.mid) s.heard)) ended in
-    subst (λ (n : News). CameTo (heard l t p d m ∷ l) o (length l) (whole_by n a.request.method m)) (sym news) (came-reply l t p d m o i a opened turned going (is_whole a.request.method m) refl)
-came-kind l t p d m o i s of Ack a opened kind waits to ends going ended =
-    let response : leb 32 m.code ≡ true = subst (λ (k : MsgType). ends_by k m.code ≡ true) kind ends in
-    let turned : turn l o (heard l t p d m) ≡ Replied i m = turn-now l t p d m o i waits to ∙ (ap (answered_by i m) kind ∙ rw (response) refl) in
-    let news = response-only (verdict_by t s m Ack).news m.token of (ack-news s m) ended in
-    subst (λ (n : News). CameTo (heard l t p d m ∷ l) o (length l) (whole_by n a.request.method m)) (sym news) (came-reply l t p d m o i a opened turned going (is_whole a.request.method m) refl)
-
-pub heard-came : (l : List Noted) (t : ℕ) (p : Peer) (d : List ℕ) (m : Content) (S : State) → MayHear l t p d S → repeated l t p m ≡ None → can_be_remembered l t p m ≡ true
-    → (e : Exchange) → ended_in (ended_token (verdict_of t (link_of S.links p) m).news m.token) S.exchanges ≡ Some e
-    → CameTo (heard l t p d m ∷ l) e.opening (length l) (whole_by (verdict_of t (link_of S.links p) m).news e.method m)
-heard-came l t p d m S h none room e is =
-    let it = ends-it l t p d m S h none room e is in
-    subst (λ (k : ℕ). CameTo (heard l t p d m ∷ l) e.opening (length l) (whole_by (verdict_of t (link_of S.links p) m).news k m)) it.kept.method
-    (came-kind l t p d m e.opening it.sending (link_of S.links p) it.of m.kind (record { since = e.since; request = it.kept.request }) it.kept.opening refl it.waits it.answered it.ends it.going it.token)
+    → (e : Exchange) (how : Ending) → matter_of t p m (verdict_of t (link_of S.links p) m) S ≡ Over e how
+    → (real : Ending) × Ends (heard l t p d m ∷ l) e.opening (length l) real × (how ≡ bare_ending real)
+heard-over l t p d m S h none room e how is =
+    let it : IsOver h.before.reads.start l t p d m S e how = subst (IsMatter h.before.reads.start l t p d m S) is (is-matter l t p d m S h none room) in
+    (it.real, it.ends, it.same)

@@ -1,7 +1,8 @@
 -- A tick ends what took too long.
-use Rattle.std.proofs.Common.{◌⊎◌, inl, inr, length, ◌≡◌, ℕ, ◌+◌, Bool, true, false, cond, List, [], ◌∷◌, ◌++◌, map, Option, Some, None, is_some, refl, sym, ap, subst, ◌∙◌}
+use Rattle.std.proofs.lemmas.Bool.{false≢true}
+use Rattle.std.proofs.Common.{◌⊎◌, inl, inr, length, ◌≡◌, ℕ, ◌+◌, Bool, true, false, cond, List, [], ◌∷◌, ◌++◌, map, Option, Some, None, is_some, refl, sym, ap, subst, ◌∙◌, eqb}
 use Rattle.std.specs.Prelude.{filter, not, ◌&&◌}
-use Rattle.std.specs.List.{AllByRecursion, Contains}
+use Rattle.std.specs.List.{AllByRecursion, Contains, list_any}
 use Rattle.std.proofs.lemmas.Bool.{not-true, not-false}
 use Rattle.std.proofs.lemmas.List.Elements.{All-contains_itself, recursion_from_All, filter_agree}
 use Rattle.uri_map.specs.declared.peer.Peer.{Peer}
@@ -19,16 +20,19 @@ use Rattle.history_laws.specs.Readings.{Noted, Plain, noted}
 use Rattle.history_laws.specs.Hearing.{went_under}
 use Rattle.history_laws.specs.Transmissions.{FirstSending, first_at}
 use Rattle.history_laws.specs.Joining.{outrun}
-use Rattle.history_laws.proofs.CallerLemmas.{all-filter, all-more, all-of, all-passes, and-left, contains-filter, filter-by, filtered-from, issued-same, open-exactly, some-is, waiting-all, waiting-begun, waiting-goes, waiting-unsent}
+use Rattle.history_laws.proofs.CallerLemmas.{all-filter, all-more, all-of, all-passes, and-left, contains-filter, filter-by, filtered-from, issued-same, open-exactly, some-is, waiting-all, waiting-begun, waiting-goes, waiting-unsent, replies-stay, eqb-same}
 use Rattle.history_links.specs.Agrees.{Start, IsWaitingFor, WaitIn, Agrees}
 use Rattle.history_links.specs.Steps.{passed_link, EndWaiting, EndTokens}
 use Rattle.history_links.proofs.CallerLemmas.{going-passed, pass-agrees, passed-quiet, token-found, waits-passed}
 use Rattle.exchange_model.specs.declared.kept.Exchange.{Exchange}
 use Rattle.exchange_model.specs.State.{PeerLink, State, link_of}
-use Rattle.exchange_model.specs.Reads.{IsSentUnder, ExchangeIn, WaitsUnder, opening_of, Reads}
-use Rattle.exchange_model.specs.Steps.{expires, is_gone, outrun_by, passed, timed_out}
+use Rattle.exchange_model.specs.Reads.{IsSentUnder, ExchangeIn, WaitsUnder, opening_of, Reads, awaited_by, got_in, PiecesIn}
+use Rattle.exchange_model.specs.Steps.{expires, is_gone, outrun_by, passed, timed_out, is_of_none, numbers_of, left_by}
 use Rattle.exchange_model.specs.Laws.{PassesLeads}
-use Rattle.exchange_model.proofs.Over.{no-whole}
+use Rattle.exchange_model.specs.declared.kept.Piece.{Piece}
+use Rattle.history_laws.specs.Progress.{numbers}
+use Rattle.exchange_model.proofs.Pieces.{pieces-quiet}
+use Rattle.exchange_model.proofs.Settling.{no-whole}
 use Rattle.exchange_model.proofs.Retiring.{store-retired}
 use Rattle.exchange_model.proofs.Expiring.{expires-alike, awaited-open, kept-at, gone-of}
 use Rattle.exchange_model.proofs.Hearing.{filter-map, filter-both}
@@ -81,7 +85,7 @@ exchange-kept : (l : List Noted) (t : ℕ) (S : State) (r : Reads l S) → (e : 
     → b ≡ not (outrun (ticked_at t ∷ l) (asked_place a.request) e.opening) → ExchangeIn r.start (ticked_at t ∷ l) (record e { current = b })
 exchange-kept l t S r e b a goes current =
     exchange-stays (ticked_at t) l e b (λ h. h)
-    (waits-passed l t e.opening ∙ ap (λ (b : Bool). cond b None (waits_for l e.opening)) (sym (expires-alike l t S.links e r.legal r.links_are a) ∙ not-true (expires t S.links e) goes)) a current
+    (waits-passed l t e.opening ∙ ap (λ (b : Bool). cond b None (waits_for l e.opening)) (sym (expires-alike l t S.links e r.legal r.links_are a) ∙ not-true (expires t S.links e) goes)) refl a current
 
 -- what is kept of a link
 
@@ -100,8 +104,8 @@ awaited-ends : (l : List Noted) (t : ℕ) (S : State) (p : Peer) → Reads l S �
 awaited-ends l t S p r o i token waits under =
     let k = kept-at l S o r (awaited-open l o i r.legal waits) in
     let e = k.0 in
-    let sending : e.sending ≡ Some i = sym k.3.sending ∙ (ap (waits_for l) k.2 ∙ waits) in
-    let sent : IsSentUnder l e.peer e.token (Some i) = subst (IsSentUnder l e.peer e.token) sending k.3.sent in
+    let awaited : awaited_by e.awaits e.sending ≡ Some i = sym k.3.awaits ∙ (ap (waits_for l) k.2 ∙ waits) in
+    let sent : IsSentUnder l e.peer e.token (Some i) = subst (IsSentUnder l e.peer e.token) awaited k.3.sent in
     let found = token-found p token (first_at l i) under in
     let same : sent.0 ≡ found.0 = some-is _ _ (sym sent.1 ∙ found.1) in
     let tokens : e.token ≡ token = sym sent.3 ∙ (ap (λ (f : FirstSending). f.message.token) same ∙ found.2) in
@@ -159,8 +163,63 @@ passed-no-response l t o w rs going e = by (turn l o (ticked_at t)) (expired (en
     by Nothing h e = absurd cc
     by (Sent i) h e = absurd cc
     by Rejected h e = no-whole (length l) Reset w rs (λ f. cc) e
-    by (Replied i m) (inl h) e = absurd cc
-    by (Replied i m) (inr h) e = absurd cc
+    by (Replied i m place) (inl h) e = absurd cc
+    by (Replied i m place) (inr h) e = absurd cc
+
+-- The pieces of what goes on are as before.
+not-over : (l : List Noted) (t : ℕ) (S : State) (r : Reads l S) (e : Exchange) → ExchangeIn r.start l e → stays t S e ≡ true → (es : List Exchange)
+    → AllByRecursion (ExchangeIn r.start l) es → list_any (λ (f : Exchange). eqb e.opening f.opening) (filter (expires t S.links) es) ≡ false
+not-over l t S r e a goes [] all = refl
+not-over l t S r e a goes (f ∷ es) all = by (expires t S.links f) refl (not-over l t S r e a goes es all.1)
+  where
+    differs : (b : Bool) → eqb e.opening f.opening ≡ b → expires t S.links f ≡ true → b ≡ false
+    differs false q over = refl
+    differs true q over =
+        let same = eqb-same e.opening f.opening q in
+        let its : expires t S.links e ≡ expires t S.links f =
+        expires-alike l t S.links e r.legal r.links_are a
+        ∙ (ap (λ (o : ℕ). ends_at l o t (waits_for l o)) same ∙ sym (expires-alike l t S.links f r.legal r.links_are all.0)) in
+        sym (its ∙ over) ∙ not-true (expires t S.links e) goes
+
+    by : (b : Bool) → expires t S.links f ≡ b → list_any (λ (f : Exchange). eqb e.opening f.opening) (filter (expires t S.links) es) ≡ false
+        → list_any (λ (f : Exchange). eqb e.opening f.opening) (cond b (f ∷ filter (expires t S.links) es) (filter (expires t S.links) es)) ≡ false
+    by true is ih = rw (differs (eqb e.opening f.opening) refl is) ih
+    by false is ih = ih
+
+numbers-spared : (o : ℕ) (over : List Exchange) (xs : List Piece) → list_any (λ (f : Exchange). eqb o f.opening) over ≡ false
+    → numbers_of o (filter (is_of_none over) xs) ≡ numbers_of o xs
+numbers-spared o over [] none = refl
+numbers-spared o over (x ∷ xs) none = by (eqb x.opening o) refl (is_of_none over x) refl (numbers-spared o over xs none)
+  where
+    spared : x.opening ≡ o → is_of_none over x ≡ true
+    spared same = ap not (ap (λ (k : ℕ). list_any (λ (f : Exchange). eqb k f.opening) over) same ∙ none)
+
+    by : (b : Bool) → eqb x.opening o ≡ b → (c : Bool) → is_of_none over x ≡ c → numbers_of o (filter (is_of_none over) xs) ≡ numbers_of o xs
+        → numbers_of o (cond c (x ∷ filter (is_of_none over) xs) (filter (is_of_none over) xs)) ≡ numbers_of o (x ∷ xs)
+    by true is true left ih = rw (is) (ap (λ (ns : List ℕ). x.number ∷ ns) ih)
+    by true is false left ih = absurd (false≢true (sym left ∙ spared (eqb-same x.opening o is)))
+    by false is true left ih = rw (is) ih
+    by false is false left ih = rw (is) ih
+
+pieces-passed : (l : List Noted) (t : ℕ) (S : State) → Reads l S
+    → PiecesIn (ticked_at t ∷ l) (left_by S.entries (timed_out t S) (filter (stays t S) S.exchanges)) (filter (is_of_none (timed_out t S)) S.pieces)
+pieces-passed l t S r = record {
+  fetched = left-all (λ (e : Exchange). numbers (got_in n e.opening) ≡ numbers_of e.opening (filter (is_of_none (timed_out t S)) S.pieces)) (λ e k. k) S.entries (timed_out t S) kept
+      (all-more _ _ (λ e h. h.0 ∙ sym (numbers-spared e.opening (timed_out t S) S.pieces (not-over l t S r e h.1.0 h.1.1 S.exchanges r.exchanges_are))) kept
+      (all-both _ _ kept (all-filter _ (stays t S) S.exchanges old.fetched)
+      (all-both (ExchangeIn r.start l) (λ (e : Exchange). stays t S e ≡ true) kept (all-filter (ExchangeIn r.start l) (stays t S) S.exchanges r.exchanges_are) (all-passes (stays t S) S.exchanges))));
+  below = all-filter _ (is_of_none (timed_out t S)) S.pieces old.below;
+}
+  where
+    n : List Noted
+    n = ticked_at t ∷ l
+
+    kept : List Exchange
+    kept = filter (stays t S) S.exchanges
+
+    old : PiecesIn n S.exchanges S.pieces
+    old = pieces-quiet (ticked_at t) l S.exchanges S.pieces (ExchangeIn r.start l) (λ e h. (_, h.opening))
+        (λ e h. replies-stay (length l) _ _ (passed-quiet l t e.opening)) r.exchanges_are r.pieces_are
 
 pub passes-leads : PassesLeads
 passes-leads l t S b may =
@@ -187,6 +246,7 @@ passes-leads l t S b may =
             (λ e a. exchange-kept l t S r e (outrun_by S.entries (timed_out t S) e).current a.0 a.1
             (current-now (ticked_at t) l S r (timed_out t S) (passes-ends l t S r) (r.legal, later, (may, tt)) e a.0)) kept
             (all-both (ExchangeIn r.start l) (λ (e : Exchange). stays t S e ≡ true) kept (all-filter (ExchangeIn r.start l) (stays t S) S.exchanges r.exchanges_are) (all-passes (stays t S) S.exchanges));
+        pieces_are = pieces-passed l t S r;
         store_is = store-retired (ticked_at t) l S r (r.legal, later, (may, tt)) (timed_out t S) (passes-ends l t S r) tt (λ o w rs going e. passed-no-response l t o w rs going e);
         tokens_are = r.tokens_are;
         waiting_are = left-all (λ (e : Exchange). WaitsUnder (link_of (map (passed t S) S.links) e.peer).waiting e) (λ e k. k) S.entries (timed_out t S) kept

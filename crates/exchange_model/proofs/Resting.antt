@@ -12,7 +12,7 @@ use Rattle.message_layer.specs.declared.state.Outstanding.{Outstanding}
 use Rattle.history_laws.specs.Readings.{Noted, ticked}
 use Rattle.history_laws.specs.Connections.{is_open, opened}
 use Rattle.history_laws.specs.Transmissions.{FirstSending, firsts, Transmission, transmission, due, outstanding}
-use Rattle.history_laws.specs.Exchanges.{begun, waits_for, openings, is_going, open_exchanges, is_waiting, waiting}
+use Rattle.history_laws.specs.Exchanges.{begun, waits_for, is_going, open_exchanges, waiting}
 use Rattle.history_laws.specs.Justified.{pending, reads, reads_open, is_in_hand, finds_outstanding, is_under_way, is_early, is_done, is_in_time}
 use Rattle.history_laws.proofs.CallerLemmas.{all-more, contains-none, first-is, first-listed, none-some, outstanding-last, some-is, waiting-has, way-first}
 use Rattle.history_links.specs.Agrees.{Start, way_of, TurnIn, WaitIn}
@@ -23,7 +23,7 @@ use Rattle.exchange_model.specs.declared.kept.Reader.{Reader}
 use Rattle.exchange_model.specs.State.{State, link_of}
 use Rattle.exchange_model.specs.Reads.{ExchangeIn, opening_of, Reads}
 use Rattle.exchange_model.specs.Resting.{IsUndue, HasExchange, HasReader, IsServed, HasConn, Rests, RestsAtRest}
-use Rattle.exchange_model.proofs.Lists.{all-mapped, all-map, all-both, all-pass, every-passes}
+use Rattle.exchange_model.proofs.Lists.{all-map, all-both, all-pass, every-passes}
 use Rattle.exchange_model.proofs.ConnsTell.{conns-tell}
 use Rattle.exchange_model.proofs.Opened.{OpenIn, open-ones}
 use Rattle.exchange_model.proofs.Readers.{ReaderIn, readers-wait}

@@ -15,26 +15,27 @@ use Rattle.ask_model.specs.Requests.{CoapRequest}
 use Rattle.ask_model.specs.Sharing.{asked_key, asked_place, asks_same, is_get}
 use Rattle.ask_model.proofs.CallerLemmas.{same-key, same-place}
 use Rattle.history_laws.specs.Storing.{IsStored, IsUse, IsCrowdedOut, content, EndsSo}
-use Rattle.history_laws.specs.Readings.{before, Noted, at}
+use Rattle.history_laws.specs.Readings.{before, Noted}
 use Rattle.history_laws.specs.Responses.{Response}
-use Rattle.history_laws.specs.Progress.{Reply}
+use Rattle.history_laws.specs.Progress.{Reply, numbers, Ending, Whole, NotUnderstood, Reset, TimedOut, Turned}
 use Rattle.history_laws.specs.Exchanges.{Begun, begun, end_of}
 use Rattle.history_laws.specs.Joining.{asks_the_same, outrun, is_joinable}
-use Rattle.history_laws.specs.Justified.{Legal}
-use Rattle.history_laws.proofs.CallerLemmas.{before-new, all-more, all-passes, at-below, at-new, begun-keeps, contains-none, ends-first, EndsWrite, first-or-later, outrun-keeps, outrun-quiet, some-is}
+use Rattle.history_laws.specs.Justified.{Ends, Legal}
+use Rattle.history_laws.proofs.CallerLemmas.{before-new, all-more, all-passes, at-below, begun-keeps, contains-none, ends-first, EndsWrite, first-or-later, outrun-keeps, outrun-quiet, some-is}
 use Rattle.exchange_model.specs.Reads.{AreLastFirst, IsLastUse, HasPair, StoreIn, ExchangeIn, PairIn, Reads}
 use Rattle.exchange_model.specs.declared.kept.Exchange.{Exchange}
 use Rattle.exchange_model.specs.State.{State}
-use Rattle.exchange_model.specs.Steps.{asked_in, content_at, put_by, settled_by, settled}
+use Rattle.exchange_model.specs.Steps.{asked_in, content_by, moment_in, put_by, settled_by, settled}
+use Rattle.exchange_model.proofs.Bare.{bare_ending, numbers-bare}
 use Rattle.exchange_model.proofs.Storing.{joinable-alike, stored-unwritten, stored-was, pair-stays}
 use Rattle.exchange_model.proofs.Stores.{every}
 use Rattle.exchange_model.proofs.Uses.{crowded-stays, has-filtered, NotServing, order-filter, order-stays, order-weaker, unserved, Unused, use-below}
 use Rattle.exchange_model.proofs.Outrun.{asked-here, EndsThose}
-use Rattle.exchange_model.proofs.Settling.{all-kept, CameTo, whole-is, true-not, store-taken, kept, here, is-ended, request-is, write-of, unwritten, is-away, was-going, at-length}
+use Rattle.exchange_model.proofs.Settling.{all-kept, first-stands, no-whole, rests-on-some, whole-is, true-not, store-taken, kept, is-ended, request-is, write-of, unwritten, is-away, was-going, at-length}
 
 module _ (x : Noted) (l : List Noted) (S : State) (r : Reads l S) (legal : Legal (x ∷ l)) where
   -- the exchange that ends alone
-  module _ (e : Exchange) (has : Contains S.exchanges e) (ends : EndsThose x l S (e ∷ [])) (v : Option Response) (came : CameTo (x ∷ l) e.opening (length l) v) where
+  module _ (e : Exchange) (has : Contains S.exchanges e) (ends : EndsThose x l S (e ∷ [])) (real : Ending) (came : Ends (x ∷ l) e.opening (length l) real) where
     abbrev a : ExchangeIn r.start l e
     a = kept x l S r legal e has
 
@@ -109,24 +110,27 @@ module _ (x : Noted) (l : List Noted) (S : State) (r : Reads l S) (legal : Legal
         joins = rw (itself, fresh) refl
 
     -- the pair that it stores
-    stored-now : (w : Response) → CameTo (x ∷ l) e.opening (length l) (Some w) → w.code ≡ content → is_get q ≡ true → e.current ≡ true
-        → PairIn (x ∷ l) (record { key = asked_key q; stored = stored_of w x.written.moment (length S.entries ∷ []) })
-    stored-now w c code get current = record {
+    abbrev pair_of : Response → Reply → List Reply → Pair
+    pair_of w first more = record { key = asked_key q; stored = stored_of w (moment_in S.entries x.written.moment first.number) (numbers (first ∷ more)) }
+
+    stored-now : (w : Response) (first : Reply) (more : List Reply) → Ends (x ∷ l) e.opening (length l) (Whole w (first ∷ more)) → w.code ≡ content → is_get q ≡ true → e.current ≡ true
+        → PairIn (x ∷ l) (pair_of w first more)
+    stored-now w first more c code get current = let stands = first-stands x l S r legal e.opening w first more c in record {
       request = q;
       get = get;
       key = refl;
       stored = record {
         opening = e.opening;
         ending = length l;
-        first = c.0;
-        more = [];
-        ends = record { ended = c.2; code = code };
+        first = first;
+        more = more;
+        ends = record { ended = c; code = code };
         shared = joins-now get current;
         latest = λ o k u us so j. latest o k u us so;
-        entry = x;
-        heard_in = subst (λ (n : ℕ). at (x ∷ l) n ≡ Some x) (sym c.1) (at-new x l);
-        heard = refl;
-        list = ap (λ (n : ℕ). n ∷ []) (here x l S r legal ∙ sym c.1);
+        entry = stands.entry;
+        heard_in = stands.stands;
+        heard = stands.moment;
+        list = refl;
       };
     }
       where
@@ -247,9 +251,9 @@ module _ (x : Noted) (l : List Noted) (S : State) (r : Reads l S) (legal : Legal
           r.store_is.order (λ w rs so g current lasts. none w rs so g current) (λ k s is other had. had)
 
       -- one whose response is stored, or takes out what was
-      module _ (get : eqb q.method 1 ≡ true) (is_g : is_get q ≡ true) (current : e.current ≡ true) (w : Response) (c : CameTo (x ∷ l) e.opening (length l) (Some w)) (code : w.code ≡ content) where
+      module _ (get : eqb q.method 1 ≡ true) (is_g : is_get q ≡ true) (current : e.current ≡ true) (w : Response) (first : Reply) (more : List Reply) (c : Ends (x ∷ l) e.opening (length l) (Whole w (first ∷ more))) (code : w.code ≡ content) where
         same-response : (u : Response) (us : List Reply) → EndsSo (x ∷ l) e.opening (length l) u us → w ≡ u
-        same-response u us so = whole-is (length l) w u (c.0 ∷ []) us (sym c.2 ∙ so.ended)
+        same-response u us so = whole-is (length l) w u (first ∷ more) us (sym c ∙ so.ended)
 
         rest : AllByRecursion (PairIn (x ∷ l)) (others (asked_key q) S.store)
         rest = all-more (λ (p : Pair). PairIn l p × (is_of_another (asked_key q) p ≡ true)) (PairIn (x ∷ l))
@@ -262,9 +266,9 @@ module _ (x : Noted) (l : List Noted) (S : State) (r : Reads l S) (legal : Legal
         other-key k u is other same =
             let gets_k : is_get k ≡ true = get-first (begun (x ∷ l) is.opening) (and_parts (asks_the_same k (begun (x ∷ l) is.opening)) _ is.shared).0 in
             let joins : is_joinable (x ∷ l) k e.opening ≡ true = joinable-alike (x ∷ l) k q gets_k is_g same e.opening ∙ joins-now is_g current in
-            let le = is.latest e.opening (length l) w (c.0 ∷ []) (record { ended = c.2; code = code }) joins in
-            let first = ends-first (x ∷ l) is.opening is.ending _ is.ends.ended in
-            let below = at-below (x ∷ l) is.ending first.0 first.1 in
+            let le = is.latest e.opening (length l) w (first ∷ more) (record { ended = c; code = code }) joins in
+            let ended = ends-first (x ∷ l) is.opening is.ending _ is.ends.ended in
+            let below = at-below (x ∷ l) is.ending ended.0 ended.1 in
             other (omega (arith, le, below))
           where
             get-first : (b : Option Begun) → asks_the_same k b ≡ true → is_get k ≡ true
@@ -283,15 +287,15 @@ module _ (x : Noted) (l : List Noted) (S : State) (r : Reads l S) (legal : Legal
         takes never = still-all (others (asked_key q) S.store) rest (order-filter l (length l) (is_of_another (asked_key q)) S.store r.store_is.order)
             (λ u us so g k lasts. false≢true (sym lasts ∙ subst (λ (z : Response). (lifetime z.max_age == 0) ≡ true) (same-response u us so) never)) still-has
 
-        puts : (lifetime w.max_age == 0) ≡ false → StoreIn (x ∷ l) (record { key = asked_key q; stored = stored_of w x.written.moment (length S.entries ∷ []) } ∷ others (asked_key q) S.store)
+        puts : (lifetime w.max_age == 0) ≡ false → StoreIn (x ∷ l) (pair_of w first more ∷ others (asked_key q) S.store)
         puts lasts = record {
-          pairs = (stored-now w c code is_g current, rest);
+          pairs = (stored-now w first more c code is_g current, rest);
           order = order;
           kept = λ k u is lasts_u. kept_so k u is lasts_u (eqb_tells is.ending (length l));
         }
           where
             new : Pair
-            new = record { key = asked_key q; stored = stored_of w x.written.moment (length S.entries ∷ []) }
+            new = pair_of w first more
 
             current_then : outrun (before (x ∷ l) (length l)) (asked_place q) e.opening ≡ false
             current_then = ap (λ (older : List Noted). outrun older (asked_place q) e.opening) (before-new x l) ∙ unrun (outrun l (asked_place q) e.opening) (sym a.current ∙ current)
@@ -305,8 +309,8 @@ module _ (x : Noted) (l : List Noted) (S : State) (r : Reads l S) (legal : Legal
               used = inr (record {
                 opening = e.opening;
                 response = w;
-                replies = c.0 ∷ [];
-                ends = record { ended = c.2; code = code };
+                replies = first ∷ more;
+                ends = record { ended = c; code = code };
                 since = e.since;
                 request = q;
                 opened = begun-keeps x l e.opening _ a.opening;
@@ -343,23 +347,31 @@ module _ (x : Noted) (l : List Noted) (S : State) (r : Reads l S) (legal : Legal
             ]
 
         lasting : (b : Bool) → (lifetime w.max_age == 0) ≡ b
-            → StoreIn (x ∷ l) (take MAX_STORED (cond b (others (asked_key q) S.store) (record { key = asked_key q; stored = stored_of w x.written.moment (length S.entries ∷ []) } ∷ others (asked_key q) S.store)))
+            → StoreIn (x ∷ l) (take MAX_STORED (cond b (others (asked_key q) S.store) (pair_of w first more ∷ others (asked_key q) S.store)))
         lasting true h = store-taken (x ∷ l) _ (takes h)
         lasting false h = store-taken (x ∷ l) _ (puts h)
 
-      comes : eqb q.method 1 ≡ true → is_get q ≡ true → e.current ≡ true → (u : Option Response) → v ≡ u → CameTo (x ∷ l) e.opening (length l) u
-          → StoreIn (x ∷ l) (put_by (content_at x.written.moment (length S.entries) u) (asked_key q) S.store)
-      comes get is_g current None is c = stays get (λ w rs so g k. c w rs so.ended)
-      comes get is_g current (Some w) is c = elim (eqb_tells w.code content) [
-        | inl same ↦ rw (same.0) (lasting get is_g current w c same.1 (lifetime w.max_age == 0) refl)
-        | inr other ↦ rw (other.0) (stays get (λ u us so g k. other.1 (ap (λ (z : Response). z.code) (whole-is (length l) w u (c.0 ∷ []) us (sym c.2 ∙ so.ended)) ∙ so.code)))
+      other-than : (u : Ending) → Ends (x ∷ l) e.opening (length l) u → ((w : Response) (rs : List Reply) → u ≡ Whole w rs → ⊥) → eqb q.method 1 ≡ true → StoreIn (x ∷ l) S.store
+      other-than u c none get = stays get (λ w rs so g k. no-whole (length l) u w rs (none w rs) (sym c ∙ so.ended))
+
+      comes : eqb q.method 1 ≡ true → is_get q ≡ true → e.current ≡ true → (u : Ending) → Ends (x ∷ l) e.opening (length l) u
+          → StoreIn (x ∷ l) (put_by (content_by S.entries x.written.moment (bare_ending u)) (asked_key q) S.store)
+      comes get is_g current NotUnderstood c = other-than NotUnderstood c (λ w rs f. absurd (cc (f))) get
+      comes get is_g current Reset c = other-than Reset c (λ w rs f. absurd (cc (f))) get
+      comes get is_g current TimedOut c = other-than TimedOut c (λ w rs f. absurd (cc (f))) get
+      comes get is_g current Turned c = other-than Turned c (λ w rs f. absurd (cc (f))) get
+      comes get is_g current (Whole w []) c = absurd (rests-on-some (x ∷ l) e.opening (length l) w c)
+      comes get is_g current (Whole w (first ∷ more)) c = elim (eqb_tells w.code content) [
+        | inl same ↦ rw (same.0) (subst (λ (ns : List ℕ). StoreIn (x ∷ l) (put_by (Some (stored_of w (moment_in S.entries x.written.moment first.number) (first.number ∷ ns))) (asked_key q) S.store))
+            (sym (numbers-bare more)) (lasting get is_g current w first more c same.1 (lifetime w.max_age == 0) refl))
+        | inr other ↦ rw (other.0) (stays get (λ u us so g k. other.1 (ap (λ (z : Response). z.code) (whole-is (length l) w u (first ∷ more) us (sym c ∙ so.ended)) ∙ so.code)))
       ]
 
-      pub store-settled : StoreIn (x ∷ l) (settled S.entries (Some e) (content_at x.written.moment (length S.entries) v) S.store)
+      pub store-settled : StoreIn (x ∷ l) (settled S.entries (Some e) (content_by S.entries x.written.moment (bare_ending real)) S.store)
       store-settled = subst (λ (u : Option CoapRequest). StoreIn (x ∷ l) (settled_by u e.current found S.store)) (sym (asked-here l S r e a)) (of (eqb q.method 1) refl)
         where
           found : Option Stored
-          found = content_at x.written.moment (length S.entries) v
+          found = content_by S.entries x.written.moment (bare_ending real)
 
           of : (b : Bool) → eqb q.method 1 ≡ b
               → StoreIn (x ∷ l) (cond b (cond (is_get q && e.current) (put_by found (asked_key q) S.store) S.store) (filter (is_elsewhere (asked_place q)) S.store))
@@ -367,6 +379,6 @@ module _ (x : Noted) (l : List Noted) (S : State) (r : Reads l S) (legal : Legal
           of true get = either (is_get q) e.current refl refl
             where
               either : (g c : Bool) → is_get q ≡ g → e.current ≡ c → StoreIn (x ∷ l) (cond (g && c) (put_by found (asked_key q) S.store) S.store)
-              either true true is k = comes get is k v refl came
+              either true true is k = comes get is k real came
               either true false is k = stays get (λ w rs so g j. false≢true (sym k ∙ j))
               either false c is k = stays get (λ w rs so g j. false≢true (sym is ∙ g))

@@ -1,8 +1,11 @@
 -- Which exchanges end at an entry, and what writes among them leave.
-use Rattle.std.proofs.Common.{◌≡◌, ℕ, ◌⊎◌, zero, suc, inl, inr, Bool, true, false, not, eqb, List, [], ◌∷◌, length, take, Option, Some, None, is_some, refl, sym, ap, subst, ◌∙◌, arith}
+use Rattle.std.proofs.Common.{◌≡◌, ℕ, ◌⊎◌, zero, suc, inl, inr, Bool, true, false, not, eqb, List, [], ◌∷◌, ◌++◌, length, take, Option, Some, None, is_some, refl, sym, ap, subst, ◌∙◌, arith}
 use Rattle.std.specs.List.{list_any, AllByRecursion, Contains}
-use Rattle.std.specs.Prelude.{◌&&◌, filter, is_none}
+use Rattle.std.specs.Prelude.{◌&&◌, filter, is_none, slice_get}
+use Rattle.std.specs.Option.{option_map_or}
 use Rattle.std.proofs.lemmas.Bool.{false≢true, and_parts}
+use Rattle.std.proofs.lemmas.List.Elements.{Contains-append_cases, Contains-append_right}
+use Rattle.std.proofs.lemmas.Option.{slice_get_past}
 use Rattle.limits.specs.declared.TheConstants.{MAX_STORED}
 use Rattle.cache_key.specs.Keys.{CacheKey, same_place}
 use Rattle.cache_key.specs.declared.place.Place.{Place}
@@ -10,18 +13,19 @@ use Rattle.cache_key.proofs.CallerLemmas.{keys_decided}
 use Rattle.resp_cache.specs.Stores.{is_of, is_elsewhere}
 use Rattle.resp_cache.specs.declared.pair.Pair.{Pair}
 use Rattle.ask_model.specs.Requests.{CoapRequest}
+use Rattle.journal_book.specs.Entries.{Hears, Written}
 use Rattle.ask_model.specs.Sharing.{asked_key, asked_place, writes_to}
 use Rattle.history_laws.specs.Exchanges.{turn, replies, end_here, Begun, begun, End, end_of, is_going, open_exchanges}
 use Rattle.history_laws.specs.Storing.{IsCrowdedOut, EndsSo}
 use Rattle.history_laws.specs.Responses.{Response}
-use Rattle.history_laws.specs.Readings.{Noted}
-use Rattle.history_laws.specs.Progress.{Reply, Whole}
+use Rattle.history_laws.specs.Readings.{Noted, Says, at, before, noted}
+use Rattle.history_laws.specs.Progress.{Reply, Ending, Whole}
 use Rattle.history_laws.specs.Justified.{Ends, Legal}
-use Rattle.history_laws.proofs.CallerLemmas.{contains-map, end-below, end-old, all-filter, all-of, all-passes, contains-mapped, EndsWrite, entries-length, none-some, open-exactly, some-is, unended}
+use Rattle.history_laws.proofs.CallerLemmas.{at-entries, at-keeps, at-new, before-new, contains-map, contains-none, end-below, end-old, all-filter, all-of, all-passes, contains-mapped, EndsWrite, ends-whole, entries-length, first-or-later, none-some, open-exactly, replies-fit, some-is, unended}
 use Rattle.exchange_model.specs.Reads.{HasPair, StoreIn, ExchangeIn, opening_of, PairIn, Reads}
 use Rattle.exchange_model.specs.declared.kept.Exchange.{Exchange}
 use Rattle.exchange_model.specs.State.{State}
-use Rattle.exchange_model.specs.Steps.{asked_in}
+use Rattle.exchange_model.specs.Steps.{asked_in, moment_in}
 use Rattle.exchange_model.proofs.Uses.{crowded-out, order-take}
 use Rattle.exchange_model.proofs.Lists.{all-both}
 use Rattle.exchange_model.proofs.Outrun.{asked-here, EndsThose}
@@ -51,11 +55,7 @@ store-taken n ps a = record {
     among key has true h = inl h
     among key has false h = inr (crowded-out n key (length n) ps a.order has h)
 
--- What an exchange came to at this entry: a whole response, which rests on this reply, or none.
-abbrev pub CameTo : List Noted → ℕ → ℕ → Option Response → Type 0
-CameTo n o k (Some w) = (r : Reply) × (r.number ≡ k) × Ends n o k (Whole w (r ∷ []))
-CameTo n o k None = (w : Response) (rs : List Reply) → Ends n o k (Whole w rs) → ⊥
-
+-- with which response an exchange ended
 whole-inner : (w v : Response) (rs us : List Reply) → Whole w rs ≡ Whole v us → w ≡ v
 whole-inner w v rs us e = cc
 
@@ -65,9 +65,27 @@ ended-so n w rs = Some (record { number = n; how = Whole w rs })
 pub whole-is : (n : ℕ) (w v : Response) (rs us : List Reply) → ended-so n w rs ≡ ended-so n v us → w ≡ v
 whole-is n w v rs us e = whole-inner w v rs us (ap (λ (f : End). f.how) (some-is _ _ e))
 
+-- What ended otherwise isn't a whole response.
+abbrev pub ended-as : ℕ → Ending → Option End
+ended-as n how = Some (record { number = n; how = how })
+
+pub no-whole : (n : ℕ) (how : Ending) (w : Response) (rs : List Reply) → (how ≡ Whole w rs → ⊥) → ended-as n how ≡ ended-as n (Whole w rs) → ⊥
+no-whole n how w rs other e = other (ap (λ (f : End). f.how) (some-is _ _ e))
+
+-- It rests on a reply.
+pub rests-on-some : (l : List Noted) (o n : ℕ) (w : Response) → Ends l o n (Whole w []) → ⊥
+rests-on-some l o n w e = by (ends-whole l o n w [] e).turned.made.others _ (ends-whole l o n w [] e).turned.made.ends
+  where
+    by : (rs : List Reply) (r : Reply) → [] ≡ rs ++ r ∷ [] → ⊥
+    by [] r h = cc
+    by (s ∷ rs) r h = cc
+
 pub true-not : (b : Bool) → not b ≡ true → b ≡ true → ⊥
 true-not true h e = false≢true h
 true-not false h e = false≢true e
+
+abbrev option_moment : ℕ → Option Written → ℕ
+option_moment t v = option_map_or (λ (w : Written). w.moment) v t
 
 module _ (x : Noted) (l : List Noted) (S : State) (r : Reads l S) (legal : Legal (x ∷ l)) where
   pub kept : (e : Exchange) → Contains S.exchanges e → ExchangeIn r.start l e
@@ -75,6 +93,45 @@ module _ (x : Noted) (l : List Noted) (S : State) (r : Reads l S) (legal : Legal
 
   pub here : length S.entries ≡ length l
   here = ap length (sym r.entries_are) ∙ entries-length l
+
+  -- The first reply of a whole response stands in the journal or is this entry: from its moment that counts.
+  pub record FirstStands (first : Reply) : Type 0 where
+    pub entry : Noted
+    pub stands : at (x ∷ l) first.number ≡ Some entry
+    pub moment : moment_in S.entries x.written.moment first.number ≡ entry.written.moment
+
+  stands-before : (o : ℕ) (first : Reply) → Contains (replies l o) first → FirstStands first
+  stands-before o first has =
+      let fits = replies-fit l o first r.legal has in
+      let before_now : at l first.number ≡ Some (noted fits.moment (Hears fits.peer fits.bytes) (Says first.message (Some first.sending) fits.notice)) = fits.heard in
+      record {
+        entry = noted fits.moment (Hears fits.peer fits.bytes) (Says first.message (Some first.sending) fits.notice);
+        stands = at-keeps x l first.number _ before_now;
+        moment = ap (option_moment x.written.moment) (subst (λ (ws : List Written). slice_get ws first.number ≡ Some (record { moment = fits.moment; deed = Hears fits.peer fits.bytes })) r.entries_are (at-entries l first.number _ before_now));
+      }
+
+  stands-now : (first : Reply) → first.number ≡ length l → FirstStands first
+  stands-now first now = record {
+    entry = x;
+    stands = subst (λ (n : ℕ). at (x ∷ l) n ≡ Some x) (sym now) (at-new x l);
+    moment = ap (option_moment x.written.moment) (slice_get_past S.entries first.number (let size = here in omega (arith, size, now)));
+  }
+
+  pub first-stands : (o : ℕ) (w : Response) (first : Reply) (more : List Reply) → Ends (x ∷ l) o (length l) (Whole w (first ∷ more)) → FirstStands first
+  first-stands o w first more e =
+      let it = ends-whole (x ∷ l) o (length l) w (first ∷ more) e in
+      let last : Reply = record { number = length l; sending = it.turned.sending; message = it.turned.message } in
+      let all : Contains (replies (before (x ∷ l) (length l)) o ++ last ∷ []) first =
+      subst (λ (rs : List Reply). Contains rs first) (sym it.turned.made.split)
+      (Contains-append_right it.turned.made.before (first ∷ more) first (zero, omega arith, refl)) in
+      elim (Contains-append_cases (replies l o) (last ∷ []) first
+      (subst (λ (older : List Noted). Contains (replies older o ++ last ∷ []) first) (before-new x l) all)) [
+        | inl old ↦ stands-before o first old
+        | inr new ↦ elim (first-or-later last [] first new) [
+          | inl same ↦ stands-now first (ap (λ (a : Reply). a.number) (sym same))
+          | inr none ↦ absurd (contains-none first none)
+        ]
+      ]
 
   was-begun : (o : ℕ) (f : End) → end_of (x ∷ l) o ≡ Some f → (b : Option Begun) → begun l o ≡ b → (b : Begun) × (begun l o ≡ Some b)
   was-begun o f ended None is = absurd (none-some f (sym (unended x l o legal is) ∙ ended))

@@ -1,20 +1,18 @@
 -- What an entry is to the first sendings, and to what may be repeated: a first sending or a copy of one, what was
 -- heard and is remembered, or neither.
-use Rattle.std.proofs.Common.{◌≡◌, ℕ, ◌+◌, Bool, true, false, ◌&&◌, cond, eqb, ltb, List, [], ◌∷◌, length, Option, Some, None, is_some, refl, sym, ap, subst, ◌∙◌}
-use Rattle.std.specs.Prelude.{◌||◌}
+use Rattle.std.proofs.Common.{◌≡◌, ℕ, ◌+◌, Bool, true, false, ◌&&◌, eqb, ltb, List, ◌∷◌, Option, Some, None, refl, sym}
 use Rattle.limits.specs.declared.TheConstants.{EXCHANGE_LIFETIME, MESSAGE_ID_LIFETIME}
 use Rattle.coap_codec.specs.declared.message.MsgType.{MsgType}
-use Rattle.coap_codec.specs.declared.message.MsgType.TheVariants.{Con, Non, Ack, Rst}
-use Rattle.coap_codec.specs.Spelling.{Content, Spells}
+use Rattle.coap_codec.specs.declared.message.MsgType.TheVariants.{Ack, Rst}
+use Rattle.coap_codec.specs.Spelling.{Content}
 use Rattle.uri_map.specs.declared.peer.Peer.{Peer}
 use Rattle.uri_map.specs.Peers.{same_peer}
 use Rattle.journal_book.specs.Entries.{Past, Deed, Opens, Asks, Sends, Hears, Passes, Answers, Shuts, Seals, Carries}
 use Rattle.journal_book.specs.Entries as D
-use Rattle.history_laws.specs.Readings.{Noted, Note, Plain, Begins, Joins, Serves, First, Copies, Confirms, Says, Repeats, Garbled, Bygone, Recalls, Answered, Acknowledged, Rejected, Ignored, noted}
-use Rattle.history_laws.specs.Transmissions.{FirstSending, firsts_by, firsts, bears_token, bears_mid}
-use Rattle.history_laws.specs.Hearing.{is_such, is_live, bears, is_like, recalls_by, repeated, can_be_remembered}
-use Rattle.history_laws.specs.Confirming.{answered, answer_kind}
-use Rattle.history_laws.specs.Justified.{Follows, IsApart}
+use Rattle.history_laws.specs.Readings.{Noted, Note, First, Says, Bygone, Recalls, Answered, Acknowledged, Rejected, Ignored, noted}
+use Rattle.history_laws.specs.Transmissions.{FirstSending, firsts_by}
+use Rattle.history_laws.specs.Hearing.{is_such, is_live, bears}
+use Rattle.history_laws.specs.Confirming.{answered}
 
 -- what is remembered of an entry
 pub data Kept : Type 0 where

@@ -40,6 +40,7 @@ pub silent-reads : (l : List Noted) (t : ℕ) (d : Deed) (note : Note) (S : Stat
       issued = S.issued;
       conns = (entered t d S).conns;
       exchanges = S.exchanges;
+      pieces = S.pieces;
       readers = (entered t d S).readers;
       store = S.store;
       links = S.links;

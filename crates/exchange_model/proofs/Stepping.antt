@@ -31,14 +31,14 @@ use Rattle.history_laws.specs.Connections.{is_open, asks_of, answers_of}
 use Rattle.history_laws.specs.Hearing.{has_room}
 use Rattle.history_laws.proofs.CallerLemmas.{contains-none, find-some, first-or-later, all-filter, all-more, all-passes, all-push, and-right, at-new, entries-length, eqb-itself}
 use Rattle.history_links.specs.Agrees.{Start, WaitIn}
-use Rattle.exchange_model.specs.Calls.{IsAlone, served_in, serves, asked_for, Numbers, next, refused, has_place, is_joined, joined, asked_with, asked_by}
+use Rattle.exchange_model.specs.Calls.{IsAlone, served_in, serves, asked_for, next, refused, has_place, is_joined, joined, asked_with, asked_by}
 use Rattle.exchange_model.specs.Laws.{Leads, Before, MayAsk}
 use Rattle.exchange_model.specs.declared.kept.Conn.{Conn}
 use Rattle.exchange_model.specs.declared.kept.Exchange.{Exchange}
 use Rattle.exchange_model.specs.declared.kept.Reader.{Reader}
 use Rattle.exchange_model.specs.State.{State, link_of, pend}
 use Rattle.exchange_model.specs.Reads.{Reads, opening_of}
-use Rattle.exchange_model.specs.Steps.{asks, begins, joins, exchange_for, reader_for, answers}
+use Rattle.exchange_model.specs.Steps.{Numbers, asks, begins, joins, exchange_for, reader_for, answers}
 use Rattle.exchange_model.specs.Resting.{IsUndue, LinkRests, HasExchange, HasReader, IsServed, HasConn, Rests}
 use Rattle.exchange_model.specs.Keeping.{StartKeeps, HasMids, Kept, MayStep, KeptStands, OpensKeeps, ShutsKeeps, SealsKeeps, IsProper, IsNumbered, AsksKeeps}
 use Rattle.exchange_model.proofs.Quiet.{misses-tell, recalls-leads, asks-leads, joins-leads}
@@ -239,7 +239,7 @@ served-to t c a q s S m h sense served =
 
 -- An ask that opens an exchange.
 
-enough-ids : (t : ℕ) (s : LinkState) (w : Waiting) → HasMids s → w.first_mid < 65536 → mids_in_use t s < MAX_MESSAGE_IDS → HasMids (queued t w s)
+pub enough-ids : (t : ℕ) (s : LinkState) (w : Waiting) → HasMids s → w.first_mid < 65536 → mids_in_use t s < MAX_MESSAGE_IDS → HasMids (queued t w s)
 enough-ids t s w h small few = record {
   small = all-push (λ (v : Waiting). v.first_mid < 65536) s.waiting w h.small small;
   enough = by (ltb (length s.given + length s.waiting) 32768) refl;
@@ -284,7 +284,7 @@ opened-for t c a q n S m h sense numbered none place =
     let r = m.kept.rests in
     let p = q.peer in
     let b = before-step t S m in
-    let made = begins-leads l t c a q n.token n.text n.word S b (may-come t S m) (may-ask l S c r h) sense (misses-tell l t q S b none.0) (joins-tell l S r.reads q ∙ ap (option_map opening_of) none.1) (room-same l t q S b ∙ place) numbered.spelled numbered.token_size numbered.number in
+    let made = begins-leads l t c a q n.token n.text n.word S b (may-come t S m) (may-ask l S c r h) sense (misses-tell l t q S b none.0) (joins-tell l S r.reads q ∙ ap (option_map opening_of) none.1) (room-same l t q S b ∙ place) numbered.short numbered.spelled numbered.token_size numbered.number in
     let x = noted t (Asks c a) (Begins q) in
     let S1 = begins t c a q n.token n.text n.word S in
     let w = waits n.token n.text n.word in
@@ -374,7 +374,7 @@ asks-keeps t c a n S m h proper numbered = by a.sense refl
         place unserved none false e = at-once t c a C.Busy S m h
             (rw (is) (joins-tell m.kept.reading S m.kept.rests.reads q ∙ ap (option_map opening_of) none, room-same m.kept.reading t q S (before-step t S m) ∙ e))
             (rw (is) (misses-tell m.kept.reading t q S (before-step t S m) unserved))
-            (λ l k stands. (refl, record { moment = t; conn = c; ask = a; request = q; stands = stands; sense = is }))
+            (λ l k stands. (refl, inl (record { moment = t; conn = c; ask = a; request = q; stands = stands; sense = is })))
 
         with : served_in q t S ≡ None → (v : Option Exchange) → joined q S ≡ v → Kept (asked_with v t c a q n S)
         with unserved (Some e) found = joined-to t c a q e S m h is unserved found
@@ -404,6 +404,7 @@ start-keeps = record {
       readers_are = refl;
       keys = refl;
       exchanges_are = tt;
+      pieces_are = record { fetched = tt; below = tt };
       store_is = no-store [] refl;
       tokens_are = tt;
       waiting_are = tt;

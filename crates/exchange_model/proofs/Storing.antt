@@ -1,5 +1,6 @@
 -- What an entry leaves of what is stored.
-use Rattle.std.proofs.Common.{◌≢◌, [], arith, refl, ◌≡◌, ℕ, ◌≤◌, Bool, true, false, not, inl, inr, List, ◌∷◌, length, Option, Some, None, is_some, sym, ap, subst, ◌∙◌}
+use Rattle.std.proofs.Common.{◌≢◌, [], arith, refl, ◌≡◌, ℕ, ◌≤◌, Bool, true, false, not, inl, inr, List, ◌∷◌, length, Option, Some, None, is_some, sym, ap, subst, ◌∙◌, zero, ◌++◌, ◌<◌}
+use Rattle.std.proofs.lemmas.List.Elements.{Contains-append_right}
 use Rattle.std.specs.List.{Contains, AllByRecursion}
 use Rattle.std.specs.Prelude.{◌&&◌}
 use Rattle.std.specs.Option.{option_map_or}
@@ -19,7 +20,7 @@ use Rattle.history_laws.specs.Responses.{Response}
 use Rattle.history_laws.specs.Joining.{asks_the_same, outrun, is_joinable}
 use Rattle.history_laws.specs.Storing.{EndsSo, IsStored}
 use Rattle.history_laws.specs.Justified.{Legal}
-use Rattle.history_laws.proofs.CallerLemmas.{at-old, begun-below, end-below, ends-one, replies-fit, some-is, unended, write-outruns, all-more, at-keeps, begun-keeps, end-keeps, end-old, ended-begun, EndsWrite, none-some, outrun-quiet}
+use Rattle.history_laws.proofs.CallerLemmas.{at-old, begun-below, ends-all, at-below, replies-fit, some-is, unended, write-outruns, all-more, at-keeps, begun-keeps, end-keeps, end-old, ended-begun, EndsWrite, none-some, outrun-quiet}
 use Rattle.exchange_model.specs.Reads.{PairIn}
 
 -- Nothing that the entry ends is to what is stored for the request.
@@ -112,7 +113,7 @@ stored-was x l q s legal writes a other = record {
       a.latest o e w rs (record { ended = end-keeps x l o _ ends.ended; code = ends.code }) (joinable-same x l q legal writes o b.0 b.1 ∙ joins);
   entry = a.entry;
   heard_in = elim (at-old x l a.first.number a.entry a.heard_in) [
-    | inl w ↦ absurd (let here = w.0 in let below = end-below l a.opening a.ending _ old in omega (arith, here, below, first-number))
+    | inl w ↦ absurd (let here = w.0 in let below = first-below in omega (arith, here, below))
     | inr w ↦ w
   ];
   heard = a.heard;
@@ -128,13 +129,11 @@ stored-was x l q s legal writes a other = record {
     was : (b : Begun) × (begun l a.opening ≡ Some b)
     was = ended-begun l a.opening _ legal.0 old
 
-    first-number : a.first.number ≡ a.ending
-    first-number =
-        let it = ends-one l a.opening a.ending s.response (a.first ∷ a.more) old in
-        ap (λ (r : Reply). r.number) (first-of a.first a.more it.reply it.alone) ∙ it.number
-      where
-        first-of : (f : Reply) (more : List Reply) (g : Reply) → (f ∷ more) ≡ (g ∷ []) → f ≡ g
-        first-of f more g e = cc
+    first-below : a.first.number < length l
+    first-below =
+        let all = ends-all l a.opening a.ending s.response (a.first ∷ a.more) old in
+        let fit = replies-fit l a.opening a.first legal.0 (all.listed a.first (zero, omega arith, refl)) in
+        at-below l a.first.number _ fit.heard
 
 -- No write ends at the place of what is stored then.
 pub stored-unwritten : (x : Noted) (l : List Noted) (q : CoapRequest) (s : Stored) → Legal (x ∷ l) → IsStored (x ∷ l) q s → EndsWrite x l (asked_place q) → ⊥
@@ -157,15 +156,19 @@ stored-one l q s u legal a b =
     let le = b.latest a.opening a.ending s.response (a.first ∷ a.more) a.ends a.shared in
     let ge = a.latest b.opening b.ending u.response (b.first ∷ b.more) b.ends b.shared in
     let same : a.ending ≡ b.ending = omega (arith, le, ge) in
-    let one = ends-one l a.opening a.ending s.response (a.first ∷ a.more) a.ends.ended in
-    let other = ends-one l b.opening b.ending u.response (b.first ∷ b.more) b.ends.ended in
-    let opening = opened-by-one one.reply other.reply one.listed other.listed (one.number ∙ (same ∙ sym other.number)) in
+    let one = ends-all l a.opening a.ending s.response (a.first ∷ a.more) a.ends.ended in
+    let other = ends-all l b.opening b.ending u.response (b.first ∷ b.more) b.ends.ended in
+    let opening = opened-by-one one.last other.last (one.listed one.last (is-last one.others one.last (a.first ∷ a.more) one.all))
+    (other.listed other.last (is-last other.others other.last (b.first ∷ b.more) other.all)) (one.number ∙ (same ∙ sym other.number)) in
     let ends = some-is _ _ (sym a.ends.ended ∙ (ap (end_of l) opening ∙ b.ends.ended)) in
     let how = whole-same s.response u.response (a.first ∷ a.more) (b.first ∷ b.more) (ap (λ (e : End). e.how) ends) in
     let first = first-of a.first b.first a.more b.more how.1 in
     let entry : a.entry ≡ b.entry = some-is _ _ (sym a.heard_in ∙ (ap (λ (r : Reply). at l r.number) first ∙ b.heard_in)) in
     alike s u how.0 (a.heard ∙ (ap (λ (x : Noted). x.written.moment) entry ∙ sym b.heard)) (a.list ∙ (ap numbers how.1 ∙ sym b.list))
   where
+    is-last : (rs : List Reply) (r : Reply) (all : List Reply) → all ≡ rs ++ r ∷ [] → Contains all r
+    is-last rs r all e = subst (λ (v : List Reply). Contains v r) (sym e) (Contains-append_right rs (r ∷ []) r (zero, omega arith, refl))
+
     whole-same : (w v : Response) (rs us : List Reply) → Whole w rs ≡ Whole v us → (w ≡ v) × (rs ≡ us)
     whole-same w v rs us e = (cc, cc)
 

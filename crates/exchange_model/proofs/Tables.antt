@@ -1,6 +1,6 @@
 -- What an entry leaves of what a state keeps.
 use Rattle.std.proofs.Common.{◌≡◌, ℕ, ◌+◌, ◌<◌, ◌≤◌, Bool, true, false, not, cond, eqb, List, [], ◌∷◌, ◌++◌, length, Option, Some, None, refl, sym, ap, subst, ◌∙◌, arith}
-use Rattle.std.specs.Prelude.{is_none, max}
+use Rattle.std.specs.Prelude.{is_none, max, find, option_map}
 use Rattle.std.proofs.lemmas.List.Elements.{filter_agree}
 use Rattle.uri_map.specs.declared.peer.Peer.{Peer}
 use Rattle.uri_map.specs.Peers.{same_peer}
@@ -11,7 +11,8 @@ use Rattle.ask_model.specs.Sharing.{asked_place}
 use Rattle.journal_book.specs.Entries.{Deed, Written, Opens}
 use Rattle.history_laws.specs.Readings.{Noted, Note, newest, noted}
 use Rattle.history_laws.specs.Connections.{sealed_by, opened_by, opened, opens_by, has_opened}
-use Rattle.history_laws.specs.Transmissions.{FirstSending, firsts, first_at, bears_token}
+use Rattle.history_laws.specs.Progress.{progress}
+use Rattle.history_laws.specs.Transmissions.{FirstSending, firsts, first_at, sent_last, bears_token}
 use Rattle.history_laws.specs.Exchanges.{openings, waits_for, is_going, open_exchanges}
 use Rattle.history_laws.specs.Joining.{outrun}
 use Rattle.history_laws.specs.Justified.{Follows, IsNextConn}
@@ -21,8 +22,9 @@ use Rattle.history_links.proofs.CallerLemmas.{first_at-still, Still}
 use Rattle.exchange_model.specs.declared.kept.Exchange.{Exchange}
 use Rattle.exchange_model.specs.declared.kept.Reader.{Reader}
 use Rattle.exchange_model.specs.State.{PeerLink, State, link_of, with_link, conns_after}
-use Rattle.exchange_model.specs.Steps.{given_out}
-use Rattle.exchange_model.specs.Reads.{IsSentUnder, ExchangeIn, StoreIn, WaitsUnder, Reads, opens_in, opens_once, readers_by, readers_of}
+use Rattle.exchange_model.specs.Steps.{given_out, progress_with}
+use Rattle.exchange_model.proofs.Pieces.{all-every, got-same, got-stays, pieces-stay}
+use Rattle.exchange_model.specs.Reads.{IsSentUnder, awaited_by, got_in, ExchangeIn, StoreIn, WaitsUnder, Reads, opens_in, opens_once, readers_by, readers_of}
 
 -- entries
 
@@ -45,26 +47,34 @@ under-stays x l p token (Some i) unborne a = (a.0, first-stays x l i a.0 a.1, a.
 
 -- An entry after which an exchange waits for what it waited for leaves what is kept of it.
 pub exchange-stays : {start : Start} (x : Noted) (l : List Noted) (e : Exchange) (b : Bool) → (bears_token l e.token ≡ false → bears_token (x ∷ l) e.token ≡ false)
-    → waits_for (x ∷ l) e.opening ≡ waits_for l e.opening → (a : ExchangeIn start l e) → b ≡ not (outrun (x ∷ l) (asked_place a.request) e.opening)
+    → waits_for (x ∷ l) e.opening ≡ waits_for l e.opening → sent_last (x ∷ l) e.opening ≡ sent_last l e.opening → (a : ExchangeIn start l e) → b ≡ not (outrun (x ∷ l) (asked_place a.request) e.opening)
     → ExchangeIn start (x ∷ l) (record e { current = b })
-exchange-stays {start = start} x l e b unborne same a current = record {
-  request = a.request;
-  opening = begun-keeps x l e.opening _ a.opening;
-  peer = a.peer;
-  method = a.method;
-  number = ap (λ (k : ℕ). start.issued + k) (rank-keeps x l e.opening _ a.opening (awaiting-stays x l e.opening same)) ∙ a.number;
-  sending = same ∙ a.sending;
-  sent = under-stays x l e.peer e.token e.sending unborne a.sent;
-  current = current;
-  conn = a.conn;
-  ask = a.ask;
-  stands = at-keeps x l e.opening _ a.stands;
-}
+exchange-stays {start = start} x l e b unborne same sends a current =
+    let unreplied = awaiting-stays x l e.opening same in record {
+      request = a.request;
+      opening = begun-keeps x l e.opening _ a.opening;
+      peer = a.peer;
+      method = a.method;
+      number = ap (λ (k : ℕ). start.issued + k) (rank-keeps x l e.opening _ a.opening unreplied) ∙ a.number;
+      sending = sends ∙ a.sending;
+      awaits = same ∙ a.awaits;
+      named = a.named;
+      sent = under-stays x l e.peer e.token (awaited_by e.awaits e.sending) unborne a.sent;
+      progress = ap (progress a.request) unreplied ∙ (a.progress ∙ ap (progress_with e.work) (sym (got-stays x l e.opening _ a.opening unreplied)));
+      current = current;
+      short = a.short;
+      conn = a.conn;
+      ask = a.ask;
+      stands = at-keeps x l e.opening _ a.stands;
+    }
 
 -- Nor does one that is nothing to any exchange.
 under-still : (l n : List Noted) (p : Peer) (token : List ℕ) (s : Option ℕ) → Still l n → IsSentUnder l p token s → IsSentUnder n p token s
 under-still l n p token None still a = rw (still.firsts_are) a
 under-still l n p token (Some i) still a = (a.0, first_at-still l n still i ∙ a.1, a.2, a.3)
+
+abbrev sent_in : ℕ → List FirstSending → Option ℕ
+sent_in o fs = option_map (λ (f : FirstSending). f.number) (find (λ (f : FirstSending). eqb f.opening o) fs)
 
 exchange-still : {start : Start} (l n : List Noted) → Still l n → (e : Exchange) → ExchangeIn start l e → ExchangeIn start n e
 exchange-still {start = start} l n still e a = record {
@@ -73,9 +83,14 @@ exchange-still {start = start} l n still e a = record {
   peer = a.peer;
   method = a.method;
   number = ap (λ (k : ℕ). start.issued + k) (still.ranks_are e.opening a.opening) ∙ a.number;
-  sending = still.waits_are e.opening ∙ a.sending;
-  sent = under-still l n e.peer e.token e.sending still a.sent;
+  sending = ap (sent_in e.opening) still.firsts_are ∙ a.sending;
+  awaits = still.waits_are e.opening ∙ a.awaits;
+  named = a.named;
+  sent = under-still l n e.peer e.token (awaited_by e.awaits e.sending) still a.sent;
+  progress = ap (progress a.request) (still.replies_are e.opening)
+      ∙ (a.progress ∙ ap (progress_with e.work) (sym (got-same l n e.opening (still.begun_are e.opening) (still.replies_are e.opening))));
   current = a.current ∙ ap not (sym (outrun-same l n still.openings_are still.begun_are still.ends_are (asked_place a.request) e.opening));
+  short = a.short;
   conn = a.conn;
   ask = a.ask;
   stands = still.stands e.opening _ a.stands;
@@ -120,6 +135,7 @@ pub still-reads : (l : List Noted) (t : ℕ) (d : Deed) (note : Note) (S : State
       issued = S.issued;
       conns = conns_after S.conns (length S.entries) d;
       exchanges = S.exchanges;
+      pieces = S.pieces;
       readers = readers;
       store = store;
       links = links;
@@ -139,6 +155,9 @@ still-reads l t d note S links store r stored later numbered follows readers rea
       readers_are = reads;
       keys = open-still l n still ∙ r.keys;
       exchanges_are = all-more (ExchangeIn r.start l) (ExchangeIn r.start n) (exchange-still l n still) S.exchanges r.exchanges_are;
+      pieces_are = pieces-stay l n S.exchanges S.pieces (omega arith)
+          (all-every (λ (e : Exchange). got_in n e.opening ≡ got_in l e.opening) (λ e. got-same l n e.opening (still.begun_are e.opening) (still.replies_are e.opening)) S.exchanges)
+          r.pieces_are;
       store_is = stored;
       tokens_are = rw (still.firsts_are) r.tokens_are;
       waiting_are = all-more _ (λ (e : Exchange). WaitsUnder (link_of links e.peer).waiting e) (λ e h. rw (waiting e.peer) h) S.exchanges r.waiting_are;

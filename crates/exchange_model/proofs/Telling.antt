@@ -89,7 +89,9 @@ grounds-keep l t s c j a k (Fault cause n) h = by cause h
     x = noted s (Answers c j a) Plain
 
     by : (cause : _) → Caused l t k cause n → Caused (x ∷ l) t k cause n
-    by C.Busy (is, h) = (is, record { moment = h.moment; conn = h.conn; ask = h.ask; request = h.request; stands = at-keeps x l k _ h.stands; sense = h.sense })
+    by C.Busy (is, inl h) =
+        (is, inl (record { moment = h.moment; conn = h.conn; ask = h.ask; request = h.request; stands = at-keeps x l k _ h.stands; sense = h.sense }))
+    by C.Busy (is, inr (o, e, at_it, ends)) = (is, inr (o, e, reads-keep x l k o at_it, ends))
     by C.Timeout (o, is, named, over) = (o, reads-keep x l k o is, named, over)
     by C.Reset (o, is, ends) = (o, reads-keep x l k o is, ends)
     by C.NotUnderstood (o, is, ends) = (o, reads-keep x l k o is, ends)

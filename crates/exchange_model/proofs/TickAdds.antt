@@ -34,16 +34,16 @@ AreIdle xs S = (p : Peer) → is_busy xs p ≡ false → IsIdle (link_of S.links
 moves-still : (t : ℕ) (S : State) (p : Peer) → IsIdle (link_of S.links p) → moves t S p ≡ S
 moves-still t S p h = rw (h.free, h.free, h.none) refl
 
-moves-adds : (t : ℕ) (S : State) (p : Peer) → Tidy S.links → Adds 1 2080 S (moves t S p)
+moves-adds : (t : ℕ) (S : State) (p : Peer) → Tidy S.links → Adds 1 2088 S (moves t S p)
 moves-adds t S p h = by (link_of S.links p).outstanding refl
   where
     copies : (o : Outstanding) → (link_of S.links p).outstanding ≡ Some o → (b : Bool)
-        → Adds 1 2080 S (cond b (sends_copy t p o S) S)
+        → Adds 1 2088 S (cond b (sends_copy t p o S) S)
     copies o is true = copy-adds t p o S h is
-    copies o is false = stays 1 2080 S h
+    copies o is false = stays 1 2088 S h
 
     by : (v : Option Outstanding) → (link_of S.links p).outstanding ≡ v
-        → Adds 1 2080 S (moves_by t p v S)
+        → Adds 1 2088 S (moves_by t p v S)
     by None is = next-adds t p S h
     by (Some o) is = copies o is (is_due t (Some o))
 
@@ -79,7 +79,7 @@ idle-after t xs S p busy h q idle = by (same_peer p q) refl
 
 all-move-adds : (t : ℕ) (xs : List PeerLink) (ps : List Peer) (S : State) → Tidy S.links
     → AreIdle xs S
-    → Adds (count_by (is_busy xs) ps) (2080 * count_by (is_busy xs) ps) S (fold (moves t) S ps)
+    → Adds (count_by (is_busy xs) ps) (2088 * count_by (is_busy xs) ps) S (fold (moves t) S ps)
 all-move-adds t xs [] S h idle = stays 0 0 S h
 all-move-adds t xs (p ∷ ps) S h idle =
     by (is_busy xs p) refl (all-move-adds t xs ps S h idle)
@@ -88,25 +88,25 @@ all-move-adds t xs (p ∷ ps) S h idle =
     n : ℕ
     n = count_by (is_busy xs) ps
 
-    by : (b : Bool) → is_busy xs p ≡ b → Adds n (2080 * n) S (fold (moves t) S ps)
-        → (Tidy (moves t S p).links → AreIdle xs (moves t S p) → Adds n (2080 * n) (moves t S p)
+    by : (b : Bool) → is_busy xs p ≡ b → Adds n (2088 * n) S (fold (moves t) S ps)
+        → (Tidy (moves t S p).links → AreIdle xs (moves t S p) → Adds n (2088 * n) (moves t S p)
         (fold (moves t) (moves t S p) ps))
-        → Adds (count_by (is_busy xs) (p ∷ ps)) (2080 * count_by (is_busy xs) (p ∷ ps)) S
+        → Adds (count_by (is_busy xs) (p ∷ ps)) (2088 * count_by (is_busy xs) (p ∷ ps)) S
         (fold (moves t) (moves t S p) ps)
     by true busy same after =
         let first = moves-adds t S p h in
         let rest = after first.tidy (idle-after t xs S p busy idle) in
         let c = count-cons (is_busy xs) p ps in
         let here : one (is_busy xs p) ≡ 1 = ap one busy in
-        at-most (1 + n) (2080 + 2080 * n) _ _ S _ (omega (arith, c, here)) (omega (arith, c, here))
-        (both-add 1 2080 n (2080 * n) S (moves t S p) _ first rest)
+        at-most (1 + n) (2088 + 2088 * n) _ _ S _ (omega (arith, c, here)) (omega (arith, c, here))
+        (both-add 1 2088 n (2088 * n) S (moves t S p) _ first rest)
     by false free same after =
         let still = moves-still t S p (idle p free) in
         let c = count-cons (is_busy xs) p ps in
         let here : one (is_busy xs p) ≡ 0 = ap one free in
         subst (λ (S1 : State). Adds (count_by (is_busy xs) (p ∷ ps))
-        (2080 * count_by (is_busy xs) (p ∷ ps)) S (fold (moves t) S1 ps)) (sym still)
-        (at-most n (2080 * n) _ _ S _ (omega (arith, c, here)) (omega (arith, c, here)) same)
+        (2088 * count_by (is_busy xs) (p ∷ ps)) S (fold (moves t) S1 ps)) (sym still)
+        (at-most n (2088 * n) _ _ S _ (omega (arith, c, here)) (omega (arith, c, here)) same)
 
 -- after its own entry
 passed-idle : (t tick : ℕ) (S : State) → ((p : Peer) → LinkRests tick (link_of S.links p))
@@ -128,7 +128,7 @@ passed-idle t tick S rests p free = subst IsIdle (sym (link-passed t S p S.links
 pub ticked-adds : (t tick : ℕ) (S : State) → Tidy S.links → Served S
     → ((p : Peer) → LinkRests tick (link_of S.links p))
     → Adds (1 + count_by (is_busy S.links) (map peer_of S.links))
-    (64 + 2080 * count_by (is_busy S.links) (map peer_of S.links)) S (ticked t S)
+    (64 + 2088 * count_by (is_busy S.links) (map peer_of S.links)) S (ticked t S)
 ticked-adds t tick S h served rests = by (something_due t S)
   where
     n : ℕ
@@ -141,9 +141,9 @@ ticked-adds t tick S h served rests = by (something_due t S)
     same = ap (count_by (is_busy S.links)) (peers-passed t S S.links)
 
     by : (b : Bool)
-        → Adds (1 + n) (64 + 2080 * n) S
+        → Adds (1 + n) (64 + 2088 * n) S
         (cond b (fold (tells t) (move_all t (passes t S)) (told_late (timed_out t S) S.readers)) S)
-    by false = stays (1 + n) (64 + 2080 * n) S h
+    by false = stays (1 + n) (64 + 2088 * n) S h
     by true =
         let tidy = tidy-passed t S S.links h in
         let one = still-adds 64 S S1 _ refl refl refl tidy (omega arith) in
@@ -154,7 +154,7 @@ ticked-adds t tick S h served rests = by (something_due t S)
         (rw (moved-conns t (map peer_of S1.links) S1) served.waits) served.apart in
         let k = count_by (is_busy S.links) (map peer_of S1.links) in
         let count = same in
-        at-most (1 + k + 0) (64 + 2080 * k + 0) (1 + n) (64 + 2080 * n) S _ (omega (arith, count))
+        at-most (1 + k + 0) (64 + 2088 * k + 0) (1 + n) (64 + 2088 * n) S _ (omega (arith, count))
         (omega (arith, count))
-        (both-add (1 + k) (64 + 2080 * k) 0 0 S S2 _ (both-add 1 64 k (2080 * k) S S1 S2 one two)
+        (both-add (1 + k) (64 + 2088 * k) 0 0 S S2 _ (both-add 1 64 k (2088 * k) S S1 S2 one two)
         three)

@@ -1,5 +1,4 @@
 -- A tick keeps that the journal stands, and that the state says what it says.
-use Rattle.history_links.specs.Agrees.{Start}
 use Rattle.std.proofs.Common.{◌≡◌, ℕ, ◌+◌, ◌<◌, ◌≤◌, ◌⊎◌, Bool, true, false, cond, not, inl, inr, List, [], ◌∷◌, map, Option, Some, None, refl, sym, subst, ◌∙◌, arith}
 use Rattle.std.specs.Prelude.{fold, filter, unwrap_or}
 use Rattle.std.specs.List.{AllByRecursion, Contains, list_any}
@@ -15,7 +14,6 @@ use Rattle.message_layer.specs.Values.{LinkState, empty_link}
 use Rattle.message_layer.specs.declared.state.Outstanding.{Outstanding}
 use Rattle.message_layer.specs.declared.state.Waiting.{Waiting}
 use Rattle.history_laws.specs.Readings.{Noted, Plain, ticked as at_tick, noted}
-use Rattle.history_laws.specs.Confirming.{owed}
 use Rattle.history_laws.specs.Exchanges.{end_of}
 use Rattle.history_laws.proofs.CallerLemmas.{all-filter, all-more, all-of, all-passes, none-of}
 use Rattle.history_links.specs.Steps.{is_over, passed_link}
@@ -29,7 +27,7 @@ use Rattle.history_laws.specs.Justified.{HasGrounds}
 use Rattle.exchange_model.specs.Growing.{RiseByAsk}
 use Rattle.exchange_model.specs.Laws.{Before}
 use Rattle.exchange_model.specs.Calls.{Telling, tells, timeout_for, told_late, is_due, link_due, something_due, peer_of, move_all}
-use Rattle.exchange_model.proofs.Amid.{Amid, RestAt}
+use Rattle.exchange_model.proofs.Amid.{RestAt}
 use Rattle.exchange_model.proofs.Readers.{ReaderIn, reader-keeps, readers-wait, readers-rise-in, readers-apart, rise-filter, Apart}
 use Rattle.exchange_model.proofs.Telling.{readers_in, IsAmong, ReadWith, all-in, all-told, kept-told, tells-links, tells-exchanges}
 use Rattle.exchange_model.proofs.Tellings.{is-told, late_reads, readers-late, among-late, late-all}

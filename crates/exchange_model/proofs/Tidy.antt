@@ -87,7 +87,7 @@ tidy-with p s xs h short = record
 
 pub short-first : (t : ℕ) (s : LinkState) (w : Waiting) (ws : List Waiting) → IsShort s
     → s.waiting ≡ w ∷ ws
-    → (length (first_sent t s.last_mid w).datagram ≤ 2016) × IsShort
+    → (length (first_sent t s.last_mid w).datagram ≤ 2024) × IsShort
     (given_out (with_outstanding s ws (first_sent t s.last_mid w)))
 short-first t s w ws h is =
     let waiting = subst (AllByRecursion (λ (v : Waiting). length v.datagram ≤ MAX_MESSAGE_LEN)) is
@@ -97,17 +97,17 @@ short-first t s w ws h is =
     let two = length-set (set w.datagram 2 (mid / 256)) 3 (mid % 256) in
     let first = waiting.0 in
     let o = first_sent t s.last_mid w in
-    let short : length o.datagram ≤ 2016 = omega (arith, first, one, two) in
+    let short : length o.datagram ≤ 2024 = omega (arith, first, one, two) in
     (short, record { outstanding = short; waiting = waiting.1 })
 
 pub short-copy : (t : ℕ) (s : LinkState) (o : Outstanding) → IsShort s → s.outstanding ≡ Some o
-    → (length o.datagram ≤ 2016) × IsShort (given_out (with_copy t s o))
+    → (length o.datagram ≤ 2024) × IsShort (given_out (with_copy t s o))
 short-copy t s o h is =
-    let short : length o.datagram ≤ 2016 = subst IsShortOut is h.outstanding in
+    let short : length o.datagram ≤ 2024 = subst IsShortOut is h.outstanding in
     (short, record { outstanding = short; waiting = h.waiting })
 
 pub short-queued : (t : ℕ) (s : LinkState) (token text : List ℕ) (word : ℕ) → IsShort s
-    → length text ≤ 2016 → IsShort (queued t (waits token text word) s)
+    → length text ≤ 2024 → IsShort (queued t (waits token text word) s)
 short-queued t s token text word h short = record {
   outstanding = h.outstanding;
   waiting = all-push (λ (v : Waiting). length v.datagram ≤ MAX_MESSAGE_LEN) s.waiting

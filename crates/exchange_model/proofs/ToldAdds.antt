@@ -1,24 +1,26 @@
 -- What is told takes nothing of a journal's room but what was held free.
-use Rattle.std.proofs.Common.{◌≡◌, ◌≢◌, ℕ, ◌≤◌, Bool, true, false, cond, inl, inr, List, [], ◌∷◌, map, filter, Option, Some, None, sym, subst, ◌∙◌, arith}
+use Rattle.std.proofs.Common.{◌≡◌, ◌≢◌, ℕ, ◌≤◌, Bool, true, false, cond, inl, inr, List, [], ◌∷◌, map, filter, Some, None, sym, subst, ◌∙◌, arith}
 use Rattle.std.specs.Prelude.{fold}
 use Rattle.std.specs.List.{AllByRecursion, Contains}
 use Rattle.std.proofs.lemmas.Bool.Decides.{eqb_tells}
-use Rattle.journal_book.specs.Entries.{Grounds, grounds_size}
+use Rattle.journal_book.specs.Entries.{grounds_size}
+use Rattle.history_laws.specs.Progress.{Ending}
 use Rattle.history_laws.specs.Readings.{Noted}
 use Rattle.history_laws.proofs.CallerLemmas.{all-filter, all-more}
 use Rattle.exchange_model.specs.declared.kept.Conn.{Conn}
 use Rattle.exchange_model.specs.declared.kept.Exchange.{Exchange}
 use Rattle.exchange_model.specs.declared.kept.Reader.{Reader}
 use Rattle.exchange_model.specs.State.{State, pend}
+use Rattle.exchange_model.specs.Steps.{Matter, Over}
 use Rattle.exchange_model.specs.Reads.{Reads}
 use Rattle.exchange_model.specs.Resting.{HasConn}
-use Rattle.exchange_model.specs.Calls.{Telling, tells, told_for, told_late}
+use Rattle.exchange_model.specs.Calls.{Telling, grounds_for, tells, told_for, told_late}
 use Rattle.exchange_model.specs.Growing.{RiseByAsk}
 use Rattle.exchange_model.proofs.Adding.{Adds, stays, at-most, both-add, answers-adds}
 use Rattle.exchange_model.proofs.ConnsTell.{conns-tell}
 use Rattle.exchange_model.proofs.Readers.{ReaderIn, readers-wait, readers-rise-in, readers-apart, Apart}
 use Rattle.exchange_model.proofs.Telling.{readers_in, all-in}
-use Rattle.exchange_model.proofs.Tellings.{reads_it, readers-for, for-all, late_reads, readers-late, late-all}
+use Rattle.exchange_model.proofs.Tellings.{over_in, reads_it, readers-for, for-all, late_reads, readers-late, late-all}
 use Rattle.exchange_model.proofs.Tidy.{Tidy}
 
 -- Who is told waits, each on a connection of its own.
@@ -35,7 +37,7 @@ still-waits c (r ∷ rs) cs a h = (by cs h.0, still-waits c rs cs a.1 h.1)
     by (x ∷ xs) (inr k) = inr (by xs k)
 
 pub all-told-adds : (t : ℕ) (xs : List Telling) (S : State) → Tidy S.links → AreWaiting (readers_in xs) S.conns → Apart (readers_in xs)
-    → AllByRecursion (λ (x : Telling). grounds_size x.grounds ≤ 4) xs → Adds 0 0 S (fold (tells t) S xs)
+    → AllByRecursion (λ (x : Telling). grounds_size x.grounds ≤ 16388) xs → Adds 0 0 S (fold (tells t) S xs)
 all-told-adds t [] S h waits apart small = stays 0 0 S h
 all-told-adds t (x ∷ xs) S h waits apart small =
     let one = answers-adds t x.reader.conn x.reader.ask x.grounds S h waits.0 small.0 in
@@ -67,11 +69,11 @@ apart-filter q (r ∷ rs) h = by (q r) (apart-filter q rs h.1)
     by false ih = ih
 
 -- those of one exchange, and of all that end at a tick
-pub for-served : (v : Option Exchange) (g : Grounds) (rs : List Reader) (cs : List Conn) → AreWaiting rs cs → Apart rs
-    → AreWaiting (readers_in (told_for v g rs)) cs × Apart (readers_in (told_for v g rs))
-for-served v g rs cs waits apart = (
-  rw (readers-for v g rs) (all-filter (λ (r : Reader). HasConn cs r.conn (Some r.ask)) (reads_it v) rs waits),
-  rw (readers-for v g rs) (apart-filter (reads_it v) rs apart),
+pub for-served : (n : ℕ) (x : Matter) (rs : List Reader) (cs : List Conn) → AreWaiting rs cs → Apart rs
+    → AreWaiting (readers_in (told_for n x rs)) cs × Apart (readers_in (told_for n x rs))
+for-served n x rs cs waits apart = (
+  rw (readers-for n x rs) (all-filter (λ (r : Reader). HasConn cs r.conn (Some r.ask)) (reads_it (over_in x)) rs waits),
+  rw (readers-for n x rs) (apart-filter (reads_it (over_in x)) rs apart),
 )
 
 pub late-served : (es : List Exchange) (rs : List Reader) (cs : List Conn) → AreWaiting rs cs → Apart rs
@@ -81,16 +83,20 @@ late-served es rs cs waits apart = (
   rw (readers-late es rs) (apart-filter (late_reads es) rs apart),
 )
 
-pub for-adds : (t : ℕ) (v : Option Exchange) (g : Grounds) (rs : List Reader) (S : State) → Tidy S.links → AreWaiting rs S.conns → Apart rs → grounds_size g ≤ 4
-    → Adds 0 0 S (fold (tells t) S (told_for v g rs))
-for-adds t v g rs S h waits apart small =
-    let served = for-served v g rs S.conns waits apart in
-    all-told-adds t (told_for v g rs) S h served.0 served.1
-    (for-all (λ (x : Telling). grounds_size x.grounds ≤ 4) (Contains rs) v g rs (λ e r is a same. small) (all-in rs))
+-- What is told of it isn't long.
+abbrev pub IsBrief : ℕ → Matter → Type 0
+IsBrief n x = (e : Exchange) (how : Ending) (r : Reader) → x ≡ Over e how → grounds_size (grounds_for how n e.sending r) ≤ 16388
+
+pub for-adds : (t n : ℕ) (x : Matter) (rs : List Reader) (S : State) → Tidy S.links → AreWaiting rs S.conns → Apart rs → IsBrief n x
+    → Adds 0 0 S (fold (tells t) S (told_for n x rs))
+for-adds t n x rs S h waits apart brief =
+    let served = for-served n x rs S.conns waits apart in
+    all-told-adds t (told_for n x rs) S h served.0 served.1
+    (for-all (λ (y : Telling). grounds_size y.grounds ≤ 16388) (Contains rs) n x rs (λ e how r is a same. brief e how r is) (all-in rs))
 
 pub late-adds : (t : ℕ) (es : List Exchange) (rs : List Reader) (S : State) → Tidy S.links → AreWaiting rs S.conns → Apart rs
     → Adds 0 0 S (fold (tells t) S (told_late es rs))
 late-adds t es rs S h waits apart =
     let served = late-served es rs S.conns waits apart in
     all-told-adds t (told_late es rs) S h served.0 served.1
-    (late-all (λ (x : Telling). grounds_size x.grounds ≤ 4) (Contains rs) es rs (λ e r in_es a same. omega arith) (all-in rs))
+    (late-all (λ (x : Telling). grounds_size x.grounds ≤ 16388) (Contains rs) es rs (λ e r in_es a same. omega arith) (all-in rs))

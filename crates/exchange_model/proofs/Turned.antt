@@ -249,6 +249,7 @@ reads-copied t l S r later fit = record {
   readers_are = readers-copied t l;
   keys = none-open t l;
   exchanges_are = tt;
+  pieces_are = record { fetched = tt; below = tt };
   store_is = no-store (copied t l) (openings-copied t l);
   tokens_are = issued-copied (λ (m : Content). token_number m.token < S.issued) t l r.tokens_are;
   waiting_are = tt;

@@ -1,17 +1,16 @@
 -- After a turn the journal is within its limits.
-use Rattle.std.proofs.Common.{◌≡◌, ℕ, ◌+◌, ◌≤◌, Bool, true, false, cond, not, List, [], ◌∷◌, length, map, Option, Some, None, refl, sym, arith}
+use Rattle.std.proofs.Common.{◌≡◌, ℕ, ◌≤◌, Bool, true, false, cond, not, List, [], ◌∷◌, length, map, None, refl, sym, arith}
 use Rattle.std.specs.Prelude.{◌||◌, nat_le, nat_lt, filter, sum_by}
 use Rattle.std.specs.List.{AllByRecursion, list_any}
 use Rattle.std.proofs.lemmas.Bool.{false≢true, and_parts}
 use Rattle.uri_map.specs.declared.peer.Peer.{Peer}
 use Rattle.uri_map.specs.Peers.{same_peer}
 use Rattle.journal_book.specs.Entries.{Written, entry_size}
-use Rattle.message_layer.specs.Values.{LinkState}
 use Rattle.exchange_model.specs.State.{PeerLink, State}
 use Rattle.exchange_model.specs.Calls.{peer_of}
-use Rattle.exchange_model.specs.Entering.{IsDrained, StandsOnce}
-use Rattle.exchange_model.specs.Room.{AreApart, IsShort, KeptInRoom}
-use Rattle.exchange_model.specs.Rotating.{RotatesInRoom, RotatesDrained, RotateFault, Unsealed, Connected, Exchanging, Spent, Crowded, all_over, are_few, copies, fault_of, has_copy, is_spent, keep_peer, turned}
+use Rattle.exchange_model.specs.Entering.{StandsOnce}
+use Rattle.exchange_model.specs.Room.{AreApart, IsShort}
+use Rattle.exchange_model.specs.Rotating.{RotatesInRoom, RotatesDrained, Unsealed, Connected, Exchanging, Spent, Crowded, all_over, are_few, copies, fault_of, has_copy, is_spent, keep_peer, turned}
 use Rattle.exchange_model.proofs.InRoom.{fits-from, le-true}
 use Rattle.exchange_model.proofs.Turned.{first-none, rotates-keeps}
 

@@ -24,13 +24,12 @@ use Rattle.ask_model.specs.Sharing.{asked_key, asks_same, is_get}
 use Rattle.ask_model.specs.Views.{Ask}
 use Rattle.ask_model.specs.declared.cause.Cause.TheVariants as C
 use Rattle.journal_book.specs.Entries.{Grounds, Live, Kept, Fault, Written}
-use Rattle.history_laws.specs.Responses.{Response, is_whole}
 use Rattle.history_laws.specs.Hearing.{is_such}
-use Rattle.history_links.specs.Steps.{ended_token}
+use Rattle.history_laws.specs.Progress.{numbers, Ending, Whole, NotUnderstood, Reset, TimedOut, Turned, Progress}
 use Rattle.exchange_model.specs.declared.kept.Exchange.{Exchange}
 use Rattle.exchange_model.specs.declared.kept.Reader.{Reader}
 use Rattle.exchange_model.specs.State.{PeerLink, State, link_of}
-use Rattle.exchange_model.specs.Steps.{asks, answers, begins, joins, asked_in, ended_in, method_in, recalls, whole_by, confirms, hears_nothing, hears, sends_first, sends_copy, expires, timed_out, passes}
+use Rattle.exchange_model.specs.Steps.{asks, answers, begins, joins, asked_in, recalls, confirms, hears_nothing, Numbers, Matter, Goes, Over, matter_of, hears, sends_first, sends_copy, expires, timed_out, passes}
 
 -- The message that waits first goes out where nothing is outstanding (RFC 7252 section 4.7).
 abbrev pub next_by : ℕ → Peer → Option Outstanding → List Waiting → State → State
@@ -52,12 +51,6 @@ has_place t p S =
     nat_lt (length S.exchanges) MAX_EXCHANGES
     && (nat_lt (length (link_of S.links p).waiting) MAX_WAITING
     && nat_lt (mids_in_use t (link_of S.links p)) MAX_MESSAGE_IDS)
-
--- what an ask is handed in with: the token and the bytes of its message, and a random word
-pub record Numbers : Type 0 where
-  pub token : List ℕ
-  pub text : List ℕ
-  pub word : ℕ
 
 -- the open exchange that a GET joins: that of an equal one, where no write has outrun it
 abbrev pub is_joined : List Written → CoapRequest → Exchange → Bool
@@ -105,79 +98,78 @@ pub record Telling : Type 0 where
   pub reader : Reader
   pub grounds : Grounds
 
-abbrev pub tell : Grounds → Reader → Telling
-tell g r = record { reader = r; grounds = g }
-
 abbrev pub tells : ℕ → State → Telling → State
 tells t S x = answers t x.reader.conn x.reader.ask x.grounds S
 
--- All who wait for an exchange that ends are told so on one ground, by rising ask.
+-- All who wait for an exchange that ends are told so, by rising ask.
 abbrev pub is_reader_of : Exchange → Reader → Bool
 is_reader_of e r = r.opening == e.opening
 
-abbrev pub told_for : Option Exchange → Grounds → List Reader → List Telling
-told_for None g rs = []
-told_for (Some e) g rs = map (tell g) (filter (is_reader_of e) rs)
+-- on which grounds the reader is told that its exchange ended so, by the entry with this number: the latest first
+-- sending is named where it took too long, or the ask itself where nothing was sent
+abbrev pub grounds_for : Ending → ℕ → Option ℕ → Reader → Grounds
+grounds_for (Whole w rs) n sending r = Live (numbers rs)
+grounds_for NotUnderstood n sending r = Fault C.NotUnderstood n
+grounds_for Reset n sending r = Fault C.Reset n
+grounds_for TimedOut n sending r = Fault C.Timeout (unwrap_or sending r.ask)
+grounds_for Turned n sending r = Fault C.Busy r.ask
 
--- on which grounds it ends: the reply with this number, or the Reset
-abbrev pub grounds_by : News → ℕ → ℕ → Content → Grounds
-grounds_by (N.Reset token) n method m = Fault C.Reset n
-grounds_by news n method m =
-    if is_whole method m then Live (n ∷ []) else Fault C.NotUnderstood n
+abbrev pub tell_of : Ending → ℕ → Option ℕ → Reader → Telling
+tell_of how n sending r = record { reader = r; grounds = grounds_for how n sending r }
 
--- what the message in the next entry ends, heeded so, and on which grounds
-abbrev pub ended_by : Verdict → Content → State → Option Exchange
-ended_by v m S = ended_in (ended_token v.news m.token) S.exchanges
-
-abbrev pub grounds_of : Verdict → Content → State → Grounds
-grounds_of v m S = grounds_by v.news (length S.entries) (method_in (ended_by v m S)) m
-
--- what the exchange comes to: how it is told, and the whole response where it is one
-pub record Outcome : Type 0 where
-  pub grounds : Grounds
-  pub whole : Option Response
-
-abbrev pub outcome_of : Verdict → Content → State → Outcome
-outcome_of v m S = record {
-  grounds = grounds_of v m S;
-  whole = whole_by v.news (method_in (ended_by v m S)) m;
-}
+abbrev pub told_for : ℕ → Matter → List Reader → List Telling
+told_for n (Over e how) rs = map (tell_of how n e.sending) (filter (is_reader_of e) rs)
+told_for n matter rs = []
 
 -- A message that is new: it is answered, the next one of the proxy goes out, and what it ends is
 -- told.
-abbrev pub takes_new : ℕ → Peer → List ℕ → Content → Verdict → State → State
-takes_new t p d m v S =
-    fold (tells t) (next t p (given_back t p (replies m.mid v.reply) (hears t p d m S)))
-    (told_for (ended_by v m S) (grounds_of v m S) S.readers)
+abbrev pub takes_new : ℕ → Peer → List ℕ → Content → Verdict → Numbers → State → State
+takes_new t p d m v n S =
+    fold (tells t) (next t p (given_back t p (replies m.mid v.reply) (hears t p d m n S)))
+    (told_for (length S.entries) (matter_of t p m v S) S.readers)
 
 -- where 1,024 are remembered one more counts as lost, and is no entry
-abbrev pub takes_by : ℕ → Peer → List ℕ → Content → Verdict → News → State → State
-takes_by t p d m v N.Lost S = S
-takes_by t p d m v news S = takes_new t p d m v S
+abbrev pub takes_by : ℕ → Peer → List ℕ → Content → Verdict → Numbers → News → State → State
+takes_by t p d m v n N.Lost S = S
+takes_by t p d m v n news S = takes_new t p d m v n S
 
 -- one that repeats another is answered as that one was
 abbrev pub repeats : ℕ → LinkState → Content → Bool
 repeats t s m = is_such m.kind && is_some (find (is_repeat t m.mid) s.heard)
 
-abbrev pub takes : ℕ → Peer → List ℕ → Content → Verdict → State → State
-takes t p d m v S =
+abbrev pub takes : ℕ → Peer → List ℕ → Content → Verdict → Numbers → State → State
+takes t p d m v n S =
     if repeats t (link_of S.links p) m
     then given_back t p (replies m.mid v.reply) (hears_nothing t p d S)
-    else takes_by t p d m v v.news S
+    else takes_by t p d m v n v.news S
 
 abbrev pub resets : Option ℕ → List (List ℕ)
 resets None = []
 resets (Some mid) = replies mid R.Rst
 
-abbrev pub reads_so : ℕ → Peer → List ℕ → Result Content CodecFault → State → State
-reads_so t p d (Ok m) S = takes t p d m (verdict_of t (link_of S.links p) m) S
-reads_so t p d (Err e) S = given_back t p (resets (reset_for d)) (hears_nothing t p d S)
+abbrev pub reads_so : ℕ → Peer → List ℕ → Numbers → Result Content CodecFault → State → State
+reads_so t p d n (Ok m) S = takes t p d m (verdict_of t (link_of S.links p) m) n S
+reads_so t p d n (Err e) S = given_back t p (resets (reset_for d)) (hears_nothing t p d S)
 
 -- A datagram above 2,048 bytes, or from an endpoint to which nothing was sent, counts as lost.
-abbrev pub heard : ℕ → Peer → List ℕ → State → State
-heard t p d S =
+abbrev pub heard : ℕ → Peer → List ℕ → Numbers → State → State
+heard t p d n S =
     if is_some (link_of S.links p).last_mid && nat_le (length d) MAX_DATAGRAM_LEN
-    then reads_so t p d (message_at d) S else S
+    then reads_so t p d n (message_at d) S else S
+
+-- The exchange that goes on by the datagram, and how: where it brings a new message that is a reply to it.
+abbrev pub goes_with : Matter → Option (Exchange × Progress)
+goes_with (Goes e progress) = Some (e, progress)
+goes_with matter = None
+
+abbrev pub goes_as : ℕ → Peer → Result Content CodecFault → State → Option (Exchange × Progress)
+goes_as t p (Err fault) S = None
+goes_as t p (Ok m) S =
+    if repeats t (link_of S.links p) m then None
+    else goes_with (matter_of t p m (verdict_of t (link_of S.links p) m) S)
+
+abbrev pub goes_by : ℕ → Peer → List ℕ → State → Option (Exchange × Progress)
+goes_by t p d S = goes_as t p (message_at d) S
 
 -- A tick does what is due, and leaves no entry where nothing is: a copy, an end, or a message given
 -- up.
@@ -206,10 +198,9 @@ peer_of x = x.peer
 abbrev pub move_all : ℕ → State → State
 move_all t S = fold (moves t) S (map peer_of S.links)
 
--- All who wait for exchanges that end so are told, by rising ask. The latest first sending is named,
--- or the ask itself where nothing was sent.
+-- All who wait for exchanges that end so are told, by rising ask.
 abbrev pub timeout_for : Reader → Exchange → Telling
-timeout_for r e = tell (Fault C.Timeout (unwrap_or e.sending r.ask)) r
+timeout_for r e = tell_of TimedOut 0 e.sending r
 
 abbrev pub read_by : List Exchange → Reader → Option Exchange
 read_by es r = find (λ (e : Exchange). is_reader_of e r) es

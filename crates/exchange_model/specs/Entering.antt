@@ -1,5 +1,5 @@
 -- What each call leaves, in one piece: the entries that it adds, in order, and each table after it.
-use Rattle.std.specs.Prelude.{◌≡◌, ℕ, ◌+◌, ◌<◌, ◌≤◌, Bool, true, false, not, nat_lt, List, [], ◌∷◌, ◌++◌, length, map, filter, Option, Some, None, option_map, option_to_list, is_some, Ok, Err, if◌then◌else◌, ⊤}
+use Rattle.std.specs.Prelude.{◌≡◌, ℕ, ◌+◌, ◌<◌, ◌≤◌, Bool, true, false, not, ◌||◌, nat_lt, List, [], ◌∷◌, ◌++◌, length, map, filter, Option, Some, None, option_map, is_some, Ok, Err, if◌then◌else◌, ⊤}
 use Rattle.std.specs.List.{AllByRecursion, list_any}
 use Rattle.std.specs.Str.{bytes_eq}
 use Rattle.limits.specs.declared.TheConstants.{MAX_DATAGRAM_LEN}
@@ -25,13 +25,13 @@ use Rattle.ask_model.specs.Requests.{CoapRequest, Requests, Refuses}
 use Rattle.ask_model.specs.Views.{Ask}
 use Rattle.ask_model.specs.Sharing.{asked_key}
 use Rattle.ask_model.specs.declared.cause.Cause.TheVariants as C
-use Rattle.journal_book.specs.Entries.{Grounds, Kept, Fault, Deed, Asks, Sends, Hears, Passes, Answers}
+use Rattle.journal_book.specs.Entries.{Kept, Fault, Deed, Asks, Sends, Hears, Passes, Answers}
 use Rattle.history_links.specs.Steps.{ended_token}
 use Rattle.exchange_model.specs.declared.kept.Exchange.{Exchange}
 use Rattle.exchange_model.specs.State.{PeerLink, State, link_of, with_link}
-use Rattle.exchange_model.specs.Steps.{entered, exchange_for, reader_for, joins, left_by, ended_in, content_at, settled, retired, given_out, went_out, is_other, timed_out, goes_on, is_gone}
-use Rattle.exchange_model.specs.Calls.{Numbers, Telling, told_for, told_late, has_place, served_in, IsAlone, joined, asked, Outcome, outcome_of, heard, something_due, ticked}
-use Rattle.exchange_model.specs.Keeping.{MayStep, IsNumbered}
+use Rattle.exchange_model.specs.Steps.{entered, exchange_for, reader_for, joins, left_by, Numbers, Matter, Nothing, matter_of, more_by, issued_by, exchanges_by, pieces_by, store_by, is_of_none, retired, given_out, went_out, timed_out, goes_on, is_gone}
+use Rattle.exchange_model.specs.Calls.{Telling, told_for, told_late, has_place, served_in, IsAlone, joined, asked, heard, something_due, ticked}
+use Rattle.exchange_model.specs.Keeping.{MayStep, IsNumbered, MayGoOn}
 
 -- entries one after another
 abbrev pub entered_all : ℕ → List Deed → State → State
@@ -79,6 +79,7 @@ begun_exchange t q n S =
     let w = at_once (waits n.token n.text n.word) (link_of S.links q.peer).outstanding in
     let e = exchange_for t q n.token S in record e {
       sending = option_map (λ (x : Waiting). length S.entries + 1) w;
+      awaits = is_some w;
     }
 
 abbrev pub begun : ℕ → ℕ → Ask → CoapRequest → Numbers → State → State
@@ -105,33 +106,57 @@ answer_of x = Answers x.reader.conn x.reader.ask x.grounds
 abbrev pub confirm : Peer → List ℕ → Deed
 confirm p bytes = Sends p bytes None
 
-abbrev pub heard_deeds : ℕ → Peer → List ℕ → ℕ → List ℕ → Verdict → Grounds → State → List Deed
-heard_deeds t p d mid token v g S =
+-- the message that goes out next: the first that waits, where what was outstanding has ended; and the one that is
+-- taken in the same step, where nothing waits and nothing is outstanding
+abbrev pub is_free : Verdict → LinkState → Bool
+is_free v s = v.ends || not (is_some s.outstanding)
+
+abbrev pub next_out : Verdict → LinkState → Option Waiting → Option Waiting
+next_out v s None = in_turn v.ends s.waiting
+next_out v s (Some w) = in_turn (is_free v s) (s.waiting ++ w ∷ [])
+
+-- What a message is to the exchanges, and the message that one of them goes on with.
+pub record Effect : Type 0 where
+  pub matter : Matter
+  pub numbers : Numbers
+
+abbrev pub more_of : Effect → Option Waiting
+more_of x = more_by x.numbers x.matter
+
+abbrev pub heard_deeds : ℕ → Peer → List ℕ → ℕ → Verdict → Effect → State → List Deed
+heard_deeds t p d mid v x S =
     let s = link_of S.links p in
     Hears p d ∷ (map (confirm p) (replies mid v.reply)
-    ++ (first_deeds t p s.last_mid (in_turn v.ends s.waiting)
-    ++ map answer_of (told_for (ended_in (ended_token v.news token) S.exchanges) g S.readers)))
+    ++ (first_deeds t p s.last_mid (next_out v s (more_of x))
+    ++ map answer_of (told_for (length S.entries) x.matter S.readers)))
 
-abbrev pub heard_going : Peer → ℕ → Verdict → State → List Going
-heard_going p mid v S =
+abbrev pub heard_going : Peer → ℕ → Verdict → Effect → State → List Going
+heard_going p mid v x S =
     going_as (length S.entries + 1 + length (replies mid v.reply))
-    (in_turn v.ends (link_of S.links p).waiting)
+    (next_out v (link_of S.links p) (more_of x))
 
--- The token under which nothing is awaited any more is that of an exchange that ends.
+-- The token under which nothing is awaited any more is that of the reply, or of the message that was rejected.
 abbrev pub awaits_no_more : Option (List ℕ) → LinkState → LinkState
 awaits_no_more None s = s
 awaits_no_more (Some token) s = expected token false s
 
-abbrev pub heeded : ℕ → Peer → List ℕ → ℕ → List ℕ → Verdict → Outcome → State → State
-heeded t p d mid token v o S =
+abbrev pub taken_with : ℕ → Option Waiting → LinkState → LinkState
+taken_with t None s = s
+taken_with t (Some w) s = submitted t w s
+
+abbrev pub heeded : ℕ → Peer → List ℕ → ℕ → List ℕ → Verdict → Effect → State → State
+heeded t p d mid token v x S =
     let s = link_of S.links p in let over = ended_token v.news token in
-    let ended = ended_in over S.exchanges in
-    let S1 = entered_all t (heard_deeds t p d mid token v o.grounds S) S in record S1 {
+    let S1 = entered_all t (heard_deeds t p d mid v x S) S in record S1 {
+      issued = issued_by x.matter S.issued;
       exchanges =
-          sent_as (heard_going p mid v S)
-          (left_by S.entries (option_to_list ended) (filter (is_other over) S.exchanges));
-      store = settled S.entries ended (content_at t (length S.entries) o.whole) S.store;
-      links = with_link p (given_out (awaits_no_more over (applied t mid token v s))) S.links;
+          sent_as (heard_going p mid v x S)
+          (exchanges_by S.entries x.numbers.token x.matter S.exchanges);
+      pieces = pieces_by (length S.entries) x.matter S.pieces;
+      store = store_by S.entries t x.matter S.store;
+      links = with_link p
+          (given_out (awaits_no_more over (taken_with t (more_of x) (applied t mid token v s))))
+          S.links;
     }
 
 -- What is no message is reset where it has the ID of a CON, and is nothing else.
@@ -199,6 +224,7 @@ tick_deeds t S =
 abbrev pub moved_by : ℕ → State → State
 moved_by t S =
     let gone = is_gone t S in let S1 = entered_all t (tick_deeds t S) S in record S1 {
+      pieces = filter (is_of_none (timed_out t S)) S.pieces;
       exchanges =
           sent_as (all_going t gone (length S.entries + 1) S.links)
           (left_by S.entries (timed_out t S) (filter (goes_on t S) S.exchanges));
@@ -262,45 +288,49 @@ pub record Comes (t : ℕ) (p : Peer) (d : List ℕ) (S : State) : Type 0 where
   pub known : is_some (link_of S.links p).last_mid ≡ true
   pub short : length d ≤ MAX_DATAGRAM_LEN
 
--- A message is heeded, also one that repeats another.
+-- A message is heeded, also one that repeats another, which is nothing to the exchanges.
+abbrev pub effect_of : ℕ → Peer → Content → Verdict → Numbers → State → Effect
+effect_of t p m v n S = record { matter = matter_of t p m v S; numbers = n }
+
 abbrev pub MessageEnters : Type 0
 MessageEnters =
-    (t : ℕ) (p : Peer) (d : List ℕ) (m : Content) (S : State)
-    → Comes t p d S → message_at d ≡ Ok m
+    (t : ℕ) (p : Peer) (d : List ℕ) (m : Content) (n : Numbers) (S : State)
+    → Comes t p d S → message_at d ≡ Ok m → MayGoOn t p d n S
     → let v = verdict_of t (link_of S.links p) m in
     (v.news ≡ N.Lost → ⊥)
-    → heard t p d S
-    ≡ heeded t p d m.mid m.token v (outcome_of v m S) S
+    → heard t p d n S ≡ heeded t p d m.mid m.token v (effect_of t p m v n S) S
 
--- So is what is no message, whatever its token and outcome.
+-- So is what is no message, whatever its token and the numbers.
 abbrev pub GarbledEnters : Type 0
 GarbledEnters =
-    (t : ℕ) (p : Peer) (d : List ℕ) (e : CodecFault) (mid : ℕ) (token : List ℕ) (o : Outcome)
+    (t : ℕ) (p : Peer) (d : List ℕ) (e : CodecFault) (mid : ℕ) (token : List ℕ) (n : Numbers)
     (S : State)
     → Comes t p d S → message_at d ≡ Err e → IsMid (reset_for d) mid
-    → heard t p d S ≡ heeded t p d mid token (garbled (reset_for d)) o S
+    → heard t p d n S
+    ≡ heeded t p d mid token (garbled (reset_for d)) (record { matter = Nothing; numbers = n }) S
 
 -- Where 1,024 are remembered one more is lost, as what is too long or from elsewhere.
 abbrev pub LostStays : Type 0
 LostStays =
-    (t : ℕ) (p : Peer) (d : List ℕ) (m : Content) (S : State)
+    (t : ℕ) (p : Peer) (d : List ℕ) (m : Content) (n : Numbers) (S : State)
     → message_at d ≡ Ok m → (verdict_of t (link_of S.links p) m).news ≡ N.Lost
-    → heard t p d S ≡ S
+    → heard t p d n S ≡ S
 
 abbrev pub UnknownStays : Type 0
 UnknownStays =
-    (t : ℕ) (p : Peer) (d : List ℕ) (S : State)
-    → is_some (link_of S.links p).last_mid ≡ false → heard t p d S ≡ S
+    (t : ℕ) (p : Peer) (d : List ℕ) (n : Numbers) (S : State)
+    → is_some (link_of S.links p).last_mid ≡ false → heard t p d n S ≡ S
 
 abbrev pub LongStays : Type 0
 LongStays =
-    (t : ℕ) (p : Peer) (d : List ℕ) (S : State) → MAX_DATAGRAM_LEN < length d → heard t p d S ≡ S
+    (t : ℕ) (p : Peer) (d : List ℕ) (n : Numbers) (S : State)
+    → MAX_DATAGRAM_LEN < length d → heard t p d n S ≡ S
 
 -- All of this is what the link of the endpoint counts as lost.
 abbrev pub DroppedStays : Type 0
 DroppedStays =
-    (t : ℕ) (p : Peer) (d : List ℕ) (S : State)
-    → (call_hears t d (link_of S.links p)).1 ≡ was_dropped → heard t p d S ≡ S
+    (t : ℕ) (p : Peer) (d : List ℕ) (n : Numbers) (S : State)
+    → (call_hears t d (link_of S.links p)).1 ≡ was_dropped → heard t p d n S ≡ S
 
 -- A tick leaves just that where something is due; else nothing changes.
 abbrev pub TicksEnter : Type 0
@@ -329,7 +359,7 @@ abbrev pub StaysDrained : Type 0
 StaysDrained =
     (t : ℕ) (S : State) → IsDrained S
     → ((c : ℕ) (a : Ask) (q : CoapRequest) (n : Numbers) → IsDrained (begun t c a q n S))
-    × ((p : Peer) (d : List ℕ) (mid : ℕ) (token : List ℕ) (v : Verdict) (o : Outcome)
-    → IsDrained (heeded t p d mid token v o S))
+    × ((p : Peer) (d : List ℕ) (mid : ℕ) (token : List ℕ) (v : Verdict) (x : Effect)
+    → IsDrained (heeded t p d mid token v x S))
     × IsDrained (moved_by t S)
     × ((ds : List Deed) → IsDrained (entered_all t ds S))

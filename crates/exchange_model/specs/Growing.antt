@@ -1,6 +1,6 @@
 -- What each call adds to the journal, each entry at its moment, and what that does to the
 -- connections.
-use Rattle.std.specs.Prelude.{◌≡◌, ◌⊎◌, ℕ, ◌+◌, ◌<◌, Bool, true, false, List, [], ◌∷◌, ◌++◌, length, slice_get, Some, ⊤}
+use Rattle.std.specs.Prelude.{◌≡◌, ◌≢◌, ◌⊎◌, ℕ, ◌+◌, ◌<◌, ◌≤◌, Bool, true, false, List, [], ◌∷◌, ◌++◌, length, slice_get, Some, ⊤}
 use Rattle.std.specs.List.{AllByRecursion, Contains}
 use Rattle.coap_codec.specs.Spelling.{Content, Spells}
 use Rattle.uri_map.specs.declared.peer.Peer.{Peer}
@@ -8,13 +8,15 @@ use Rattle.resp_cache.specs.declared.pair.Pair.{Pair}
 use Rattle.ask_model.specs.Requests.{CoapRequest, Requests}
 use Rattle.ask_model.specs.Views.{Ask}
 use Rattle.journal_book.specs.Entries.{Deed, Opens, Asks, Sends, Hears, Answers, Shuts, Seals, Written}
-use Rattle.history_laws.specs.Responses.{whole_in}
+use Rattle.history_laws.specs.Responses.{whole_fetched}
 use Rattle.exchange_model.specs.declared.kept.Conn.{Conn}
 use Rattle.exchange_model.specs.declared.kept.Exchange.{Exchange}
 use Rattle.exchange_model.specs.declared.kept.Reader.{Reader}
+use Rattle.exchange_model.specs.declared.kept.Work.{Work}
+use Rattle.exchange_model.specs.declared.kept.Work.TheVariants as W
 use Rattle.exchange_model.specs.State.{State, conns_after}
-use Rattle.exchange_model.specs.Steps.{shuts, seals}
-use Rattle.exchange_model.specs.Calls.{Numbers, is_reader_of}
+use Rattle.exchange_model.specs.Steps.{shuts, seals, Numbers}
+use Rattle.exchange_model.specs.Calls.{is_reader_of}
 use Rattle.exchange_model.specs.Room.{KeptInRoom}
 use Rattle.exchange_model.specs.Sealing.{opens_in_room, asks_in_room, hears_in_room, late, ticks_in_room}
 
@@ -43,7 +45,8 @@ abbrev pub AsksAdd : Type 0
 AsksAdd = (t c : ℕ) (a : Ask) (n : Numbers) (S : State) → Adds t S (asks_in_room t c a n S)
 
 abbrev pub HearsAdd : Type 0
-HearsAdd = (t : ℕ) (p : Peer) (d : List ℕ) (S : State) → Adds t S (hears_in_room t p d S)
+HearsAdd =
+    (t : ℕ) (p : Peer) (d : List ℕ) (n : Numbers) (S : State) → Adds t S (hears_in_room t p d n S)
 
 abbrev pub LateAdds : Type 0
 LateAdds = (t : ℕ) (S : State) → Adds t S (late t S)
@@ -87,7 +90,7 @@ HasNoClient ws = AllByRecursion (λ (w : Written). by_client w.deed ≡ false) w
 
 abbrev pub HearsAnswer : Type 0
 HearsAnswer =
-    (t : ℕ) (p : Peer) (d : List ℕ) (S : State) (x : Adds t S (hears_in_room t p d S))
+    (t : ℕ) (p : Peer) (d : List ℕ) (n : Numbers) (S : State) (x : Adds t S (hears_in_room t p d n S))
     → HasNoClient x.more
 
 abbrev pub TicksAnswer : Type 0
@@ -113,6 +116,16 @@ RiseByAsk (x ∷ xs) = AllByRecursion (λ (y : Reader). x.ask < y.ask) xs × Ris
 abbrev pub ReadersRise : Type 0
 ReadersRise = (S : State) → KeptInRoom S → RiseByAsk S.readers
 
+-- What is kept of a GET is what it fetches, and of any other request how much of its body was taken.
+abbrev pub IsWorkOf : CoapRequest → Work → Type 0
+IsWorkOf q (W.Fetches restarts pieces) = q.method ≡ 1
+IsWorkOf q (W.Gives upload) = (q.method ≢ 1) × (upload.len ≡ length q.body)
+
+-- What is fetched is begun anew three times at most.
+abbrev pub IsFewTimes : Work → Type 0
+IsFewTimes (W.Fetches restarts pieces) = restarts ≤ 3
+IsFewTimes (W.Gives upload) = ⊤
+
 -- A reader's ask stands in the journal, for what the exchange asks.
 pub record IsKnown (S : State) (r : Reader) : Type 0 where
   pub moment : ℕ
@@ -123,20 +136,35 @@ pub record IsKnown (S : State) (r : Reader) : Type 0 where
   pub method :
       (e : Exchange) → Contains S.exchanges e → is_reader_of e r ≡ true
       → request.method ≡ e.method
+  pub work :
+      (e : Exchange) → Contains S.exchanges e → is_reader_of e r ≡ true → IsWorkOf request e.work
 
 abbrev pub ReadersKnown : Type 0
 ReadersKnown = (S : State) → KeptInRoom S → AllByRecursion (IsKnown S) S.readers
 
--- What is stored under a key was heard whole, in one entry of the journal, in reply to a GET.
-pub record IsHeardIn (S : State) (p : Pair) : Type 0 where
-  pub number : ℕ
+-- These entries of the journal heard these messages, one by one.
+pub record IsHeardAt (S : State) (n : ℕ) (m : Content) : Type 0 where
+  pub moment : ℕ
   pub peer : Peer
   pub bytes : List ℕ
+  pub stands : slice_get S.entries n ≡ Some (at_moment moment (Hears peer bytes))
+  pub spelled : Spells m bytes
+
+abbrev pub AreHeardAt : State → List ℕ → List Content → Type 0
+AreHeardAt S [] [] = ⊤
+AreHeardAt S (n ∷ ns) (m ∷ ms) = IsHeardAt S n m × AreHeardAt S ns ms
+AreHeardAt S _ _ = ⊥
+
+-- What is stored under a key was heard whole in the journal, in reply to a GET: at that moment the first of it.
+pub record IsHeardIn (S : State) (p : Pair) : Type 0 where
+  pub number : ℕ
+  pub others : List ℕ
   pub message : Content
-  pub stands : slice_get S.entries number ≡ Some (at_moment p.stored.heard (Hears peer bytes))
-  pub spelled : Spells message bytes
-  pub list : p.stored.list ≡ number ∷ []
-  pub whole : whole_in 1 message ≡ Some p.stored.response
+  pub more : List Content
+  pub list : p.stored.list ≡ number ∷ others
+  pub heard : AreHeardAt S (number ∷ others) (message ∷ more)
+  pub first : heard.0.moment ≡ p.stored.heard
+  pub whole : whole_fetched message more ≡ Some p.stored.response
 
 abbrev pub StoreHeard : Type 0
 StoreHeard = (S : State) → KeptInRoom S → AllByRecursion (IsHeardIn S) S.store

@@ -1,24 +1,26 @@
 -- The law of the steps: between two of them one reading of the journal is legal, at rest, and says
 -- what the state says.
-use Rattle.std.specs.Prelude.{◌≡◌, ℕ, ◌+◌, ◌<◌, ◌≤◌, true, false, List, [], length, Option, None}
+use Rattle.std.specs.Prelude.{◌≡◌, ℕ, ◌+◌, ◌<◌, ◌≤◌, true, false, List, [], length, Option, Some, None}
 use Rattle.std.specs.List.{AllByRecursion}
-use Rattle.limits.specs.declared.TheConstants.{MAX_MESSAGE_IDS, MAX_TRANSMIT_WAIT}
+use Rattle.limits.specs.declared.TheConstants.{MAX_BODY_LEN, MAX_MESSAGE_IDS, MAX_TRANSMIT_WAIT}
 use Rattle.coap_codec.specs.Spelling.{Spells}
 use Rattle.uri_map.specs.declared.peer.Peer.{Peer}
 use Rattle.message_layer.specs.Values.{LinkState}
 use Rattle.message_layer.specs.declared.state.Waiting.{Waiting}
-use Rattle.ask_model.specs.Requests.{CoapRequest, Sense, Requests, Refuses, request_message}
+use Rattle.ask_model.specs.Requests.{CoapRequest, Sense, Requests, Refuses, first_message}
 use Rattle.ask_model.specs.Views.{Ask}
 use Rattle.history_laws.specs.Causes.{IsRefusal}
 use Rattle.history_laws.specs.Numbering.{token_number}
+use Rattle.history_laws.specs.Progress.{Progress}
+use Rattle.exchange_model.specs.Laws.{IsContinued}
 use Rattle.history_laws.specs.Readings.{Noted}
 use Rattle.history_laws.specs.Sealing.{MaySeal}
 use Rattle.history_laws.specs.Justified.{Stands}
 use Rattle.exchange_model.specs.declared.kept.Exchange.{Exchange}
 use Rattle.exchange_model.specs.State.{State, link_of}
-use Rattle.exchange_model.specs.Steps.{opens, shuts, seals}
+use Rattle.exchange_model.specs.Steps.{opens, shuts, seals, Numbers}
 use Rattle.exchange_model.specs.Resting.{LinkRests, Rests, HasConn}
-use Rattle.exchange_model.specs.Calls.{Numbers, has_place, IsAlone, asked, heard, ticked}
+use Rattle.exchange_model.specs.Calls.{has_place, IsAlone, asked, goes_by, heard, ticked}
 
 -- IDs are two bytes, and there are enough of them for all messages that wait.
 pub record HasMids (s : LinkState) : Type 0 where
@@ -42,6 +44,7 @@ start = record {
   conns = [];
   readers = [];
   exchanges = [];
+  pieces = [];
   store = [];
   links = [];
 }
@@ -77,9 +80,10 @@ abbrev pub IsProper : Sense → Type 0
 IsProper (Requests q) = Unit {0}
 IsProper (Refuses cause status) = IsRefusal cause
 
--- Its message is spelled under the next token.
+-- Its first message is spelled under the next token, and its body keeps the limit.
 pub record IsNumbered (q : CoapRequest) (n : Numbers) (S : State) : Type 0 where
-  pub spelled : Spells (request_message q 0 n.token) n.text
+  pub short : length q.body ≤ MAX_BODY_LEN
+  pub spelled : Spells (first_message q 0 n.token) n.text
   pub token_size : length n.token ≡ 8
   pub number : token_number n.token ≡ S.issued
 
@@ -91,10 +95,16 @@ AsksKeeps =
     → IsNumbered q n S)
     → Kept (asked t c a n S)
 
+-- Where an exchange goes on by the datagram, its next message may follow.
+abbrev pub MayGoOn : ℕ → Peer → List ℕ → Numbers → State → Type 0
+MayGoOn t p d n S =
+    (e : Exchange) (progress : Progress) → goes_by t p d S ≡ Some (e, progress) → IsContinued e progress n S
+
 abbrev pub HearsKeeps : Type 0
 HearsKeeps =
-    (t : ℕ) (p : Peer) (d : List ℕ) (S : State)
-    → MayStep t S → AllByRecursion (λ (b : ℕ). b < 256) d → Kept (heard t p d S)
+    (t : ℕ) (p : Peer) (d : List ℕ) (n : Numbers) (S : State)
+    → MayStep t S → AllByRecursion (λ (b : ℕ). b < 256) d → MayGoOn t p d n S
+    → Kept (heard t p d n S)
 
 abbrev pub TicksKeeps : Type 0
 TicksKeeps = (t : ℕ) (S : State) → MayStep t S → Kept (ticked t S)

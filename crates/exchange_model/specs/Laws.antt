@@ -2,7 +2,7 @@
 -- says.
 use Rattle.std.specs.List.{AllByRecursion}
 use Rattle.std.specs.Prelude.{◌≡◌, ℕ, ◌<◌, ◌≤◌, true, false, List, ◌∷◌, length, Option, Some, None}
-use Rattle.limits.specs.declared.TheConstants.{MAX_DATAGRAM_LEN, MAX_MESSAGE_IDS, MAX_RETRANSMIT}
+use Rattle.limits.specs.declared.TheConstants.{MAX_BODY_LEN, MAX_DATAGRAM_LEN, MAX_MESSAGE_IDS, MAX_RETRANSMIT}
 use Rattle.coap_codec.specs.Spelling.{Content, Spells}
 use Rattle.uri_map.specs.declared.peer.Peer.{Peer}
 use Rattle.message_layer.specs.Sending.{due_of, first_sent}
@@ -11,7 +11,7 @@ use Rattle.message_layer.specs.declared.state.Waiting.{Waiting}
 use Rattle.message_layer.specs.declared.state.Outstanding.{Outstanding}
 use Rattle.message_layer.specs.declared.verdict.Verdict.{Verdict}
 use Rattle.resp_cache.specs.Stored.{Stored}
-use Rattle.ask_model.specs.Requests.{CoapRequest, Requests, request_message}
+use Rattle.ask_model.specs.Requests.{CoapRequest, Requests, first_message}
 use Rattle.ask_model.specs.Views.{Ask}
 use Rattle.ask_model.specs.Sharing.{asked_key}
 use Rattle.journal_book.specs.Entries.{Grounds, Opens, Asks, Sends, Hears, Passes, Answers, Shuts, Seals}
@@ -31,7 +31,9 @@ use Rattle.history_links.specs.Steps.{MaySend, copy, first, heard, reset}
 use Rattle.exchange_model.specs.State.{State, link_of}
 use Rattle.exchange_model.specs.Reads.{Reads}
 use Rattle.exchange_model.specs.Calls.{served_in}
-use Rattle.exchange_model.specs.Steps.{opens, asks, answers, shuts, seals, begins, recalls, joins, confirms, hears_nothing, sends_first, sends_copy, hears, passes}
+use Rattle.exchange_model.specs.Steps.{opens, asks, answers, shuts, seals, asked_in, begins, recalls, joins, confirms, hears_nothing, sends_first, sends_copy, Numbers, Goes, matter_of, hears, passes}
+use Rattle.exchange_model.specs.declared.kept.Exchange.{Exchange}
+use Rattle.history_laws.specs.Progress.{Progress, next_message}
 
 -- an open connection that waits for no answer
 pub record MayAsk (l : List Noted) (c : ℕ) : Type 0 where
@@ -97,8 +99,8 @@ BeginsLeads =
     (l : List Noted) (t c : ℕ) (a : Ask) (q : CoapRequest) (token text : List ℕ) (word : ℕ)
     (S : State)
     → Before l t S → MayCome l → MayAsk l c
-    → a.sense ≡ Requests q → MissesAlone l t q → H.joins l q ≡ None → has_room l t q ≡ true → Spells (request_message q 0 token) text
-    → length token ≡ 8 → token_number token ≡ S.issued
+    → a.sense ≡ Requests q → MissesAlone l t q → H.joins l q ≡ None → has_room l t q ≡ true → length q.body ≤ MAX_BODY_LEN
+    → Spells (first_message q 0 token) text → length token ≡ 8 → token_number token ≡ S.issued
     → Leads l (noted t (Asks c a) (Begins q)) (begins t c a q token text word S)
 
 -- The message that waits first at an endpoint goes out where nothing is outstanding there.
@@ -154,11 +156,23 @@ GarbledLeads =
     → ((m : Content) → Spells m d → ⊥)
     → Heeds l (noted t (Hears p d) Garbled) (reset p (reset_for d)) (hears_nothing t p d S)
 
+-- Where an exchange goes on by it, its next message is spelled under the next token.
+pub record IsContinued (e : Exchange) (progress : Progress) (n : Numbers) (S : State) : Type 0 where
+  pub request : CoapRequest
+  pub asked : asked_in S.entries e.opening ≡ Some request
+  pub message : Content
+  pub next : next_message request progress 0 n.token ≡ Some message
+  pub spelled : Spells message n.text
+  pub token_size : length n.token ≡ 8
+  pub number : token_number n.token ≡ S.issued
+
 abbrev pub HearsLeads : Type 0
 HearsLeads =
-    (l : List Noted) (t : ℕ) (p : Peer) (d : List ℕ) (m : Content) (S : State)
+    (l : List Noted) (t : ℕ) (p : Peer) (d : List ℕ) (m : Content) (n : Numbers) (S : State)
     → MayHear l t p d S → Spells m d → repeated l t p m ≡ None → can_be_remembered l t p m ≡ true
-    → Heeds l (heard l t p d m) (due p m.mid (verdict_on t p m S).reply) (hears t p d m S)
+    → ((e : Exchange) (progress : Progress) → matter_of t p m (verdict_on t p m S) S ≡ Goes e progress
+    → IsContinued e progress n S)
+    → Heeds l (heard l t p d m) (due p m.mid (verdict_on t p m S).reply) (hears t p d m n S)
 
 -- A tick ends what took too long.
 abbrev pub PassesLeads : Type 0

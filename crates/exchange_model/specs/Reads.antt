@@ -1,7 +1,7 @@
 -- A state says what a history says.
-use Rattle.std.specs.Prelude.{◌≡◌, ◌⊎◌, ⊤, ℕ, ◌+◌, ◌<◌, ◌≤◌, max, true, false, not, List, [], ◌∷◌, ◌++◌, length, map, Option, Some, None}
+use Rattle.std.specs.Prelude.{◌≡◌, ◌⊎◌, ⊤, ℕ, ◌+◌, ◌<◌, ◌≤◌, max, Bool, true, false, not, List, [], ◌∷◌, ◌++◌, length, map, Option, Some, None, is_some, ◌==◌, if◌then◌else◌}
 use Rattle.std.specs.List.{AllByRecursion, Contains, list_any}
-use Rattle.limits.specs.declared.TheConstants.{MAX_NUMBERED}
+use Rattle.limits.specs.declared.TheConstants.{MAX_BODY_LEN, MAX_NUMBERED}
 use Rattle.uri_map.specs.declared.peer.Peer.{Peer}
 use Rattle.message_layer.specs.declared.state.Waiting.{Waiting}
 use Rattle.cache_key.specs.Keys.{CacheKey}
@@ -17,14 +17,17 @@ use Rattle.history_laws.specs.Joining.{outrun}
 use Rattle.history_laws.specs.Storing.{IsStored, IsUse, IsCrowdedOut}
 use Rattle.history_laws.specs.Readings.{Noted, Note, Begins, Joins, entries, at, newest, noted}
 use Rattle.history_laws.specs.Connections.{is_sealed, opened, has_opened}
-use Rattle.history_laws.specs.Transmissions.{FirstSending, firsts, first_at, bears_token}
-use Rattle.history_laws.specs.Exchanges.{begun, issued, rank, waits_for, open_exchanges}
+use Rattle.history_laws.specs.Transmissions.{FirstSending, firsts, first_at, sent_last, bears_token}
+use Rattle.history_laws.specs.Progress.{Reply, numbers, progress}
+use Rattle.history_laws.specs.Exchanges.{Begun, begun, issued, rank, replies, waits_for, open_exchanges}
 use Rattle.history_laws.specs.Justified.{Legal, IsNextConn}
 use Rattle.history_links.specs.Agrees.{Start, Agrees}
 use Rattle.exchange_model.specs.declared.kept.Conn.{Conn}
 use Rattle.exchange_model.specs.declared.kept.Exchange.{Exchange}
+use Rattle.exchange_model.specs.declared.kept.Piece.{Piece}
 use Rattle.exchange_model.specs.declared.kept.Reader.{Reader}
 use Rattle.exchange_model.specs.State.{State, link_of, conns_after, readers_after}
+use Rattle.exchange_model.specs.Steps.{got_by, numbers_of, progress_with}
 
 -- the connections that are open, each with its ask that waits
 abbrev pub conns_of : List Noted → List Conn
@@ -50,6 +53,18 @@ IsSentUnder l p token None = bears_token l token ≡ false
 IsSentUnder l p token (Some i) =
     (f : FirstSending) × (first_at l i ≡ Some f) × (f.peer ≡ p) × (f.message.token ≡ token)
 
+-- the first sending whose reply is awaited
+abbrev pub awaited_by : Bool → Option ℕ → Option ℕ
+awaited_by awaits sending = if awaits then sending else None
+
+-- the replies by which it goes on, and not let go for others
+abbrev pub got_for : Option Begun → List Reply → List Reply
+got_for None rs = []
+got_for (Some b) rs = got_by (progress b.request rs)
+
+abbrev pub got_in : List Noted → ℕ → List Reply
+got_in l o = got_for (begun l o) (replies l o)
+
 -- What is kept of an exchange is what the history says of it.
 pub record ExchangeIn (start : Start) (l : List Noted) (e : Exchange) : Type 0 where
   pub request : CoapRequest
@@ -57,12 +72,22 @@ pub record ExchangeIn (start : Start) (l : List Noted) (e : Exchange) : Type 0 w
   pub peer : request.peer ≡ e.peer
   pub method : request.method ≡ e.method
   pub number : start.issued + rank l e.opening ≡ token_number e.token
-  pub sending : waits_for l e.opening ≡ e.sending
-  pub sent : IsSentUnder l e.peer e.token e.sending
+  pub sending : sent_last l e.opening ≡ e.sending
+  pub awaits : waits_for l e.opening ≡ awaited_by e.awaits e.sending
+  pub named : e.awaits ≡ true → is_some e.sending ≡ true
+  pub sent : IsSentUnder l e.peer e.token (awaited_by e.awaits e.sending)
   pub current : e.current ≡ not (outrun l (asked_place request) e.opening)
+  pub progress : progress request (replies l e.opening) ≡ progress_with e.work (got_in l e.opening)
+  pub short : length request.body ≤ MAX_BODY_LEN
   pub conn : ℕ
   pub ask : Ask
   pub stands : at l e.opening ≡ Some (noted e.since (Asks conn ask) (Begins request))
+
+-- The pieces are the replies by which the open exchanges go on.
+pub record PiecesIn (l : List Noted) (es : List Exchange) (xs : List Piece) : Type 0 where
+  pub fetched : AllByRecursion
+      (λ (e : Exchange). numbers (got_in l e.opening) ≡ numbers_of e.opening xs) es
+  pub below : AllByRecursion (λ (x : Piece). x.opening < length l) xs
 
 -- A message that waits under its number waits under its token.
 abbrev pub WaitsUnder : List Waiting → Exchange → Type 0
@@ -123,6 +148,7 @@ pub record Reads (l : List Noted) (S : State) : Type 0 where
   pub readers_are : readers_of l ≡ S.readers
   pub keys : open_exchanges l ≡ map opening_of S.exchanges
   pub exchanges_are : AllByRecursion (ExchangeIn start l) S.exchanges
+  pub pieces_are : PiecesIn l S.exchanges S.pieces
   pub store_is : StoreIn l S.store
   pub tokens_are :
       AllByRecursion (λ (f : FirstSending). token_number f.message.token < S.issued) (firsts l)

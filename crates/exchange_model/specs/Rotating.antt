@@ -1,7 +1,7 @@
 -- A sealed journal is given out, and the core goes on with one that begins with copies of its entries.
 use Rattle.std.specs.Prelude.{◌≡◌, ℕ, ◌≤◌, ◌+◌, Bool, true, false, not, ◌&&◌, ◌||◌, ◌==◌, nat_le, nat_lt, List, [], ◌∷◌, ◌++◌, length, map, filter, sum_by, Option, Some, None, is_some, Result, Ok, Err, if◌then◌else◌}
 use Rattle.std.specs.List.{list_all, list_any}
-use Rattle.limits.specs.declared.TheConstants.{EXCHANGE_LIFETIME, MESSAGE_ID_LIFETIME, MAX_COPIES, MAX_COPIES_LEN, MAX_NUMBERED}
+use Rattle.limits.specs.declared.TheConstants.{EXCHANGE_LIFETIME, MESSAGE_ID_LIFETIME, MAX_COPIES, MAX_COPIES_LEN, MAX_NUMBERED, NEARLY_ALL_ENTRIES, NEARLY_ALL_LEN}
 use Rattle.coap_codec.specs.Spelling.{Content}
 use Rattle.coap_codec.specs.Reading.{message_at}
 use Rattle.coap_codec.specs.declared.fault.CodecFault.{CodecFault}
@@ -16,6 +16,12 @@ use Rattle.exchange_model.specs.Steps.{is_past}
 use Rattle.exchange_model.specs.Keeping.{Kept}
 use Rattle.exchange_model.specs.Room.{KeptInRoom}
 use Rattle.exchange_model.specs.Entering.{IsDrained}
+
+-- The journal is nearly full: the last tenth of its entries is begun, or the last quarter of its
+-- bytes.
+abbrev pub is_nearly_full : List Written → Bool
+is_nearly_full h = nat_le NEARLY_ALL_ENTRIES (length h)
+    || nat_le NEARLY_ALL_LEN (sum_by entry_size h)
 
 -- why it isn't given out, first one first
 pub data RotateFault : Type 0 where
@@ -131,6 +137,7 @@ turned t S = let ws = copies t S.entries in record {
   conns = [];
   readers = [];
   exchanges = [];
+  pieces = [];
   store = [];
   links = filter (has_copy ws) (map (keep_peer t) S.links);
 }

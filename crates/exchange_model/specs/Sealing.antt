@@ -1,5 +1,5 @@
 -- A step that doesn't fit seals the journal, and is otherwise undone.
-use Rattle.std.specs.Prelude.{◌≡◌, ℕ, ◌+◌, ◌<◌, ◌≤◌, true, List, filter, fold, length, Option, None, if◌then◌else◌, ◌++◌, ⊤}
+use Rattle.std.specs.Prelude.{◌≡◌, ℕ, ◌+◌, ◌<◌, ◌≤◌, true, is_some, List, filter, fold, length, Option, None, if◌then◌else◌, ◌++◌, ⊤}
 use Rattle.std.specs.List.{AllByRecursion}
 use Rattle.limits.specs.declared.TheConstants.{MAX_MESSAGE_LEN, MAX_REQUEST_SIZE, MAX_TRANSMIT_WAIT}
 use Rattle.uri_map.specs.declared.peer.Peer.{Peer}
@@ -10,10 +10,10 @@ use Rattle.journal_book.specs.Entries.{Deed, Answers, Written}
 use Rattle.exchange_model.specs.declared.kept.Reader.{Reader}
 use Rattle.exchange_model.specs.declared.kept.Exchange.{Exchange}
 use Rattle.exchange_model.specs.State.{State}
-use Rattle.exchange_model.specs.Steps.{opens, shuts, seals, is_past}
+use Rattle.exchange_model.specs.Steps.{opens, shuts, seals, is_past, Numbers}
 use Rattle.exchange_model.specs.Resting.{HasConn}
-use Rattle.exchange_model.specs.Calls.{Numbers, has_place, IsAlone, asked, is_reader_of, tells, told_late, heard, ticked}
-use Rattle.exchange_model.specs.Keeping.{start, IsProper, IsNumbered}
+use Rattle.exchange_model.specs.Calls.{has_place, IsAlone, asked, goes_by, is_reader_of, tells, told_late, heard, ticked}
+use Rattle.exchange_model.specs.Keeping.{start, IsProper, IsNumbered, MayGoOn}
 use Rattle.exchange_model.specs.Room.{fits, KeptInRoom}
 
 -- a step from one state to another
@@ -30,8 +30,8 @@ opens_in_room t S = if_unsealed t (opens t S) S
 abbrev pub asks_in_room : ℕ → ℕ → Ask → Numbers → State → State
 asks_in_room t c a n S = if_unsealed t (asked t c a n S) S
 
-abbrev pub hears_in_room : ℕ → Peer → List ℕ → State → State
-hears_in_room t p d S = if_unsealed t (heard t p d S) S
+abbrev pub hears_in_room : ℕ → Peer → List ℕ → Numbers → State → State
+hears_in_room t p d n S = if_unsealed t (heard t p d n S) S
 
 -- A tick of a sealed core answers the asks whose exchanges have been open for as long as they may,
 -- by rising ask.
@@ -72,9 +72,10 @@ AsksInRoom =
 
 abbrev pub HearsInRoom : Type 0
 HearsInRoom =
-    (t : ℕ) (p : Peer) (d : List ℕ) (S : State)
-    → KeptInRoom S → S.moment ≤ t → AllByRecursion (λ (b : ℕ). b < 256) d
-    → KeptInRoom (hears_in_room t p d S)
+    (t : ℕ) (p : Peer) (d : List ℕ) (n : Numbers) (S : State)
+    → KeptInRoom S → S.moment ≤ t → AllByRecursion (λ (b : ℕ). b < 256) d → MayGoOn t p d n S
+    → (is_some (goes_by t p d S) ≡ true → length n.text ≤ MAX_MESSAGE_LEN)
+    → KeptInRoom (hears_in_room t p d n S)
 
 abbrev pub TicksInRoom : Type 0
 TicksInRoom = (t : ℕ) (S : State) → KeptInRoom S → S.moment ≤ t → KeptInRoom (ticks_in_room t S)
@@ -104,6 +105,7 @@ pub record AnswersAlone (S S1 : State) : Type 0 where
   pub opened : S1.opened ≡ S.opened
   pub issued : S1.issued ≡ S.issued
   pub exchanges : S1.exchanges ≡ S.exchanges
+  pub pieces : S1.pieces ≡ S.pieces
   pub links : S1.links ≡ S.links
 
 abbrev pub SealedAnswers : Type 0

@@ -7,6 +7,7 @@ use Rattle.resp_cache.specs.declared.pair.Pair.{Pair}
 use Rattle.journal_book.specs.Entries.{Deed, Opens, Asks, Answers, Shuts, Written}
 use Rattle.exchange_model.specs.declared.kept.Conn.{Conn}
 use Rattle.exchange_model.specs.declared.kept.Exchange.{Exchange}
+use Rattle.exchange_model.specs.declared.kept.Piece.{Piece}
 use Rattle.exchange_model.specs.declared.kept.Reader.{Reader}
 
 -- the messages between the proxy and one endpoint
@@ -26,6 +27,8 @@ pub record State : Type 0 where
   -- what is open, in order
   pub conns : List Conn
   pub exchanges : List Exchange
+  -- the replies by which they go on, in the order of their entries
+  pub pieces : List Piece
   -- who waits for an exchange, in the order of their asks
   pub readers : List Reader
   -- the responses that are stored, the last used first

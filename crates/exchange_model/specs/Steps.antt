@@ -1,16 +1,19 @@
 -- What each kind of entry does to a state.
-use Rattle.std.specs.Prelude.{ℕ, ◌+◌, true, Bool, not, ◌&&◌, ◌||◌, nat_le, List, [], ◌∷◌, ◌++◌, length, map, filter, find, take, slice_get, Option, Some, None, is_some, option_and_then, option_to_list, false, ◌==◌, if◌then◌else◌}
+use Rattle.std.specs.Prelude.{ℕ, ◌+◌, ◌-◌, true, Bool, not, ◌&&◌, ◌||◌, nat_le, List, [], ◌∷◌, ◌++◌, length, map, filter, filter_map, find, take, nat_lt, slice_get, Option, Some, None, Result, Ok, Err, option_and_then, false, ◌==◌, if◌then◌else◌}
 use Rattle.std.specs.List.{list_any}
 use Rattle.std.specs.Option.{option_map_or}
 use Rattle.std.specs.Str.{bytes_eq}
-use Rattle.limits.specs.declared.TheConstants.{MAX_STORED, MAX_TRANSMIT_WAIT}
+use Rattle.limits.specs.declared.TheConstants.{MAX_MESSAGE_IDS, MAX_STORED, MAX_TRANSMIT_WAIT, MAX_WAITING}
 use Rattle.coap_codec.specs.Spelling.{Content}
+use Rattle.coap_codec.specs.Reading.{message_at}
+use Rattle.coap_codec.specs.declared.fault.CodecFault.{CodecFault}
 use Rattle.uri_map.specs.declared.peer.Peer.{Peer}
 use Rattle.message_layer.specs.Values.{LinkState}
-use Rattle.message_layer.specs.Sending.{first_sent, with_outstanding, with_copy, waits, queued}
+use Rattle.message_layer.specs.Sending.{first_sent, mids_in_use, with_outstanding, with_copy, waits, queued}
 use Rattle.message_layer.specs.Hearing.{is_outstanding_under, verdict_of}
 use Rattle.message_layer.specs.declared.state.Waiting.{Waiting}
 use Rattle.message_layer.specs.declared.state.Outstanding.{Outstanding}
+use Rattle.message_layer.specs.declared.verdict.Verdict.{Verdict}
 use Rattle.message_layer.specs.declared.verdict.News.{News}
 use Rattle.message_layer.specs.declared.verdict.News.TheVariants as N
 use Rattle.cache_key.specs.Keys.{CacheKey}
@@ -21,11 +24,17 @@ use Rattle.ask_model.specs.Requests.{CoapRequest, Sense, Requests, Refuses}
 use Rattle.ask_model.specs.Sharing.{asked_key, asked_place, is_get, writes_to}
 use Rattle.ask_model.specs.Views.{Ask}
 use Rattle.journal_book.specs.Entries.{Grounds, Deed, Opens, Asks, Sends, Hears, Passes, Answers, Shuts, Seals, Written}
-use Rattle.history_laws.specs.Responses.{Response, whole_in}
+use Rattle.blockwise.specs.Downloads.{no_pieces}
+use Rattle.blockwise.specs.Uploads.{begun}
+use Rattle.history_laws.specs.Responses.{Response}
+use Rattle.history_laws.specs.Progress.{Reply, numbers, Ending, Whole, Reset, Turned, Progress, Fetches, Gives, Ends, step}
 use Rattle.history_laws.specs.Storing.{content}
 use Rattle.history_links.specs.Steps.{ended_token, heard_link, is_over, passed_link}
 use Rattle.exchange_model.specs.declared.kept.Exchange.{Exchange}
+use Rattle.exchange_model.specs.declared.kept.Piece.{Piece}
 use Rattle.exchange_model.specs.declared.kept.Reader.{Reader}
+use Rattle.exchange_model.specs.declared.kept.Work.{Work}
+use Rattle.exchange_model.specs.declared.kept.Work.TheVariants as W
 use Rattle.exchange_model.specs.State.{PeerLink, State, link_of, with_link, conns_after, readers_after}
 
 -- one entry more, and what it does to the connections and to who waits
@@ -59,6 +68,10 @@ seals t S = let S1 = entered t Seals S in record S1 { sealed = true }
 abbrev pub reader_for : ℕ → State → Reader
 reader_for c S = record { ask = length S.entries; conn = c; opening = length S.entries }
 
+-- The body of any request but a GET may go in pieces.
+abbrev pub first_work : CoapRequest → Work
+first_work q = if q.method == 1 then W.Fetches 0 no_pieces else W.Gives (begun (length q.body) 6)
+
 abbrev pub exchange_for : ℕ → CoapRequest → List ℕ → State → Exchange
 exchange_for t q token S = record {
   opening = length S.entries;
@@ -67,7 +80,9 @@ exchange_for t q token S = record {
   peer = q.peer;
   method = q.method;
   sending = None;
+  awaits = false;
   current = true;
+  work = first_work q;
 }
 
 abbrev pub begins : ℕ → ℕ → Ask → CoapRequest → List ℕ → List ℕ → ℕ → State → State
@@ -104,7 +119,8 @@ abbrev pub is_under : List ℕ → Exchange → Bool
 is_under token e = bytes_eq e.token token
 
 abbrev pub went_out : List ℕ → ℕ → Exchange → Exchange
-went_out token i e = if is_under token e then record e { sending = Some i } else e
+went_out token i e =
+    if is_under token e then record e { sending = Some i; awaits = true } else e
 
 abbrev pub sends_first : ℕ → Peer → Waiting → List Waiting → State → State
 sends_first t p w ws S =
@@ -144,29 +160,150 @@ outrun_by ws over e =
 abbrev pub left_by : List Written → List Exchange → List Exchange → List Exchange
 left_by ws over es = map (outrun_by ws over) es
 
--- A message that is new ends the exchange whose token its link says is awaited no more.
-abbrev pub ended_in : Option (List ℕ) → List Exchange → Option Exchange
-ended_in None es = None
-ended_in (Some token) es = find (is_under token) es
+-- A message that is new is a reply to the exchange whose token its link says is awaited no more.
+abbrev pub answered_in : Option (List ℕ) → List Exchange → Option Exchange
+answered_in None es = None
+answered_in (Some token) es = find (is_under token) es
 
-abbrev pub is_other : Option (List ℕ) → Exchange → Bool
-is_other None e = true
-is_other (Some token) e = not (is_under token e)
+abbrev pub is_other : List ℕ → Exchange → Bool
+is_other token e = not (is_under token e)
 
--- the method that it asks with, or 0 where there is none
-abbrev pub method_in : Option Exchange → ℕ
-method_in None = 0
-method_in (Some e) = e.method
+-- The replies by which an exchange goes on, by the entries in which they were heard.
+abbrev pub is_piece_of : ℕ → Piece → Bool
+is_piece_of o x = x.opening == o
 
--- the whole response that the exchange ends with, if it does
-abbrev pub whole_by : News → ℕ → Content → Option Response
-whole_by (N.Reset token) method m = None
-whole_by news method m = whole_in method m
+abbrev pub numbers_of : ℕ → List Piece → List ℕ
+numbers_of o xs = map (λ (x : Piece). x.number) (filter (is_piece_of o) xs)
 
--- A whole 2.05 is stored, and counts from the moment of its entry (RFC 7252 section 5.6.1).
-abbrev pub content_at : ℕ → ℕ → Option Response → Option Stored
-content_at t n None = None
-content_at t n (Some w) = if w.code == content then Some (stored_of w t (n ∷ [])) else None
+abbrev pub reply_at : ℕ → Content → Reply
+reply_at n m = record { number = n; sending = 0; message = m }
+
+abbrev pub read_as : ℕ → Result Content CodecFault → Option Reply
+read_as n (Ok m) = Some (reply_at n m)
+read_as n (Err fault) = None
+
+abbrev pub heard_by : ℕ → Deed → Option Reply
+heard_by n (Hears p d) = read_as n (message_at d)
+heard_by n _ = None
+
+abbrev pub heard_in : List Written → ℕ → Option Reply
+heard_in ws n = option_and_then (λ (w : Written). heard_by n w.deed) (slice_get ws n)
+
+abbrev pub fetched_in : List Written → ℕ → List Piece → List Reply
+fetched_in ws o xs = filter_map (heard_in ws) (numbers_of o xs)
+
+-- how far it has come, and by a reply in the next entry
+abbrev pub progress_with : Work → List Reply → Progress
+progress_with (W.Fetches restarts pieces) got = Fetches restarts pieces got
+progress_with (W.Gives upload) got = Gives upload got
+
+abbrev pub progress_of : State → Exchange → Progress
+progress_of S e = progress_with e.work (fetched_in S.entries e.opening S.pieces)
+
+abbrev pub comes_to : Content → State → Exchange → Progress
+comes_to m S e = step (progress_of S e) (reply_at (length S.entries) m)
+
+-- what a message is to the exchanges
+pub data Matter : Type 0 where
+  -- nothing
+  Nothing : Matter
+  -- by it the exchange goes on so
+  Goes : (exchange : Exchange) → (progress : Progress) → Matter
+  -- by it the exchange ends so
+  Over : (exchange : Exchange) → (how : Ending) → Matter
+
+-- There is a place for the next message: among those that wait at the endpoint, of which the first goes
+-- out where the outstanding one ends, and a message ID.
+abbrev pub let_go : Verdict → ℕ
+let_go v = if v.ends then 1 else 0
+
+abbrev pub has_next_place : ℕ → Peer → Verdict → State → Bool
+has_next_place t p v S =
+    nat_lt (length (link_of S.links p).waiting - let_go v) MAX_WAITING
+    && nat_lt (mids_in_use t (link_of S.links p)) MAX_MESSAGE_IDS
+
+abbrev pub replied : Bool → Exchange → Progress → Matter
+replied place e (Ends how) = Over e how
+replied true e progress = Goes e progress
+replied false e progress = Over e Turned
+
+abbrev pub matter_by : News → Bool → Content → State → Option Exchange → Matter
+matter_by news place m S None = Nothing
+matter_by (N.Reset token) place m S (Some e) = Over e Reset
+matter_by news place m S (Some e) = replied place e (comes_to m S e)
+
+abbrev pub matter_of : ℕ → Peer → Content → Verdict → State → Matter
+matter_of t p m v S =
+    matter_by v.news (has_next_place t p v S) m S (answered_in (ended_token v.news m.token) S.exchanges)
+
+-- what the next message of an exchange is handed in with: its token and bytes, and a random word
+pub record Numbers : Type 0 where
+  pub token : List ℕ
+  pub text : List ℕ
+  pub word : ℕ
+
+-- An exchange that goes on has its next message under this token.
+abbrev pub work_by : Progress → Work → Work
+work_by (Fetches restarts pieces got) old = W.Fetches restarts pieces
+work_by (Gives upload got) old = W.Gives upload
+work_by (Ends how) old = old
+
+abbrev pub continued : List ℕ → Progress → Exchange → Exchange
+continued token progress e =
+    record e { token = token; awaits = false; work = work_by progress e.work }
+
+abbrev pub goes_so : Exchange → List ℕ → Progress → Exchange → Exchange
+goes_so e token progress x = if is_under e.token x then continued token progress x else x
+
+abbrev pub exchanges_by : List Written → List ℕ → Matter → List Exchange → List Exchange
+exchanges_by ws token Nothing es = es
+exchanges_by ws token (Goes e progress) es = map (goes_so e token progress) es
+exchanges_by ws token (Over e how) es = left_by ws (e ∷ []) (filter (is_other e.token) es)
+
+-- It has one more of the replies by which it goes on, or it begins anew. What has ended needs them no more.
+abbrev pub is_of_other : Exchange → Piece → Bool
+is_of_other e x = not (is_piece_of e.opening x)
+
+abbrev pub pieces_with : Exchange → ℕ → List Reply → List Piece → List Piece
+pieces_with e n [] xs = filter (is_of_other e) xs
+pieces_with e n (r ∷ rs) xs = xs ++ record { opening = e.opening; number = n } ∷ []
+
+abbrev pub got_by : Progress → List Reply
+got_by (Fetches restarts pieces got) = got
+got_by (Gives upload got) = got
+got_by (Ends how) = []
+
+abbrev pub pieces_by : ℕ → Matter → List Piece → List Piece
+pieces_by n Nothing xs = xs
+pieces_by n (Goes e progress) xs = pieces_with e n (got_by progress) xs
+pieces_by n (Over e how) xs = filter (is_of_other e) xs
+
+-- one token more is issued where an exchange goes on, and its message waits last
+abbrev pub issued_by : Matter → ℕ → ℕ
+issued_by (Goes e progress) old = old + 1
+issued_by matter old = old
+
+abbrev pub more_by : Numbers → Matter → Option Waiting
+more_by n (Goes e progress) = Some (waits n.token n.text n.word)
+more_by n matter = None
+
+abbrev pub link_with : ℕ → Option Waiting → LinkState → LinkState
+link_with t None s = s
+link_with t (Some w) s = queued t w s
+
+-- A whole 2.05 is stored, and counts from the moment of its first reply, the entry of which stands before or is
+-- the one of this moment (RFC 7252 section 5.6.1).
+abbrev pub moment_in : List Written → ℕ → ℕ → ℕ
+moment_in ws t n = option_map_or (λ (w : Written). w.moment) (slice_get ws n) t
+
+abbrev pub stored_by : List Written → ℕ → Response → List Reply → Option Stored
+stored_by ws t w [] = None
+stored_by ws t w (r ∷ rs) =
+    if w.code == content then Some (stored_of w (moment_in ws t r.number) (numbers (r ∷ rs))) else None
+
+abbrev pub content_by : List Written → ℕ → Ending → Option Stored
+content_by ws t (Whole w rs) = stored_by ws t w rs
+content_by ws t how = None
 
 abbrev pub put_by : Option Stored → CacheKey → List Pair → List Pair
 put_by None key ps = ps
@@ -192,17 +329,20 @@ abbrev pub retired : List Written → List Exchange → List Pair → List Pair
 retired ws [] ps = ps
 retired ws (e ∷ es) ps = retired ws es (settled ws (Some e) None ps)
 
-abbrev pub hears : ℕ → Peer → List ℕ → Content → State → State
-hears t p d m S =
-    let s = link_of S.links p in let v = verdict_of t s m in
-    let over = ended_token v.news m.token in
-    let ended = ended_in over S.exchanges in
-    let found = content_at t (length S.entries) (whole_by v.news (method_in ended) m) in
+abbrev pub store_by : List Written → ℕ → Matter → List Pair → List Pair
+store_by ws t (Over e how) ps = settled ws (Some e) (content_by ws t how) ps
+store_by ws t matter ps = ps
+
+-- The entry of a message, and all that it does but for what goes out and is answered then.
+abbrev pub hears : ℕ → Peer → List ℕ → Content → Numbers → State → State
+hears t p d m n S =
+    let s = link_of S.links p in let v = verdict_of t s m in let x = matter_of t p m v S in
     let S1 = entered t (Hears p d) S in record S1 {
-      exchanges =
-          left_by S.entries (option_to_list ended) (filter (is_other over) S.exchanges);
-      store = settled S.entries ended found S.store;
-      links = with_link p (heard_link t m.mid m.token v s) S.links;
+      issued = issued_by x S.issued;
+      exchanges = exchanges_by S.entries n.token x S.exchanges;
+      pieces = pieces_by (length S.entries) x S.pieces;
+      store = store_by S.entries t x S.store;
+      links = with_link p (link_with t (more_by n x) (heard_link t m.mid m.token v s)) S.links;
     }
 
 -- A tick ends the exchanges that have been open for as long as they may, and those whose message
@@ -212,7 +352,7 @@ is_past t e = nat_le (e.since + MAX_TRANSMIT_WAIT) t
 
 abbrev pub is_in_vain : ℕ → LinkState → Exchange → Bool
 is_in_vain t s e =
-    is_some e.sending && (is_outstanding_under e.token s.outstanding && is_over t s.outstanding)
+    e.awaits && (is_outstanding_under e.token s.outstanding && is_over t s.outstanding)
 
 abbrev pub expires : ℕ → List PeerLink → Exchange → Bool
 expires t links e = is_past t e || is_in_vain t (link_of links e.peer) e
@@ -231,8 +371,13 @@ is_gone t S token =
 abbrev pub passed : ℕ → State → PeerLink → PeerLink
 passed t S x = record { peer = x.peer; link = passed_link t (is_gone t S) x.link }
 
+-- the pieces of those that go on
+abbrev pub is_of_none : List Exchange → Piece → Bool
+is_of_none es x = not (list_any (λ (e : Exchange). x.opening == e.opening) es)
+
 abbrev pub passes : ℕ → State → State
 passes t S = let S1 = entered t Passes S in record S1 {
+  pieces = filter (is_of_none (timed_out t S)) S.pieces;
   exchanges = left_by S.entries (timed_out t S) (filter (goes_on t S) S.exchanges);
   store = retired S.entries (timed_out t S) S.store;
   links = map (passed t S) S.links;

@@ -51,7 +51,7 @@ pub fn connections_rise()
     ensures rise { ConnsRise }
 {}
 
-/// What is stored was heard whole, in an entry of the journal.
+/// What is stored was heard whole, in entries of the journal.
 pub fn stored_was_heard()
     ensures { StoreHeard }
 {}

@@ -1,5 +1,6 @@
 //! What a core keeps of what is open.
 
+use blockwise::{Pieces, Upload};
 use coap_codec::Token;
 use uri_map::Peer;
 
@@ -15,17 +16,44 @@ pub struct Conn {
 #[derive(Clone, Copy)]
 pub struct Exchange {
     pub opening: u32,
-    /// what its message is sent under (RFC 7252 section 5.3.1)
+    /// what its latest message is sent under (RFC 7252 section 5.3.1)
     pub token: Token,
     /// the moment of its opening
     pub since: u64,
     pub peer: Peer,
     /// the code of its request (RFC 7252 section 12.1.1)
     pub method: u8,
-    /// its first sending, once it went out
+    /// its latest first sending, once one went out
     pub sending: Option<u32>,
+    /// that is of its latest message, to which a reply is awaited
+    pub awaits: bool,
     /// no write to its place has ended since it was opened, so that equal GETs may join it
     pub current: bool,
+    /// how far it has come by its replies
+    pub work: Work,
+}
+
+/// How far an open exchange has come piece by piece (RFC 7959 section 2).
+#[derive(Clone, Copy)]
+pub enum Work {
+    /// of a GET
+    Fetches {
+        /// how often what it fetches was begun anew
+        restarts: u8,
+        /// what is known of the pieces that it has fetched since then
+        pieces: Pieces,
+    },
+    /// of any other request: how much of its body was taken
+    Gives(Upload),
+}
+
+/// A reply by which an open exchange goes on, by the number of the entry in which it was heard: a piece
+/// that it has fetched, or the answer to one of its body.
+#[derive(Clone, Copy)]
+pub struct Piece {
+    /// the entry that opened the exchange
+    pub opening: u32,
+    pub number: u32,
 }
 
 /// Who waits for an exchange, by the number of its ask's entry.

@@ -75,8 +75,8 @@ pub fn sendings_lead()
     ensures confirms { ConfirmsLeads }
 {}
 
-/// A datagram repeats one, is no message, or ends what it answers (RFC 7252 sections 4.2, 4.5,
-/// 5.3.2).
+/// A datagram repeats one, is no message, or ends what it answers, unless the exchange goes on by
+/// it (RFC 7252 sections 4.2, 4.5, 5.3.2, RFC 7959 section 2).
 pub fn hearing_leads()
     ensures repeats { RepeatsLeads }
     ensures garbled { GarbledLeads }

@@ -16,4 +16,4 @@ mod kept;
 mod laws;
 mod sealing;
 
-pub use kept::{Conn, Exchange, Reader};
+pub use kept::{Conn, Exchange, Piece, Reader, Work};

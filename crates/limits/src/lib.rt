@@ -49,8 +49,8 @@ pub const MAX_CONNECTIONS: usize = 256;
 pub const MAX_EXCHANGES: usize = 256;
 
 /// The longest message that asks a device: 960 bytes of its target's options, 1,024 of its body,
-/// and 32 for the header, the token, the other options and the payload marker.
-pub const MAX_MESSAGE_LEN: usize = 2016;
+/// and 40 for the header, the token, the other options and the payload marker.
+pub const MAX_MESSAGE_LEN: usize = 2024;
 
 /// What the entry of an answer counts, whatever it tells.
 pub const MAX_ANSWER_SIZE: u64 = 90_000;
@@ -60,6 +60,12 @@ pub const MAX_ENTRIES: u64 = 65_536;
 
 /// How many bytes the entries of a journal count.
 pub const MAX_JOURNAL_LEN: u64 = 268_435_456;
+
+/// From how many entries on a journal is nearly full: the last tenth is left.
+pub const NEARLY_ALL_ENTRIES: u64 = 58_982;
+
+/// From how many bytes on it is: the last quarter is left.
+pub const NEARLY_ALL_LEN: u64 = 201_326_592;
 
 /// How many copies of an older journal's entries a journal begins with at most: half of it.
 pub const MAX_COPIES: u64 = 32_768;

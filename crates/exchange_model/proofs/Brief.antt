@@ -1,0 +1,178 @@
+-- A whole response has few pieces, so that what is told of it isn't long.
+use Rattle.std.proofs.Common.{◌≡◌, ℕ, ◌+◌, ◌*◌, ◌≤◌, Bool, true, false, not, cond, eqb, ltb, leb, inl, inr, List, [], ◌∷◌, ◌++◌, length, Option, Some, None, refl, sym, ap, subst, ◌∙◌, arith, length-append}
+use Rattle.std.specs.Prelude.{◌&&◌, is_some}
+use Rattle.std.specs.List.{list_all}
+use Rattle.std.proofs.lemmas.Bool.{false≢true, and_parts, ltb-false}
+use Rattle.std.proofs.lemmas.Bool.Decides.{eqb_tells}
+use Rattle.std.proofs.lemmas.List.{length-map}
+use Rattle.std.proofs.lemmas.Nat.{pow-add, pow_pos}
+use Rattle.coap_codec.specs.Spelling.{Content}
+use Rattle.coap_codec.specs.Recognition.{is_forwardable}
+use Rattle.coap_codec.specs.declared.block.Block.{Block}
+use Rattle.blockwise.specs.Reading.{block_in, size_of, offset_in}
+use Rattle.blockwise.specs.Downloads.{PiecesValue, differs, is_sized, is_no_larger, fits_blocks, fault_of, step_of, judged_by, with_piece, DownloadValue, nothing, pieces_of, adds_by, taken_by, given_by, given}
+use Rattle.blockwise.specs.Uploads.{UploadValue, begun, answer_to, next_of}
+use Rattle.blockwise.specs.declared.upload.Answered.{Answered}
+use Rattle.blockwise.specs.declared.upload.Answered.TheVariants as A
+use Rattle.blockwise.proofs.CallerLemmas.{more_left, next_continues}
+use Rattle.blockwise.specs.declared.fault.BlockFault.{BlockFault}
+use Rattle.blockwise.specs.declared.fault.BlockFault.TheVariants.{Changed, Size, Gap, TooLarge}
+use Rattle.cache_key.specs.Keys.{same_key}
+use Rattle.ask_model.specs.Requests.{CoapRequest}
+use Rattle.ask_model.specs.Sharing.{asked_key, asks_same, is_get}
+use Rattle.history_laws.specs.Exchanges.{Begun, begun as begun_in}
+use Rattle.history_laws.specs.Joining.{asks_the_same}
+use Rattle.journal_book.specs.Entries.{grounds_size}
+use Rattle.history_laws.specs.Readings.{Noted}
+use Rattle.history_laws.specs.Responses.{Response, is_tellable, joined, whole_by, whole_fetched, whole_given, whole_of}
+use Rattle.history_laws.specs.Progress.{Reply, numbers, messages, Ending, Whole, NotUnderstood, Reset, TimedOut, Turned}
+use Rattle.history_laws.specs.Justified.{Ends}
+use Rattle.history_laws.specs.Storing.{IsStored}
+use Rattle.history_laws.proofs.CallerLemmas.{ends-all, none-some}
+use Rattle.resp_cache.specs.Stored.{Stored}
+use Rattle.exchange_model.specs.declared.kept.Reader.{Reader}
+use Rattle.exchange_model.specs.Calls.{grounds_for}
+
+-- what holds of a piece that may be the next one
+faultless : (a p r d : Bool) → cond a (Some Changed) (cond (not p) (Some Size) (cond (not r) (Some Gap) (cond d (Some TooLarge) None))) ≡ None
+    → (p ≡ true) × (d ≡ false)
+faultless true p r d e = absurd cc
+faultless false false r d e = absurd cc
+faultless false true false d e = absurd cc
+faultless false true true true e = absurd cc
+faultless false true true false e = (refl, refl)
+
+large : (szx : ℕ) → 16 ≤ size_of szx
+large szx = let split = pow-add 2 szx 4 in let some = pow_pos szx in omega (arith, split, some)
+
+-- A piece that others follow has 16 bytes or more.
+full : (p : PiecesValue) (b : Block) (len : ℕ) → b.more ≡ true → fits_blocks p (Some b) len ≡ true → 16 ≤ len
+full p b len more e =
+    let sized : cond b.more (eqb len (size_of b.szx)) (leb len (size_of b.szx)) ≡ true = (and_parts (is_sized (Some b) len) (is_no_larger (Some b) p.szx) e).0 in
+    let same : eqb len (size_of b.szx) ≡ true = ap (λ (c : Bool). cond c (eqb len (size_of b.szx)) (leb len (size_of b.szx))) (sym more) ∙ sized in
+    elim (eqb_tells len (size_of b.szx)) [
+      | inl w ↦ let is = w.1 in let many = large b.szx in omega (arith, is, many)
+      | inr w ↦ absurd (false≢true (sym w.0 ∙ same))
+    ]
+
+pub given-few : (d : DownloadValue) (ms : List Content) (body : List ℕ) → given d ms ≡ Some body → length d.bytes + 16 * length ms ≤ 65552
+given-few d [] body e = absurd cc
+given-few d (m ∷ ms) body e = judged (fault_of (pieces_of d) m) refl e (λ f k. given-few f ms body k)
+  where
+    p : PiecesValue
+    p = pieces_of d
+
+    bytes : List ℕ
+    bytes = d.bytes ++ m.payload
+
+    more : length bytes ≡ length d.bytes + length m.payload
+    more = length-append d.bytes m.payload
+
+    last : length d.bytes + length m.payload ≤ 65536 → (ns : List Content) → ns ≡ ms → given_by (taken_by (adds_by (judged_by None (step_of None)) (with_piece p m)) bytes) (λ (e : DownloadValue). given e ns) ns ≡ Some body
+        → length d.bytes + 16 * length (m ∷ ms) ≤ 65552
+    last short [] same k = let none = ap (λ (v : List Content). length v) same in omega (arith, short, none)
+    last short (n ∷ ns) same k = absurd cc
+
+    judged : (v : Option BlockFault) → fault_of p m ≡ v
+        → given_by (taken_by (adds_by (judged_by v (step_of (block_in 23 m))) (with_piece p m)) bytes) (λ (e : DownloadValue). given e ms) ms ≡ Some body
+        → ((f : DownloadValue) → given f ms ≡ Some body → length f.bytes + 16 * length ms ≤ 65552)
+        → length d.bytes + 16 * length (m ∷ ms) ≤ 65552
+    judged (Some fault) is k later = absurd cc
+    judged None is k later = by (block_in 23 m) refl k
+      where
+        fine : (fits_blocks p (block_in 23 m) (length m.payload) ≡ true) × (ltb 65536 (p.len + length m.payload) ≡ false)
+        fine = faultless (differs p.of m) (fits_blocks p (block_in 23 m) (length m.payload)) (eqb (offset_in (block_in 23 m)) p.len) (ltb 65536 (p.len + length m.payload)) is
+
+        short : length d.bytes + length m.payload ≤ 65536
+        short = let le = ltb-false _ _ fine.1 in omega (arith, le)
+
+        by : (b : Option Block) → block_in 23 m ≡ b
+            → given_by (taken_by (adds_by (judged_by None (step_of b)) (with_piece p m)) bytes) (λ (e : DownloadValue). given e ms) ms ≡ Some body
+            → length d.bytes + 16 * length (m ∷ ms) ≤ 65552
+        by None at k = last short ms refl k
+        by (Some b) at k = goes b.more refl k
+          where
+            goes : (c : Bool) → b.more ≡ c
+                → given_by (taken_by (adds_by (judged_by None (step_of (Some (record b { more = c })))) (with_piece p m)) bytes) (λ (e : DownloadValue). given e ms) ms ≡ Some body
+                → length d.bytes + 16 * length (m ∷ ms) ≤ 65552
+            goes false is_last k = last short ms refl k
+            goes true follows k =
+                let rest = later (record { of = (with_piece p m).of; bytes = bytes; szx = (with_piece p m).szx }) k in
+                let sixteen = full p b (length m.payload) follows (ap (λ (v : Option Block). fits_blocks p v (length m.payload)) (sym at) ∙ fine.0) in
+                omega (arith, rest, sixteen, more)
+
+-- By each reply to a piece of a body but the last 16 bytes or more were taken.
+given-room : (u : UploadValue) (ms : List Content) (w : Response) → whole_given u ms ≡ Some w → u.taken ≤ u.len → u.taken + 16 * length ms ≤ u.len + 16
+given-room u [] w e le = absurd (none-some w e)
+given-room u (m ∷ ms) w e le = by (is_forwardable m.options) (answer_to u m) refl e (λ f more. given-room (next_of u m) ms w f more)
+  where
+    last : (ns : List Content) → ns ≡ ms → whole_by A.Last m ns (whole_given (next_of u m) ms) ≡ Some w → u.taken + 16 * length (m ∷ ms) ≤ u.len + 16
+    last [] same f = let none = ap (λ (v : List Content). length v) same in omega (arith, none, le)
+    last (n ∷ ns) same f = absurd (none-some w f)
+
+    by : (b : Bool) (how : Answered) → answer_to u m ≡ how → cond b (whole_by how m ms (whole_given (next_of u m) ms)) None ≡ Some w
+        → (whole_given (next_of u m) ms ≡ Some w → u.taken + size_of u.szx ≤ u.len → u.taken + size_of u.szx + 16 * length ms ≤ u.len + 16)
+        → u.taken + 16 * length (m ∷ ms) ≤ u.len + 16
+    by true A.Next is f later =
+        let more = more_left u.len (u.taken + size_of u.szx) (next_continues u m is).before_last in
+        let rest = later f (omega (arith, more)) in
+        let sixteen = large u.szx in
+        omega (arith, rest, sixteen)
+    by true A.Last is f later = last ms refl f
+    by true A.Wrong is f later = absurd (none-some w f)
+    by false how is f later = absurd (none-some w f)
+
+pub whole-few : (q : CoapRequest) (ms : List Content) (w : Response) → (eqb q.method 1 ≡ false → length q.body ≤ 65536) → whole_of q ms ≡ Some w
+    → length ms ≤ 4097
+whole-few q [] w short e = absurd cc
+whole-few q (m ∷ ms) w short e = by (eqb q.method 1) refl e
+  where
+    fetched : (b : Bool) (v : Option (List ℕ)) → given nothing (m ∷ ms) ≡ v → cond (b && is_some v) (Some (joined m ms)) None ≡ Some w → length (m ∷ ms) ≤ 4097
+    fetched false v is k = absurd cc
+    fetched true None is k = absurd cc
+    fetched true (Some body) is k = let few = given-few nothing (m ∷ ms) body is in omega (arith, few)
+
+    by : (b : Bool) → eqb q.method 1 ≡ b → cond b (whole_fetched m ms) (whole_given (begun (length q.body) 6) (m ∷ ms)) ≡ Some w → length (m ∷ ms) ≤ 4097
+    by true is k = fetched (list_all is_tellable (m ∷ ms)) (given nothing (m ∷ ms)) refl k
+    by false is k =
+        let room = given-room (begun (length q.body) 6) (m ∷ ms) w k (omega arith) in
+        let limit = short is in
+        omega (arith, room, limit)
+
+alike-get : (q r : CoapRequest) → asks_same q r ≡ true → eqb r.method 1 ≡ true
+alike-get q r e =
+    let b = and_parts (is_get q) (is_get r && same_key (asked_key q) (asked_key r)) e in
+    let c = and_parts (is_get r) (same_key (asked_key q) (asked_key r)) b.1 in
+    (and_parts (eqb r.method 1) _ c.0).0
+
+-- An exchange is for a GET, or for a body within its limit.
+abbrev pub IsShortFor : List Noted → ℕ → Type 0
+IsShortFor l o = (b : Begun) → begun_in l o ≡ Some b → eqb b.request.method 1 ≡ false → length b.request.body ≤ 65536
+
+pub ends-few : (l : List Noted) (o e : ℕ) (w : Response) (rs : List Reply) → IsShortFor l o → Ends l o e (Whole w rs) → length (numbers rs) ≤ 4097
+ends-few l o e w rs short h =
+    let it = ends-all l o e w rs h in
+    let few = whole-few it.exchange.request (messages rs) w (short it.exchange it.opened) it.whole in
+    let one = length-map rs (λ (r : Reply). r.message) in
+    let two = length-map rs (λ (r : Reply). r.number) in
+    omega (arith, few, one, two)
+
+-- so of what an exchange ended with
+pub ends-brief : (l : List Noted) (o n : ℕ) (how : Ending) (sending : Option ℕ) (r : Reader) → IsShortFor l o → Ends l o n how → grounds_size (grounds_for how n sending r) ≤ 16388
+ends-brief l o n (Whole w rs) sending r short h = let few = ends-few l o n w rs short h in omega (arith, few)
+ends-brief l o n NotUnderstood sending r short h = omega arith
+ends-brief l o n Reset sending r short h = omega arith
+ends-brief l o n TimedOut sending r short h = omega arith
+ends-brief l o n Turned sending r short h = omega arith
+
+-- and of what is stored
+pub stored-few : (l : List Noted) (q : CoapRequest) (s : Stored) → IsStored l q s → length s.list ≤ 4097
+stored-few l q s a =
+    let few = ends-few l a.opening a.ending s.response (a.first ∷ a.more) get a.ends.ended in
+    let same = ap (λ (js : List ℕ). length js) a.list in
+    omega (arith, few, same)
+  where
+    get : IsShortFor l a.opening
+    get b opened write =
+        let both = and_parts (asks_the_same q (begun_in l a.opening)) _ a.shared in
+        absurd (false≢true (sym write ∙ alike-get q b.request (subst (λ (v : Option Begun). asks_the_same q v ≡ true) opened both.0)))

@@ -1,0 +1,71 @@
+-- A message that answers no exchange leaves all of them.
+use Rattle.std.proofs.Common.{◌≡◌, ℕ, ◌+◌, true, false, List, [], ◌∷◌, length, map, None, refl, sym, ap, subst, ◌∙◌}
+use Rattle.std.specs.Prelude.{is_none}
+use Rattle.std.specs.List.{Contains}
+use Rattle.std.proofs.lemmas.Bool.{false≢true}
+use Rattle.coap_codec.specs.Spelling.{Content, Spells}
+use Rattle.uri_map.specs.declared.peer.Peer.{Peer}
+use Rattle.history_laws.specs.Readings.{Noted}
+use Rattle.history_laws.specs.Hearing.{repeated, can_be_remembered}
+use Rattle.history_laws.specs.Justified.{Ends}
+use Rattle.history_laws.specs.Progress.{Reply, Whole}
+use Rattle.history_laws.specs.Exchanges.{end_of, is_going}
+use Rattle.history_laws.proofs.CallerLemmas.{all-more, contains-none, filter-all}
+use Rattle.history_links.specs.Steps.{heard}
+use Rattle.history_links.proofs.CallerLemmas.{says-agrees}
+use Rattle.exchange_model.specs.declared.kept.Exchange.{Exchange}
+use Rattle.exchange_model.specs.State.{State, link_of}
+use Rattle.exchange_model.specs.Reads.{ExchangeIn, opening_of, WaitsUnder}
+use Rattle.exchange_model.specs.Steps.{Nothing, answered_in, Numbers}
+use Rattle.exchange_model.specs.Laws.{MayHear}
+use Rattle.exchange_model.proofs.Answered.{ended, hits, issued-still, kept-in, none-goes-on, none-hit}
+use Rattle.exchange_model.proofs.Begins.{waits-with}
+use Rattle.exchange_model.proofs.Hearing.{end-kept, kept-one, open-later, replies-kept}
+use Rattle.exchange_model.proofs.Left.{Left, legal-so}
+use Rattle.exchange_model.proofs.Lists.{each-of}
+use Rattle.exchange_model.proofs.Outrun.{current-still, EndsThose}
+use Rattle.exchange_model.proofs.Over.{kept-open}
+use Rattle.exchange_model.proofs.Pieces.{pieces-quiet}
+use Rattle.exchange_model.proofs.Retiring.{store-retired}
+use Rattle.exchange_model.proofs.Settling.{is-ended}
+use Rattle.exchange_model.proofs.Silent.{link-before}
+
+module _ (l : List Noted) (t : ℕ) (p : Peer) (d : List ℕ) (m : Content) (n : Numbers) (S : State) (h : MayHear l t p d S)
+    (spelled : Spells m d) (none : repeated l t p m ≡ None) (room : can_be_remembered l t p m ≡ true)
+    (is : answered_in (ended l t p d m S h none room) S.exchanges ≡ None) where
+  abbrev x : Noted
+  x = heard l t p d m
+
+  unhit : (e : Exchange) → Contains S.exchanges e → hits l t p d m S h none room e.opening ≡ false
+  unhit e has = none-hit l t p d m S h none room is e has
+
+  goes : (e : Exchange) → Contains S.exchanges e → is_going (x ∷ l) e.opening ≡ true
+  goes e has = ap is_none (end-kept l t p d m e.opening (unhit e has) ∙ kept-open l S e h.before.reads has)
+
+  ends : EndsThose x l S []
+  ends = record { ended = λ f c. absurd (contains-none f c); all = λ f has gone. absurd (false≢true (sym gone ∙ goes f has)) }
+
+  no-over : (e : Exchange) → Contains S.exchanges e → hits l t p d m S h none room e.opening ≡ true → is_going (x ∷ l) e.opening ≡ false
+  no-over e has hit = absurd (false≢true (sym (unhit e has) ∙ hit))
+
+  no-whole-now : (o : ℕ) (w : _) (rs : List Reply) → end_of l o ≡ None → Ends (x ∷ l) o (length l) (Whole w rs) → ⊥
+  no-whole-now o w rs going so =
+      let g = is-ended x l S h.before.reads (legal-so l t p d m n S h spelled none room) [] ends o _ going so in
+      contains-none g.0 g.1
+
+  pub left-alone : Left l t p d m n S h spelled none room Nothing
+  left-alone =
+      let r = h.before.reads in
+      record {
+        issued_are = ap (λ (k : ℕ). r.start.issued + k) (issued-still l t p d m S h none room no-over) ∙ r.issued_are;
+        keys = open-later x l S.exchanges refl r.keys ∙ ap (map opening_of) (filter-all (λ (e : Exchange). is_going (x ∷ l) e.opening) S.exchanges (each-of _ S.exchanges goes));
+        exchanges_are = each-of (ExchangeIn r.start (x ∷ l)) S.exchanges (λ e has.
+            let a = kept-in l t p d m S h none room e has in
+            kept-one l t p (link_of S.links p) d m r.legal e e.current a (unhit e has) (current-still x l S r [] ends (legal-so l t p d m n S h spelled none room) refl e a));
+        pieces_are = pieces-quiet x l S.exchanges S.pieces (λ (e : Exchange). ExchangeIn r.start l e × (hits l t p d m S h none room e.opening ≡ false))
+            (λ e k. (_, k.0.opening)) (λ e k. replies-kept l t p d m e.opening k.1) (each-of _ S.exchanges (λ e has. (kept-in l t p d m S h none room e has, unhit e has))) r.pieces_are;
+        store_is = store-retired x l S r (legal-so l t p d m n S h spelled none room) [] ends tt no-whole-now;
+        tokens_are = r.tokens_are;
+        waiting_are = waits-with p _ S.links S.exchanges (all-more _ _ (λ e k at_p. subst (λ (q : Peer). WaitsUnder (link_of S.links q).waiting e) at_p k) S.exchanges r.waiting_are) r.waiting_are;
+        link_is = says-agrees _ l t p (link_of S.links p) d m (link-before l t S h.before p) none room (none-goes-on l t p d m S h none room no-over);
+      }
