@@ -3,9 +3,10 @@ use Rattle.std.specs.Prelude.{◌≡◌, ℕ, Bool, false, ◌&&◌, nat_lt, Lis
 use Rattle.uri_map.specs.declared.peer.Peer.{Peer}
 use Rattle.uri_map.specs.Peers.{same_peer}
 use Rattle.message_layer.specs.Values.{LinkState, LinkValue, empty_link}
-use Rattle.message_layer.specs.Hearing.{applied}
+use Rattle.message_layer.specs.Prepared.{followed, heeded}
 use Rattle.message_layer.specs.Sending.{submitted}
 use Rattle.message_layer.specs.declared.prepared.Heeding.{Heeding}
+use Rattle.message_layer.specs.declared.prepared.Submission.{Submission}
 use Rattle.message_layer.specs.declared.state.Waiting.{Waiting}
 use Rattle.exchange_model.specs.Calls.{peer_of}
 use Rattle.exchange_model.specs.Entering.{awaits_no_more}
@@ -36,10 +37,10 @@ link_at v p = record { state = link_of v.links p; room = room_at v.links v.rooms
 abbrev pub submitted_to : Peer → ℕ → Waiting → List PeerLink → List PeerLink
 submitted_to p t w xs = with_link p (given_out (submitted t w (link_of xs p))) xs
 
--- a link after the datagram that was prepared, which awaits nothing more under the token that is
--- over, and gave out all
-abbrev pub heeds : ℕ → Heeding → Option (List ℕ) → LinkState → LinkState
-heeds t x over s = given_out (awaits_no_more over (applied t x.mid x.token x.verdict s))
+-- a link after the datagram that was prepared and the message that was prepared after it, if one
+-- was, which awaits nothing more under the token that is over, and gave out all
+abbrev pub heeds : ℕ → Heeding → Option Submission → Option (List ℕ) → LinkState → LinkState
+heeds t x more over s = given_out (awaits_no_more over (followed t more (heeded t x s)))
 
 -- what stands behind a table
 

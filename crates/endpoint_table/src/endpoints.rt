@@ -5,7 +5,7 @@ ghost use Rattle.std.specs.List.{list_all};
 ghost use Rattle.limits.specs.declared.TheConstants.{LAST_MOMENT};
 ghost use Rattle.uri_map.specs.declared.peer.Peer.{Peer as PeerValue};
 ghost use Rattle.message_layer.specs.Calls.{is_among};
-ghost use Rattle.message_layer.specs.Prepared.{IsPreparedFor, IsSubmission, IsUnnumberedCon, MayHeed, MaySubmit};
+ghost use Rattle.message_layer.specs.Prepared.{heeded, link_after as link_heeded, IsPreparedFor, IsSubmission, IsUnnumberedCon, MayFollow, MayHeed, MaySubmit};
 ghost use Rattle.message_layer.specs.Sending.{IsSubmitted, is_over_by};
 ghost use Rattle.exchange_model.specs.Due.{earliest, timer};
 ghost use Rattle.exchange_model.specs.Entering.{all_deeds, all_going, link_after};
@@ -152,18 +152,64 @@ impl Endpoints {
         }
     }
 
-    /// The endpoint's link, which has not changed since, does what was prepared. Nothing is awaited
-    /// any more under the token that is over.
-    pub fn heed(&mut self, peer: &Peer, heeding: Heeding, over: Option<Token>, moment: u64)
+    /// Prepares that the link of the endpoint takes a message after the datagram that was prepared
+    /// at this moment: one that is spelled already, as a CON under message ID 0. It waits after all
+    /// that waits once the datagram was heard, and is sent at once where nothing is outstanding then.
+    pub fn prepare_more(
+        &self,
+        peer: &Peer,
+        heeding: &Heeding,
+        token: Token,
+        text: &[u8],
+        moment: u64,
+        word: u64,
+    ) -> Result<Submission, LinkFault>
+        requires early { moment ≤ LAST_MOMENT }
+        requires ready { MayHeed moment (link_at self.now peer.now) heeding.now }
+        requires known { is_some (link_of self.now.links peer.now).last_mid ≡ true }
+        requires message { IsUnnumberedCon token text.now }
+        ensures ok { IfOk result (λ more. IsSubmission moment token text.now word
+            (link_heeded moment heeding.now (link_at self.now peer.now)) more) }
+        ensures fault { IsSubmitted moment
+            (heeded moment heeding.now (link_of self.now.links peer.now)) result }
+    {
+        match self.hints.look_up(&self.rows, peer) {
+            Some(place) => rows::prepare_more_at(
+                &self.rows, place, heeding, token, text, moment, word,
+            ),
+            None => unreachable!(),
+        }
+    }
+
+    /// The endpoint's link, which has not changed since, does what was prepared, and takes the
+    /// message that was prepared after it, if one was. Nothing is awaited any more under the token
+    /// that is over.
+    pub fn heed(
+        &mut self,
+        peer: &Peer,
+        heeding: Heeding,
+        more: Option<Submission>,
+        over: Option<Token>,
+        moment: u64,
+    )
         requires early { moment ≤ LAST_MOMENT }
         requires ready { MayHeed moment (link_at self.old peer.now) heeding }
+        requires follows { MayFollow moment (link_at self.old peer.now) heeding more }
         requires known { is_some (link_of self.old.links peer.now).last_mid ≡ true }
         ensures { self.new.links
-            ≡ with_link peer.now (heeds moment heeding over (link_of self.old.links peer.now))
+            ≡ with_link peer.now (heeds moment heeding more over (link_of self.old.links peer.now))
             self.old.links }
     {
         if let Some(place) = self.hints.find(&self.rows, peer) {
-            rows::heed_at(&mut self.rows, &mut self.dues, place, heeding, over, moment);
+            rows::heed_at(
+                &mut self.rows,
+                &mut self.dues,
+                place,
+                heeding,
+                more,
+                over,
+                moment,
+            );
         }
     }
 

@@ -65,19 +65,28 @@ impl Hints {
 
     /// The place of an endpoint, where something was asked of it. Only one that isn't in mind is
     /// looked for.
+    pub fn look_up(&self, rows: &[Endpoint], peer: &Peer) -> Option<usize>
+        requires { AreOnce rows.now }
+        ensures below { IfSome result (λ i. i < length rows.now) }
+        ensures some { IfSome result (λ i. IsFirstAt peer.now (map peer_link rows.now) i) }
+        ensures none { result ≡ None → HasNone peer.now (map peer_link rows.now) }
+    {
+        let place = self.hint(slot_of(peer));
+        if is_at(rows, place, peer) {
+            return Some(place);
+        }
+        find_endpoint(rows, peer)
+    }
+
+    /// The same, and keeps the place in mind.
     pub fn find(&mut self, rows: &[Endpoint], peer: &Peer) -> Option<usize>
         requires { AreOnce rows.now }
         ensures below { IfSome result (λ i. i < length rows.now) }
         ensures some { IfSome result (λ i. IsFirstAt peer.now (map peer_link rows.now) i) }
         ensures none { result ≡ None → HasNone peer.now (map peer_link rows.now) }
     {
-        let slot = slot_of(peer);
-        let place = self.hint(slot);
-        if is_at(rows, place, peer) {
-            return Some(place);
-        }
-        let place = find_endpoint(rows, peer)?;
-        self.keep(slot, place);
+        let place = self.look_up(rows, peer)?;
+        self.keep(slot_of(peer), place);
         Some(place)
     }
 

@@ -6,7 +6,7 @@ ghost use Rattle.limits.specs.declared.TheConstants.{LAST_MOMENT};
 ghost use Rattle.uri_map.specs.declared.peer.Peer.{Peer as PeerValue};
 ghost use Rattle.message_layer.specs.Values.{empty_link};
 ghost use Rattle.message_layer.specs.Sending.{submitted, IsSubmitted, is_over_by};
-ghost use Rattle.message_layer.specs.Prepared.{IsPreparedFor, IsSubmission, IsUnnumberedCon, MayHeed, MaySubmit};
+ghost use Rattle.message_layer.specs.Prepared.{heeded, link_after, IsPreparedFor, IsSubmission, IsUnnumberedCon, MayFollow, MayHeed, MaySubmit};
 ghost use Rattle.exchange_model.specs.State.{link_of, with_link};
 ghost use Rattle.exchange_model.specs.Steps.{given_out};
 ghost use Rattle.endpoint_table.specs.declared.endpoint.Endpoint.{Endpoint as EndpointValue};
@@ -198,15 +198,50 @@ pub fn prepare_heard_at(
     prepare_heard(&mut rows[place], datagram, moment)
 }
 
-/// The endpoint's link does what was prepared, awaits nothing more under the token that is over, and
-/// gives out nothing by itself.
-fn heed(endpoint: &mut Endpoint, heeding: Heeding, over: Option<Token>, moment: u64)
+/// Prepares that the link in this place takes a message after the datagram that was prepared.
+pub fn prepare_more_at(
+    rows: &[Endpoint],
+    place: usize,
+    heeding: &Heeding,
+    token: Token,
+    text: &[u8],
+    moment: u64,
+    word: u64,
+) -> Result<Submission, LinkFault>
+    requires place { place < length rows.now }
+    requires early { moment ≤ LAST_MOMENT }
+    requires ready { (e : EndpointValue) → slice_get rows.now place ≡ Some e
+        → MayHeed moment e.link heeding.now }
+    requires message { IsUnnumberedCon token text.now }
+    ensures ok { (p : PeerValue) (spare : Bool) → IsFirstAt p (map peer_link rows.now) place
+        → IfOk result (λ more. IsSubmission moment token text.now word
+        (link_after moment heeding.now (link_at (shown rows.now spare) p)) more) }
+    ensures fault { (p : PeerValue) → IsFirstAt p (map peer_link rows.now) place
+        → IsSubmitted moment
+        (heeded moment heeding.now (link_of (map peer_link rows.now) p)) result }
+{
+    rows[place]
+        .link
+        .prepare_more(heeding, token, text, moment, word)
+}
+
+/// The endpoint's link does what was prepared, takes the message that was prepared after it, awaits
+/// nothing more under the token that is over, and gives out nothing by itself.
+fn heed(
+    endpoint: &mut Endpoint,
+    heeding: Heeding,
+    more: Option<Submission>,
+    over: Option<Token>,
+    moment: u64,
+)
     requires early { moment ≤ LAST_MOMENT }
     requires ready { MayHeed moment endpoint.old.link heeding }
+    requires follows { MayFollow moment endpoint.old.link heeding more }
     ensures peer { endpoint.new.peer ≡ endpoint.old.peer }
-    ensures link { endpoint.new.link.state ≡ heeds moment heeding over endpoint.old.link.state }
+    ensures link { endpoint.new.link.state
+        ≡ heeds moment heeding more over endpoint.old.link.state }
 {
-    endpoint.link.hear_prepared(heeding, moment);
+    endpoint.link.hear_with_more_prepared(heeding, more, moment);
     if let Some(token) = over {
         match endpoint.link.expect(&token, false) {
             Ok(()) => {}
@@ -216,12 +251,13 @@ fn heed(endpoint: &mut Endpoint, heeding: Heeding, over: Option<Token>, moment: 
     endpoint.link.clear_out();
 }
 
-/// The link in this place does what was prepared.
+/// The link in this place does what was prepared, and takes the message that was prepared after it.
 pub fn heed_at(
     rows: &mut Vec<Endpoint>,
     dues: &mut Vec<Due>,
     place: usize,
     heeding: Heeding,
+    more: Option<Submission>,
     over: Option<Token>,
     moment: u64,
 )
@@ -229,14 +265,16 @@ pub fn heed_at(
     requires early { moment ≤ LAST_MOMENT }
     requires ready { (e : EndpointValue) → slice_get rows.old.items place ≡ Some e
         → MayHeed moment e.link heeding }
+    requires follows { (e : EndpointValue) → slice_get rows.old.items place ≡ Some e
+        → MayFollow moment e.link heeding more }
     requires dues { AreDues rows.old.items dues.old.items (vec_capacity dues.old) }
     ensures links { (p : PeerValue) → IsFirstAt p (map peer_link rows.old.items) place
         → map peer_link rows.new.items
-        ≡ with_link p (heeds moment heeding over (link_of (map peer_link rows.old.items) p))
+        ≡ with_link p (heeds moment heeding more over (link_of (map peer_link rows.old.items) p))
         (map peer_link rows.old.items) }
     ensures dues { AreDues rows.new.items dues.new.items (vec_capacity dues.new) }
 {
-    heed(&mut rows[place], heeding, over, moment);
+    heed(&mut rows[place], heeding, more, over, moment);
     set_due(dues, place, rows[place].link.next_due());
 }
 

@@ -1,2 +1,3 @@
--- The lemmas on places in a list whose numbers rise that other crates cite. Declares nothing, and no other module of proofs/ can be named from outside.
+-- The lemmas on places in a list whose numbers rise, and on what goes on, that other crates cite. Declares nothing, and no other module of proofs/ can be named from outside.
 pub use Rattle.exchange_table.proofs.Standing.{Tells, any-none, any-only, filter-none, filter-only, map-none, map-only, non-decreasing, none-past, none-there, only-at, only-is, put-back, rise-filter, rise-map}
+pub use Rattle.exchange_table.proofs.Indexed.{went-so}

@@ -7,13 +7,15 @@ use Rattle.std.proofs.lemmas.Bool.{cases_Bool, eqb-true, eq-eqb, false≢true}
 use Rattle.std.proofs.lemmas.Bool.Decides.{eqb_tells}
 use Rattle.std.proofs.lemmas.Slice.Eq.{bytes_eq-Decides}
 use Rattle.history_laws.specs.Numbering.{token_number}
+use Rattle.history_laws.specs.Progress.{Progress}
 use Rattle.history_laws.proofs.CallerLemmas.{all-filter, all-more, all-push}
 use Rattle.exchange_model.proofs.CallerLemmas.{not-under}
 use Rattle.exchange_model.specs.declared.kept.Exchange.{Exchange}
-use Rattle.exchange_model.specs.Steps.{is_other, is_under, went_out}
+use Rattle.exchange_model.specs.declared.kept.Work.{Work}
+use Rattle.exchange_model.specs.Steps.{continued, goes_so, is_other, is_under, went_out, work_by}
 use Rattle.exchange_table.specs.declared.index.Named.{Named}
 use Rattle.exchange_table.specs.Places.{RiseBy, IsNowhere, IsOnlyAt}
-use Rattle.exchange_table.specs.Tables.{IsIndexed, IsLatest, has_number, is_named, is_opened_at, is_opened_in, name_of, opening_in, opening_under, number_in, number_of, opening_of}
+use Rattle.exchange_table.specs.Tables.{IsIndexed, IsLatest, IsNewest, has_number, is_named, is_opened_at, is_opened_in, name_of, named_anew, opening_in, opening_under, number_in, number_of, opening_of, carried_on, went_on}
 use Rattle.exchange_table.proofs.Standing.{all-at, map-none, map-only, any-none, any-only, only-is, rise-filter, rise-map}
 
 -- lists
@@ -97,6 +99,19 @@ any-map p f (x ∷ xs) same e = by (p x) (same x) e (any-map p f xs same)
     by true is h g = or-first (p (f x)) (list_any p (map f xs)) (sym is)
     by false is h g = or-second (p (f x)) (list_any p (map f xs)) (g h)
 
+any-mapped : {X : Type 0} (p : X → Bool) (f : X → X) (xs : List X) → ((x : X) → p x ≡ true → p (f x) ≡ true) → list_any p xs ≡ true → list_any p (map f xs) ≡ true
+any-mapped p f [] keeps e = e
+any-mapped {X = X} p f (x ∷ xs) keeps e = by (p x) refl e (any-mapped p f xs keeps)
+  where
+    by : (b : Bool) → p x ≡ b → (b || list_any p xs) ≡ true → (list_any p xs ≡ true → list_any p (map f xs) ≡ true) → (p (f x) || list_any p (map f xs)) ≡ true
+    by true is h g = or-first (p (f x)) (list_any p (map f xs)) (keeps x is)
+    by false is h g = or-second (p (f x)) (list_any p (map f xs)) (g h)
+
+any-there : {X : Type 0} (p : X → Bool) (f : X → X) (xs : List X) (i : ℕ) (d : X) → i < length xs → p (f (get_or xs i d)) ≡ true → list_any p (map f xs) ≡ true
+any-there p f [] i d lt e = absurd (omega (arith, lt))
+any-there p f (x ∷ xs) zero d lt e = or-first (p (f x)) (list_any p (map f xs)) e
+any-there p f (x ∷ xs) (suc i) d lt e = or-second (p (f x)) (list_any p (map f xs)) (any-there p f xs i d (omega (arith, lt)) e)
+
 any-push : {X : Type 0} (p : X → Bool) (xs : List X) (y : X) → list_any p xs ≡ true → list_any p (xs ++ y ∷ []) ≡ true
 any-push p [] y e = absurd (false≢true e)
 any-push p (x ∷ xs) y e = by (p x) e (any-push p xs y)
@@ -127,6 +142,16 @@ rise-push n (x ∷ xs) y r above = (all-push (λ z. n x < n z) xs y r.0 above.0,
 
 same-as : (a b : ℕ) → a ≡ b → eqb a b ≡ true
 same-as a b e = eq-eqb a b e
+
+unequal : (a b : ℕ) → a ≢ b → not (eqb a b) ≡ true
+unequal a b differs = elim (eqb_tells a b) [ inl w ↦ absurd (differs w.1) | inr w ↦ ap not w.0 ]
+
+eqb-not : (a b : ℕ) → not (eqb a b) ≡ true → a ≢ b
+eqb-not a b h e = false≢true (sym (ap not (same-as a b e)) ∙ h)
+
+all-of : {X : Type 0} {P : X → Type 0} (xs : List X) → ((x : X) → P x) → AllByRecursion P xs
+all-of [] f = tt
+all-of (x ∷ xs) f = (f x, all-of xs f)
 
 -- Under a token stands what bears its number.
 under-number : (token : List ℕ) (e : Exchange) → is_under token e ≡ true → number_of e ≡ token_number token
@@ -212,24 +237,29 @@ number-below n x (f ∷ fs) a h = by (is_named x f) refl h (number-below n x fs 
     by true is k g = let same = named-number x f is in let lt = a.0 in omega (arith, same, lt)
     by false is k g = g k
 
+names-below : (n : ℕ) (es : List Exchange) (names : List Named) → AllByRecursion (λ (f : Exchange). number_of f < n) es → AllByRecursion (λ (x : Named). list_any (is_named x) es ≡ true) names
+    → AllByRecursion (λ (x : Named). number_in x < n) names
+names-below n es names below named = all-more _ _ (λ (x : Named) h. number-below n x es below h) names named
+
+below-nowhere : (n : ℕ) (names : List Named) → AllByRecursion (λ (x : Named). number_in x < n) names → IsNowhere (has_number n) names
+below-nowhere n names below =
+    all-more _ _ (λ (x : Named) lt. elim (eqb_tells x.number n) [ inl w ↦ absurd (let same = w.1 in omega (arith, same, lt)) | inr w ↦ w.0 ]) names below
+
 pub index-push : (es : List Exchange) (names : List Named) (e : Exchange) → IsIndexed es names → IsLatest e es
     → IsIndexed (es ++ e ∷ []) (names ++ name_of e ∷ [])
 index-push es names e indexed latest = record {
   openings = rise-push opening_of es e indexed.openings latest.opening;
-  numbers = rise-push number_in names (name_of e) indexed.numbers (lower names indexed.none_beside);
+  numbers = rise-push number_in names (name_of e) indexed.numbers lower;
   each = all-push _ es e
       (all-more _ _ (λ (f : Exchange) found. find-push (has_number (number_of f)) names (name_of f) (name_of e) found) es indexed.each)
-      (find-last (has_number (number_of e)) names (name_of e) (nowhere names (lower names indexed.none_beside)) (same-as (number_of e) (number_of e) refl));
+      (find-last (has_number (number_of e)) names (name_of e) (below-nowhere (number_of e) names lower) (same-as (number_of e) (number_of e) refl));
   none_beside = all-push _ names (name_of e)
       (all-more _ _ (λ (x : Named) named. any-push (is_named x) es e named) names indexed.none_beside)
       (any-last (is_named (name_of e)) es e (names-it e));
 }
   where
-    lower : (xs : List Named) → AllByRecursion (λ (x : Named). list_any (is_named x) es ≡ true) xs → AllByRecursion (λ (x : Named). number_in x < number_in (name_of e)) xs
-    lower xs a = all-more _ _ (λ (x : Named) h. number-below (number_of e) x es latest.token h) xs a
-
-    nowhere : (xs : List Named) → AllByRecursion (λ (x : Named). number_in x < number_in (name_of e)) xs → IsNowhere (has_number (number_of e)) xs
-    nowhere xs a = all-more _ _ (λ (x : Named) lt. elim (eqb_tells x.number (number_of e)) [ inl w ↦ absurd (let same = w.1 in omega (arith, same, lt)) | inr w ↦ w.0 ]) xs a
+    lower : AllByRecursion (λ (x : Named). number_in x < number_in (name_of e)) names
+    lower = names-below (number_of e) es names latest.token indexed.none_beside
 
 -- the same ones, changed otherwise than by token and opening
 
@@ -247,14 +277,14 @@ index-map f es names same indexed = record {
 pub out-nowhere : (token : List ℕ) (n : ℕ) (es : List Exchange) → IsNowhere (is_under token) es → map (went_out token n) es ≡ es
 out-nowhere token n es h = map-none (is_under token) (went_out token n) es (not-under token n) h
 
-pub out-only : (token : List ℕ) (n : ℕ) (es : List Exchange) (i : ℕ) (d : Exchange) → IsOnlyAt (is_under token) es i → map (went_out token n) es ≡ set es i (record (get_or es i d) { sending = Some n })
+pub out-only : (token : List ℕ) (n : ℕ) (es : List Exchange) (i : ℕ) (d : Exchange) → IsOnlyAt (is_under token) es i → map (went_out token n) es ≡ set es i (record (get_or es i d) { sending = Some n; awaits = true })
 out-only token n es i d h = map-only (is_under token) (went_out token n) es i d (not-under token n) h
-    ∙ ap (set es i) (ap (λ (b : Bool). cond b (record (get_or es i d) { sending = Some n }) (get_or es i d)) (only-is (is_under token) es i d h))
+    ∙ ap (set es i) (ap (λ (b : Bool). cond b (record (get_or es i d) { sending = Some n; awaits = true }) (get_or es i d)) (only-is (is_under token) es i d h))
 
 pub out-names : (token : List ℕ) (i : ℕ) (e : Exchange) → name_of (went_out token i e) ≡ name_of e
 out-names token i e = by (is_under token e)
   where
-    by : (b : Bool) → name_of (cond b (record e { sending = Some i }) e) ≡ name_of e
+    by : (b : Bool) → name_of (cond b (record e { sending = Some i; awaits = true }) e) ≡ name_of e
     by true = refl
     by false = refl
 
@@ -272,19 +302,30 @@ others-apart q (e ∷ es) (suc i) d rise only lt =
     let less : e.opening < (get_or es i d).opening = all-at (λ (f : Exchange). e.opening < f.opening) es i d rise.0 inside in
     (λ other is. absurd (omega (arith, less, is)), others-apart q es i d rise.1 only.1 inside)
 
+-- what is found under the token's number, and by it alone
+row-found : (es : List Exchange) (names : List Named) (token : List ℕ) (i : ℕ) (d : Exchange) → IsIndexed es names → IsOnlyAt (is_under token) es i → i < length es
+    → find (has_number (token_number token)) names ≡ Some (name_of (get_or es i d))
+row-found es names token i d indexed only lt =
+    ap (λ m. find (has_number m) names) (sym (under-number token (get_or es i d) (only-is (is_under token) es i d only)))
+    ∙ all-at (λ (e : Exchange). find (has_number (number_of e)) names ≡ Some (name_of e)) es i d indexed.each lt
+
+one-opening : (names : List Named) (n : ℕ) (r e : Exchange) → find (has_number n) names ≡ Some (name_of r) → Found names e → number_of e ≡ n → e.opening ≡ r.opening
+one-opening names n r e found at same =
+    ap (λ (x : Named). x.opening) (some-is (name_of e) (name_of r) (sym at ∙ ap (λ m. find (has_number m) names) same ∙ found))
+
 pub index-remove : (es : List Exchange) (names : List Named) (token : List ℕ) (i : ℕ) (d : Exchange) → IsIndexed es names → IsOnlyAt (is_under token) es i → i < length es
-    → IsIndexed (filter (is_other (Some token)) es) (filter (λ x. not (has_number (token_number token) x)) names)
+    → IsIndexed (filter (is_other token) es) (filter (λ x. not (has_number (token_number token) x)) names)
 index-remove es names token i d indexed only lt = record {
-  openings = rise-filter opening_of (is_other (Some token)) es indexed.openings;
+  openings = rise-filter opening_of (is_other token) es indexed.openings;
   numbers = rise-filter number_in (λ (x : Named). not (has_number n x)) names indexed.numbers;
-  each = filter-if (Found left) (is_other (Some token)) es (each-so (λ (e : Exchange). is_other (Some token) e ≡ true → Found left e) es
+  each = filter-if (Found left) (is_other token) es (each-so (λ (e : Exchange). is_other token e ≡ true → Found left e) es
       (both-hold (Found names) (λ (e : Exchange). is_under token e ≡ false → e.opening ≢ r.opening) es indexed.each (others-apart (is_under token) es i d indexed.openings only lt))
-      (λ (e : Exchange) (both : Found names e × (is_under token e ≡ false → e.opening ≢ r.opening)) (other : is_other (Some token) e ≡ true).
-      find-filter (has_number (number_of e)) (λ (x : Named). not (has_number n x)) names (name_of e) both.0 (unequal (number_of e) (apart e both.0 (both.1 (is-not e other))))));
+      (λ (e : Exchange) (both : Found names e × (is_under token e ≡ false → e.opening ≢ r.opening)) (other : is_other token e ≡ true).
+      find-filter (has_number (number_of e)) (λ (x : Named). not (has_number n x)) names (name_of e) both.0 (unequal (number_of e) n (apart e both.0 (both.1 (is-not e other))))));
   none_beside = filter-if (λ (x : Named). list_any (is_named x) some ≡ true) (λ (x : Named). not (has_number n x)) names
       (each-so (λ (x : Named). not (has_number n x) ≡ true → list_any (is_named x) some ≡ true) names indexed.none_beside
       (λ (x : Named) (named : list_any (is_named x) es ≡ true) (other : not (has_number n x) ≡ true).
-      any-filter (is_named x) (is_other (Some token)) es (all-of {P = λ (e : Exchange). is_named x e ≡ true → is_other (Some token) e ≡ true} es
+      any-filter (is_named x) (is_other token) es (all-of {P = λ (e : Exchange). is_named x e ≡ true → is_other token e ≡ true} es
       (λ (e : Exchange) (is : is_named x e ≡ true). not-under e (λ same. eqb-not x.number n other (sym (named-number x e is) ∙ same)))) named));
 }
   where
@@ -292,7 +333,7 @@ index-remove es names token i d indexed only lt = record {
     left = filter (λ (x : Named). not (has_number (token_number token) x)) names
 
     some : List Exchange
-    some = filter (is_other (Some token)) es
+    some = filter (is_other token) es
 
     n : ℕ
     n = token_number token
@@ -300,38 +341,135 @@ index-remove es names token i d indexed only lt = record {
     r : Exchange
     r = get_or es i d
 
-    under : is_under token r ≡ true
-    under = only-is (is_under token) es i d only
-
     found : find (has_number n) names ≡ Some (name_of r)
-    found = ap (λ m. find (has_number m) names) (sym (under-number token r under)) ∙ all-at (λ (e : Exchange). find (has_number (number_of e)) names ≡ Some (name_of e)) es i d indexed.each lt
+    found = row-found es names token i d indexed only lt
 
-    is-not : (e : Exchange) → is_other (Some token) e ≡ true → is_under token e ≡ false
+    is-not : (e : Exchange) → is_other token e ≡ true → is_under token e ≡ false
     is-not e h = by (is_under token e) h
       where
         by : (b : Bool) → not b ≡ true → b ≡ false
         by true k = absurd (false≢true k)
         by false k = refl
 
-    not-under : (e : Exchange) → number_of e ≢ n → is_other (Some token) e ≡ true
+    not-under : (e : Exchange) → number_of e ≢ n → is_other token e ≡ true
     not-under e differs = by (is_under token e) refl
       where
         by : (b : Bool) → is_under token e ≡ b → not b ≡ true
         by true is = absurd (differs (under-number token e is))
         by false is = refl
 
-    apart : (e : Exchange) → find (has_number (number_of e)) names ≡ Some (name_of e) → e.opening ≢ r.opening → number_of e ≢ n
-    apart e at other same = other (ap (λ (x : Named). x.opening) (some-is (name_of e) (name_of r) (sym at ∙ ap (λ m. find (has_number m) names) same ∙ found)))
+    apart : (e : Exchange) → Found names e → e.opening ≢ r.opening → number_of e ≢ n
+    apart e at other same = other (one-opening names n r e found at same)
 
-    unequal : (m : ℕ) → m ≢ n → not (eqb m n) ≡ true
-    unequal m differs = elim (eqb_tells m n) [ inl w ↦ absurd (differs w.1) | inr w ↦ ap not w.0 ]
+-- one goes on
 
-    eqb-not : (a b : ℕ) → not (eqb a b) ≡ true → a ≢ b
-    eqb-not a b h e = false≢true (sym (ap not (same-as a b e)) ∙ h)
+module _ (token next : List ℕ) (work : Work) where
+  abbrev goes : Exchange → Exchange
+  goes = went_on token next work
 
-    all-of : {X : Type 0} {P : X → Type 0} (xs : List X) → ((x : X) → P x) → AllByRecursion P xs
-    all-of [] f = tt
-    all-of (x ∷ xs) f = (f x, all-of xs f)
+  abbrev more : Exchange → Exchange
+  more e = carried_on next work e
+
+  not-on : (e : Exchange) → is_under token e ≡ false → goes e ≡ e
+  not-on e h = ap (λ (b : Bool). cond b (more e) e) h
+
+  is-on : (e : Exchange) → is_under token e ≡ true → goes e ≡ more e
+  is-on e h = ap (λ (b : Bool). cond b (more e) e) h
+
+  pub on-nowhere : (es : List Exchange) → IsNowhere (is_under token) es → map goes es ≡ es
+  on-nowhere es h = map-none (is_under token) goes es not-on h
+
+  pub on-only : (es : List Exchange) (i : ℕ) (d : Exchange) → IsOnlyAt (is_under token) es i → map goes es ≡ set es i (more (get_or es i d))
+  on-only es i d h =
+      map-only (is_under token) goes es i d not-on h
+      ∙ ap (set es i) (is-on (get_or es i d) (only-is (is_under token) es i d h))
+
+  opening-stays : (e : Exchange) → opening_of (goes e) ≡ opening_of e
+  opening-stays e = by (is_under token e)
+    where
+      by : (b : Bool) → opening_of (cond b (more e) e) ≡ opening_of e
+      by true = refl
+      by false = refl
+
+  index-anew : (es : List Exchange) (names : List Named) (i : ℕ) (d : Exchange) → IsIndexed es names → IsOnlyAt (is_under token) es i → i < length es → IsNewest next es
+      → IsIndexed (map goes es) (named_anew (token_number token) (token_number next) (Some (opening_of (get_or es i d))) names)
+  index-anew es names i d indexed only lt newest = record {
+    openings = rise-map opening_of goes es opening-stays indexed.openings;
+    numbers = rise-push number_in left new (rise-filter number_in (λ (x : Named). not (has_number n x)) names indexed.numbers) lower;
+    each = map-all (Found all) goes es (each-so (λ (e : Exchange). Found all (goes e)) es
+        (both-hold (Found names) (λ (e : Exchange). is_under token e ≡ false → e.opening ≢ r.opening) es indexed.each (others-apart (is_under token) es i d indexed.openings only lt))
+        (λ (e : Exchange) (both : Found names e × (is_under token e ≡ false → e.opening ≢ r.opening)).
+        elim (cases_Bool (is_under token e)) [
+          | inl is ↦ found-new e both.0 is
+          | inr is ↦ found-old e both.0 (both.1 is) is
+        ]));
+    none_beside = all-push (λ (x : Named). list_any (is_named x) (map goes es) ≡ true) left new
+        (filter-if (λ (x : Named). list_any (is_named x) (map goes es) ≡ true) (λ (x : Named). not (has_number n x)) names
+        (each-so (λ (x : Named). not (has_number n x) ≡ true → list_any (is_named x) (map goes es) ≡ true) names indexed.none_beside
+        (λ (x : Named) (named : list_any (is_named x) es ≡ true) (other : not (has_number n x) ≡ true). any-mapped (is_named x) goes es (keeps x other) named)))
+        (any-there (is_named new) goes es i d lt (ap (is_named new) (is-on r (only-is (is_under token) es i d only)) ∙ names-it (more r)));
+  }
+    where
+      n : ℕ
+      n = token_number token
+
+      m : ℕ
+      m = token_number next
+
+      r : Exchange
+      r = get_or es i d
+
+      new : Named
+      new = record { number = token_number next; opening = opening_of (get_or es i d) }
+
+      left : List Named
+      left = filter (λ (x : Named). not (has_number (token_number token) x)) names
+
+      all : List Named
+      all = left ++ new ∷ []
+
+      lower : AllByRecursion (λ (x : Named). number_in x < number_in new) left
+      lower = all-filter (λ (x : Named). number_in x < number_in new) (λ (x : Named). not (has_number n x)) names (names-below m es names newest indexed.none_beside)
+
+      found : find (has_number n) names ≡ Some (name_of r)
+      found = row-found es names token i d indexed only lt
+
+      found-new : (e : Exchange) → Found names e → is_under token e ≡ true → Found all (goes e)
+      found-new e at is =
+          subst (Found all) (sym (is-on e is))
+          (find-last (has_number m) left new (below-nowhere m left lower) (same-as m m refl)
+          ∙ ap (λ (o : ℕ). Some (record { number = m; opening = o })) (sym (one-opening names n r e found at (under-number token e is))))
+
+      found-old : (e : Exchange) → Found names e → e.opening ≢ r.opening → is_under token e ≡ false → Found all (goes e)
+      found-old e at other is =
+          subst (Found all) (sym (not-on e is))
+          (find-push (has_number (number_of e)) left (name_of e) new
+          (find-filter (has_number (number_of e)) (λ (x : Named). not (has_number n x)) names (name_of e) at
+          (unequal (number_of e) n (λ same. other (one-opening names n r e found at same)))))
+
+      keeps : (x : Named) → not (has_number n x) ≡ true → (e : Exchange) → is_named x e ≡ true → is_named x (goes e) ≡ true
+      keeps x other e is = elim (cases_Bool (is_under token e)) [
+        | inl under ↦ absurd (eqb-not x.number n other (sym (named-number x e is) ∙ under-number token e under))
+        | inr apart ↦ ap (is_named x) (not-on e apart) ∙ is
+      ]
+
+  pub index-go : (es : List Exchange) (names : List Named) (i : ℕ) (d : Exchange) → IsIndexed es names → IsOnlyAt (is_under token) es i → i < length es → IsNewest next es
+      → IsIndexed (map goes es) (named_anew (token_number token) (token_number next) (opening_under (token_number token) names) names)
+  index-go es names i d indexed only lt newest =
+      subst (λ (o : Option ℕ). IsIndexed (map goes es) (named_anew (token_number token) (token_number next) o names))
+      (sym (ap (option_map opening_in) (row-found es names token i d indexed only lt)))
+      (index-anew es names i d indexed only lt newest)
+
+-- One that goes on does so as a step of the core's state says.
+pub went-so : (e : Exchange) (next : List ℕ) (work : Work) (how : Progress) → ((old : Work) → work_by how old ≡ work) → (es : List Exchange)
+    → map (went_on e.token next work) es ≡ map (goes_so e next how) es
+went-so e next work how same [] = refl
+went-so e next work how same (x ∷ es) = by (is_under e.token x) (went-so e next work how same es)
+  where
+    by : (b : Bool) → map (went_on e.token next work) es ≡ map (goes_so e next how) es
+        → (cond b (carried_on next work x) x ∷ map (went_on e.token next work) es) ≡ (cond b (continued next how x) x ∷ map (goes_so e next how) es)
+    by true ih = rw (ih) (ap (λ (w : Work). carried_on next w x ∷ map (goes_so e next how) es) (sym (same x.work)))
+    by false ih = ap (λ (ys : List Exchange). x ∷ ys) ih
 
 -- some of them
 

@@ -1,8 +1,10 @@
 -- The open exchanges, and the index of the tokens of their latest messages.
-use Rattle.std.specs.Prelude.{◌≡◌, ℕ, ◌<◌, Bool, true, ◌&&◌, ◌==◌, nat_lt, List, Option, Some, option_map}
+use Rattle.std.specs.Prelude.{◌≡◌, ℕ, ◌<◌, Bool, true, false, ◌&&◌, ◌==◌, nat_lt, not, List, [], ◌∷◌, ◌++◌, Option, Some, None, option_map, filter, if◌then◌else◌}
 use Rattle.std.specs.List.{AllByRecursion, find, list_any}
 use Rattle.history_laws.specs.Numbering.{token_number}
 use Rattle.exchange_model.specs.declared.kept.Exchange.{Exchange}
+use Rattle.exchange_model.specs.declared.kept.Work.{Work}
+use Rattle.exchange_model.specs.Steps.{is_under}
 use Rattle.exchange_table.specs.declared.index.Named.{Named}
 use Rattle.exchange_table.specs.Places.{RiseBy}
 
@@ -39,6 +41,12 @@ is_named x e = is_opened_at x.opening e && (number_of e == x.number)
 abbrev pub is_opened_in : List Exchange → Named → Bool
 is_opened_in es x = list_any (is_opened_at x.opening) es
 
+-- The name with this number is taken out, and one more of its exchange put last.
+abbrev pub named_anew : ℕ → ℕ → Option ℕ → List Named → List Named
+named_anew n next None names = names
+named_anew n next (Some o) names =
+    filter (λ (x : Named). not (has_number n x)) names ++ record { number = next; opening = o } ∷ []
+
 -- The index has each exchange under its token's number, and nothing else; both are in order.
 pub record IsIndexed (es : List Exchange) (names : List Named) : Type 0 where
   pub openings : RiseBy opening_of es
@@ -47,10 +55,21 @@ pub record IsIndexed (es : List Exchange) (names : List Named) : Type 0 where
       find (has_number (number_of e)) names ≡ Some (name_of e)) es
   pub none_beside : AllByRecursion (λ (x : Named). list_any (is_named x) es ≡ true) names
 
+-- The token was issued after those of all of these.
+abbrev pub IsNewest : List ℕ → List Exchange → Type 0
+IsNewest token es = AllByRecursion (λ (f : Exchange). number_of f < token_number token) es
+
 -- It was opened after all of these, and its token issued after theirs.
 pub record IsLatest (e : Exchange) (es : List Exchange) : Type 0 where
   pub opening : AllByRecursion (λ (f : Exchange). f.opening < e.opening) es
-  pub token : AllByRecursion (λ (f : Exchange). number_of f < number_of e) es
+  pub token : IsNewest e.token es
+
+-- The exchange under this token goes on with its next message under the next one, having come so far.
+abbrev pub carried_on : List ℕ → Work → Exchange → Exchange
+carried_on next work x = record x { token = next; awaits = false; work = work }
+
+abbrev pub went_on : List ℕ → List ℕ → Work → Exchange → Exchange
+went_on token next work x = if is_under token x then carried_on next work x else x
 
 -- the exchanges, and whether one more can be opened without memory
 pub record TableValue : Type 0 where

@@ -1,15 +1,15 @@
 //! The table of open exchanges.
 
-ghost use Rattle.std.specs.Prelude.{◌≡◌, ◌∷◌, ◌++◌, [], Bool, Some, true, false, filter, find, length, map, IfOk, OnErr, OnOk};
+ghost use Rattle.std.specs.Prelude.{◌≡◌, ◌∷◌, ◌++◌, [], Bool, true, false, filter, find, length, map, IfOk, OnErr, OnOk};
 ghost use Rattle.std.specs.Option.{option_copied};
 ghost use Rattle.exchange_model.specs.declared.kept.Exchange.{Exchange as Row};
 ghost use Rattle.exchange_model.specs.Steps.{is_other, is_under, left_by, went_out};
-ghost use Rattle.exchange_table.specs.Tables.{IsIndexed, IsLatest};
+ghost use Rattle.exchange_table.specs.Tables.{IsIndexed, IsLatest, IsNewest, went_on};
 
 use crate::index::{self, Named};
 use crate::{outrunning, rows};
 use coap_codec::Token;
-use exchange_model::Exchange;
+use exchange_model::{Exchange, Work};
 use journal_book::Journal;
 use std::alloc::{AllocError, Global};
 use std::marker::Model;
@@ -100,6 +100,17 @@ impl Exchanges {
         rows::note_sending(&mut self.rows, &self.names, token, number);
     }
 
+    /// The exchange under the token goes on with its next message under the next token, which was
+    /// issued after those of all others, having come so far by its replies. It takes no memory.
+    pub fn go_on(&mut self, token: &Token, next: &Token, work: Work)
+        requires { IsNewest next.now self.old.exchanges }
+        ensures exchanges { self.new.exchanges
+            ≡ map (went_on token.now next.now work) self.old.exchanges }
+        ensures room { self.new.room ≡ self.old.room }
+    {
+        rows::go_on(&mut self.rows, &mut self.names, token, next, work);
+    }
+
     /// An exchange has ended: where it was a write, GETs join those of its place no more.
     pub fn outrun<R: Relation>(&mut self, journal: &Journal<R>, ended: &Exchange)
         ensures exchanges { self.new.exchanges
@@ -111,7 +122,7 @@ impl Exchanges {
 
     /// Takes out the exchange whose latest message goes under the token.
     pub fn remove(&mut self, token: &Token)
-        ensures { self.new.exchanges ≡ filter (is_other (Some token.now)) self.old.exchanges }
+        ensures { self.new.exchanges ≡ filter (is_other token.now) self.old.exchanges }
     {
         rows::remove(&mut self.rows, &mut self.names, token);
     }

@@ -1,9 +1,9 @@
 //! The index of the tokens of latest messages.
 
-ghost use Rattle.std.specs.Prelude.{◌≡◌, ◌<◌, None, IfSome, IfOk, filter, length, nat_lt, not};
+ghost use Rattle.std.specs.Prelude.{◌≡◌, ◌<◌, None, IfSome, IfOk, filter, length, nat_lt, not, vec_capacity, vec_len};
 ghost use Rattle.history_laws.specs.Numbering.{token_number};
 ghost use Rattle.exchange_table.specs.Places.{RiseBy, IsOnlyAt, IsNowhere};
-ghost use Rattle.exchange_table.specs.Tables.{has_number, is_opened_in, number_in, opening_of, opening_under};
+ghost use Rattle.exchange_table.specs.Tables.{has_number, is_opened_in, named_anew, number_in, opening_of, opening_under};
 
 use crate::places::is_opened;
 use coap_codec::Token;
@@ -65,6 +65,24 @@ pub fn drop_name(names: &mut Vec<Named>, number: u32)
 {
     if let Some(place) = name_place(names.as_slice(), number) {
         names.remove(place);
+    }
+}
+
+/// Takes out the name with this number, and puts the next one of its exchange last. It takes no
+/// memory.
+pub fn name_anew(names: &mut Vec<Named>, number: u32, next: u32)
+    requires { RiseBy number_in names.old.items }
+    ensures items { names.new.items
+        ≡ named_anew number next (opening_under number names.old.items) names.old.items }
+    ensures len { vec_len names.new ≡ vec_len names.old }
+    ensures capacity { vec_capacity names.new ≡ vec_capacity names.old }
+{
+    if let Some(place) = name_place(names.as_slice(), number) {
+        let name = names.remove(place);
+        names.push_reserved(Named {
+            number: next,
+            opening: name.opening,
+        });
     }
 }
 

@@ -1,16 +1,16 @@
 //! Rows in the order of their openings, with the index of their tokens.
 
-ghost use Rattle.std.specs.Prelude.{◌≡◌, Some, filter, find, map};
+ghost use Rattle.std.specs.Prelude.{◌≡◌, [], Some, true, filter, find, map, vec_capacity, vec_len};
 ghost use Rattle.std.specs.Option.{option_copied};
 ghost use Rattle.exchange_model.specs.Calls.{read_by};
 ghost use Rattle.exchange_model.specs.Steps.{is_other, is_under, went_out};
 ghost use Rattle.exchange_table.specs.Places.{RiseBy};
-ghost use Rattle.exchange_table.specs.Tables.{IsIndexed, opening_of};
+ghost use Rattle.exchange_table.specs.Tables.{IsIndexed, IsNewest, carried_on, opening_of, went_on};
 
-use crate::index::{Named, drop_name, number_of};
+use crate::index::{Named, drop_name, name_anew, number_of};
 use crate::places::{opening_place, place_under};
 use coap_codec::Token;
-use exchange_model::{Exchange, Reader};
+use exchange_model::{Exchange, Reader, Work};
 
 /// The exchange that the reader waits for.
 pub fn read_by<'a>(rows: &'a [Exchange], reader: &Reader) -> Option<&'a Exchange>
@@ -30,20 +30,53 @@ pub fn row_under<'a>(rows: &'a [Exchange], names: &[Named], token: &Token) -> Op
     Some(&rows[place])
 }
 
+/// The row's latest message went out, in the entry with this number.
+fn go_out(row: &mut Exchange, number: u32)
+    ensures { row.new ≡ record row.old { sending = Some number; awaits = true } }
+{
+    row.sending = Some(number);
+    row.awaits = true;
+}
+
 /// Notes that the message under the token went out, in the entry with this number.
 pub fn note_sending(rows: &mut [Exchange], names: &[Named], token: &Token, number: u32)
     requires { IsIndexed rows.old names.now }
     ensures { rows.new ≡ map (went_out token.now number) rows.old }
 {
     if let Some(place) = place_under(rows, names, token) {
-        rows[place].sending = Some(number);
+        go_out(&mut rows[place], number);
+    }
+}
+
+/// The row goes on with its next message under this token.
+fn continue_row(row: &mut Exchange, next: &Token, work: Work)
+    ensures { row.new ≡ carried_on next.now work row.old }
+{
+    row.token = *next;
+    row.awaits = false;
+    row.work = work;
+}
+
+/// The row under the token goes on with its next message under the next one, which was issued after
+/// those of all others.
+pub fn go_on(rows: &mut [Exchange], names: &mut Vec<Named>, token: &Token, next: &Token, work: Work)
+    requires indexed { IsIndexed rows.old names.old.items }
+    requires newest { IsNewest next.now rows.old }
+    ensures rows { rows.new ≡ map (went_on token.now next.now work) rows.old }
+    ensures names { IsIndexed rows.new names.new.items }
+    ensures len { vec_len names.new ≡ vec_len names.old }
+    ensures capacity { vec_capacity names.new ≡ vec_capacity names.old }
+{
+    if let Some(place) = place_under(rows, names.as_slice(), token) {
+        continue_row(&mut rows[place], next, work);
+        name_anew(names, number_of(token), number_of(next));
     }
 }
 
 /// Takes out the row whose latest message goes under the token.
 pub fn remove(rows: &mut Vec<Exchange>, names: &mut Vec<Named>, token: &Token)
     requires { IsIndexed rows.old.items names.old.items }
-    ensures rows { rows.new.items ≡ filter (is_other (Some token.now)) rows.old.items }
+    ensures rows { rows.new.items ≡ filter (is_other token.now) rows.old.items }
     ensures names { IsIndexed rows.new.items names.new.items }
 {
     if let Some(place) = place_under(rows.as_slice(), names.as_slice(), token) {

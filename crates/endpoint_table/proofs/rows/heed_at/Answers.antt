@@ -1,7 +1,7 @@
 use Rattle.std.proofs.Common.{ℕ, Option, sym, ap, subst, ◌∙◌, map}
 use Rattle.std.proofs.lemmas.List.{get_or-set_same}
 use Rattle.std.proofs.lemmas.Option.{slice_get-get_or}
-use Rattle.message_layer.specs.Prepared.{MayHeed}
+use Rattle.message_layer.specs.Prepared.{MayFollow, MayHeed}
 use Rattle.message_layer.specs.Values.{LinkState}
 use Rattle.exchange_model.specs.State.{with_link}
 use Rattle.endpoint_table.specs.declared.endpoint.Endpoint.{Endpoint}
@@ -20,13 +20,20 @@ heed-requires-clause-ready c =
     (c.requires.ready _
     (slice_get-get_or c.args.rows.now.items c.args.place c.index_mut.result.now c.requires.place))
 
+pub heed-requires-clause-follows : goal.heed-requires-clause-follows
+heed-requires-clause-follows c =
+    subst (λ (v : Endpoint). MayFollow c.args.moment v.link c.args.heeding c.args.more)
+    (sym c.index_mut.ensures.value)
+    (c.requires.follows _
+    (slice_get-get_or c.args.rows.now.items c.args.place c.index_mut.result.now c.requires.place))
+
 pub returns-clause-links : goal.returns-clause-links
 returns-clause-links c = λ p f.
     links-set p c.args.rows.now.items c.args.place c.heed.new.endpoint c.index_mut.result.now f
     (c.heed.ensures.peer ∙ ap (λ (v : Endpoint). v.peer) c.index_mut.ensures.value)
     ∙ ap (λ (u : LinkState). with_link p u (map peer_link c.args.rows.now.items))
     (c.heed.ensures.link
-    ∙ ap (heeds c.args.moment c.args.heeding c.args.over)
+    ∙ ap (heeds c.args.moment c.args.heeding c.args.more c.args.over)
     (ap (λ (v : Endpoint). v.link.state) c.index_mut.ensures.value
     ∙ sym (state-there p c.args.rows.now.items c.args.place _ f
     (slice_get-get_or c.args.rows.now.items c.args.place c.index_mut.result.now

@@ -1,5 +1,5 @@
 use Rattle.std.proofs.Common.{refl, subst, map}
-use Rattle.message_layer.specs.Prepared.{MayHeed}
+use Rattle.message_layer.specs.Prepared.{MayFollow, MayHeed}
 use Rattle.message_layer.specs.Values.{LinkValue}
 use Rattle.endpoint_table.specs.Tables.{peer_link}
 use Rattle.endpoint_table.proofs.Links.{link-there, once-with, unknown}
@@ -11,6 +11,13 @@ heed_at-requires-clause-ready c = λ e k.
     (link-there c.args.peer.now c.self.inside.rows.items c.in-Some.place _ e
     (rw (c.deref.ensures.value) at c.in-Some.ensures.some) k)
     (rw (← c.self.view_is) at c.requires.ready)
+
+pub heed_at-requires-clause-follows : goal.heed_at-requires-clause-follows
+heed_at-requires-clause-follows c = λ e k.
+    subst (λ (l : LinkValue). MayFollow c.args.moment l c.args.heeding c.args.more)
+    (link-there c.args.peer.now c.self.inside.rows.items c.in-Some.place _ e
+    (rw (c.deref.ensures.value) at c.in-Some.ensures.some) k)
+    (rw (← c.self.view_is) at c.requires.follows)
 
 pub invariant_of-self : goal.invariant_of-self
 invariant_of-self c = (

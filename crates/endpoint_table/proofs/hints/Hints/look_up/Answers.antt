@@ -1,5 +1,5 @@
 use Rattle.endpoint_table.proofs.Finding.{first-below, first-once}
-use Rattle.endpoint_table.proofs.hints.Hints.find.Goals as goal
+use Rattle.endpoint_table.proofs.hints.Hints.look_up.Goals as goal
 
 pub returns-then-is_at-clause-below : goal.returns-then-is_at-clause-below
 returns-then-is_at-clause-below c =
