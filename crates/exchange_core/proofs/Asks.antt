@@ -14,7 +14,7 @@ use Rattle.std.specs.List.{find}
 use Rattle.journal_book.specs.Entries.{Written}
 use Rattle.exchange_model.specs.State.{State}
 use Rattle.exchange_model.specs.Resting.{HasConn}
-use Rattle.exchange_model.specs.Calls.{Numbers, has_place, joined, asked}
+use Rattle.exchange_model.specs.Calls.{has_place, joined, asked}
 use Rattle.exchange_model.specs.Keeping.{IsProper}
 use Rattle.exchange_model.specs.Room.{KeptInRoom}
 use Rattle.exchange_model.specs.Entering.{refusal_deeds, entered_all}
@@ -38,7 +38,7 @@ use Rattle.exchange_core.specs.declared.fault.AskFault.TheVariants as F
 use Rattle.exchange_core.specs.Values.{CoreValue, stepped}
 use Rattle.exchange_core.specs.Calls.{AsksSo, IsAsked}
 use Rattle.exchange_model.specs.declared.kept.Exchange.{Exchange}
-use Rattle.exchange_model.specs.Steps.{joins}
+use Rattle.exchange_model.specs.Steps.{joins, Numbers}
 use Rattle.exchange_core.specs.Joining.{MayJoin, is_joined_by, joined_for}
 use Rattle.exchange_core.specs.Recalling.{MayRecall, recalled, served_for}
 use Rattle.exchange_core.specs.Refusing.{MayRefuse, BeginsNothing}

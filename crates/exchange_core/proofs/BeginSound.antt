@@ -2,7 +2,7 @@
 use Rattle.std.proofs.Common.{◌≡◌, ℕ, ◌+◌, ◌<◌, List, [], ◌∷◌, ◌++◌, length, Option, Result, Ok, Err, refl, ap, subst, ◌∙◌, arith}
 use Rattle.std.specs.Prelude.{sum_by}
 use Rattle.uri_map.specs.declared.peer.Peer.{Peer}
-use Rattle.ask_model.specs.Requests.{Sense, request_message}
+use Rattle.ask_model.specs.Requests.{Sense, first_block}
 use Rattle.ask_model.specs.Sizes.{capped}
 use Rattle.ask_model.specs.Views.{Mapping}
 use Rattle.journal_book.specs.Entries.{Asks, Written, entry_size}
@@ -20,13 +20,14 @@ use Rattle.exchange_core.specs.declared.fault.AskFault.{AskFault}
 use Rattle.exchange_core.specs.declared.fault.AskFault.TheVariants as Ask
 use Rattle.exchange_core.specs.declared.state.State.{State as RustState}
 use Rattle.exchange_core.specs.Answering.{Given}
-use Rattle.exchange_core.specs.Beginning.{IsTextFor, asked_method, exchange_by, reader_by, with_exchange, Leaves, MayBegin, IsEntered, IsBegunBy}
+use Rattle.exchange_core.specs.Beginning.{IsTextFor, exchange_by, reader_by, with_exchange, Leaves, MayBegin, IsEntered, IsBegunBy}
 use Rattle.exchange_core.specs.Sending.{sent_first}
 use Rattle.exchange_core.specs.Drafts.{DraftValue, Drafts}
 use Rattle.exchange_core.specs.Sound.{SoundState, IsSound}
 use Rattle.exchange_core.specs.States.{state_of, given_in, outgoing, seen, core_of, with_draft, SeesSame}
 use Rattle.exchange_core.specs.Values.{Outgoing}
 use Rattle.exchange_core.proofs.Begins.{sound-begun, begun-so, sound-sealed, sealed-so}
+use Rattle.exchange_core.proofs.MatterBy.{unnumbered as con-under}
 use Rattle.exchange_core.proofs.Sounding.{place-left}
 
 -- as many tokens were issued as there are entries, at most
@@ -75,14 +76,13 @@ entered-by r t x e n k c v w d old new a num b i =
     (subst (λ (y : Exchange). IsEntered r t y (reader_by c k) v d old new) a
     (subst (λ (j : ℕ). IsEntered r t x (reader_by c j) v d old new) num i))
 
-pub exchange-is : (t : ℕ) (token : List ℕ) (p : Peer) (i j : ℕ) (sent : Option FirstSending) (n k : ℕ) (e : Exchange) → i ≡ j → n ≡ k
+pub exchange-is : (t : ℕ) (token : List ℕ) (p : Peer) (i j : Sense) (sent : Option FirstSending) (n k : ℕ) (e : Exchange) → i ≡ j → n ≡ k
     → e ≡ exchange_by t token p i sent n → e ≡ exchange_by t token p j sent k
 exchange-is t token p i j sent n k e a b is =
-    is ∙ ap (λ (x : ℕ). exchange_by t token p x sent n) a ∙ ap (λ (x : ℕ). exchange_by t token p j sent x) b
+    is ∙ ap (λ (x : Sense). exchange_by t token p x sent n) a ∙ ap (λ (x : ℕ). exchange_by t token p j sent x) b
 
 pub unnumbered : (s : Sense) (token text : List ℕ) → IsTextFor s token text → IsUnnumberedCon token text
-unnumbered s token text x =
-    record { m = request_message x.request 0 token; spelled = x.spelled; con = refl; under = refl; unnumbered = refl }
+unnumbered s token text x = con-under x.request (first_block x.request) token text x.spelled
 
 module _ {R : Type 0} (t word c : ℕ) (m : Mapping) (p : Peer) (token text : List ℕ) (sent : Option FirstSending)
     (d : DraftValue) (old new : RustState R) (s : IsSound old) (b : MayBegin t word c m p token text (state_of old))
@@ -90,7 +90,7 @@ module _ {R : Type 0} (t word c : ℕ) (m : Mapping) (p : Peer) (token text : Li
     (next : IsNext t (link_of (state_of old).links p).last_mid (next_list (waits token text word) (link_of (state_of old).links p).outstanding) sent)
     (none : d.answers ≡ []) where
   abbrev e : Exchange
-  e = exchange_by t token p (asked_method m.sense) sent (length old.journal.entries)
+  e = exchange_by t token p m.sense sent (length old.journal.entries)
 
   abbrev first : Reader
   first = reader_by c (length old.journal.entries)

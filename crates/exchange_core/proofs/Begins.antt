@@ -1,10 +1,10 @@
 -- An ask that begins an exchange leaves what the step says.
 use Rattle.std.proofs.Common.{◌≡◌, ℕ, ◌+◌, ◌≤◌, ◌<◌, Bool, true, false, cond, List, [], ◌∷◌, ◌++◌, length, Option, Some, None, Ok, Err, refl, sym, ap, subst, ◌∙◌, arith, append-nil}
-use Rattle.std.specs.Prelude.{option_map, sum_by, ◌&&◌}
+use Rattle.std.specs.Prelude.{option_map, is_some, sum_by, ◌&&◌}
 use Rattle.std.proofs.lemmas.Bool.{lt-ltb}
 use Rattle.coap_codec.specs.Spelling.{Spells}
 use Rattle.uri_map.specs.declared.peer.Peer.{Peer}
-use Rattle.ask_model.specs.Requests.{CoapRequest, Sense, Requests, Refuses, request_message}
+use Rattle.ask_model.specs.Requests.{CoapRequest, Sense, Requests, Refuses, first_message}
 use Rattle.ask_model.specs.Views.{Ask, Mapping}
 use Rattle.ask_model.specs.Sizes.{capped}
 use Rattle.ask_model.specs.Datagrams.{asked_peer}
@@ -20,15 +20,15 @@ use Rattle.message_layer.specs.Values.{LinkState}
 use Rattle.exchange_model.specs.declared.kept.Exchange.{Exchange}
 use Rattle.exchange_model.specs.declared.kept.Reader.{Reader}
 use Rattle.exchange_model.specs.State.{PeerLink, State, link_of, with_link}
-use Rattle.exchange_model.specs.Steps.{entered, given_out, seals}
-use Rattle.exchange_model.specs.Calls.{Numbers, asked, has_place}
+use Rattle.exchange_model.specs.Steps.{entered, given_out, seals, Numbers}
+use Rattle.exchange_model.specs.Calls.{asked, has_place}
 use Rattle.exchange_model.specs.Keeping.{IsProper, IsNumbered}
 use Rattle.exchange_model.specs.Room.{fits, KeptInRoom}
 use Rattle.exchange_model.specs.Sealing.{asks_in_room}
 use Rattle.exchange_model.specs.Entering.{entered_all, at_once, begin_deeds, begun, begun_exchange, first_deeds, IsDrained}
 use Rattle.exchange_model.proofs.CallerLemmas.{asks-in-room, begins-enter, stays-drained}
 use Rattle.exchange_core.specs.Answering.{Given}
-use Rattle.exchange_core.specs.Beginning.{IsRequest, asked_method, exchange_by, reader_by, with_exchange, numbers_of, MayBegin, IsBegunBy}
+use Rattle.exchange_core.specs.Beginning.{IsRequest, exchange_by, reader_by, with_exchange, numbers_of, MayBegin, IsBegunBy}
 use Rattle.exchange_core.specs.Sending.{IsTimed, sent_first}
 use Rattle.exchange_core.specs.declared.fault.AskFault.TheVariants as Ask
 use Rattle.exchange_core.specs.Calls.{IsSpelled}
@@ -48,9 +48,10 @@ goes-at-once : (t n : ℕ) (p : Peer) (last : Option ℕ) (w : Waiting) (v : Opt
     (sent : Option FirstSending) → IsNext t last (next_list w v) sent
     → (sent_first p sent ≡ first_deeds t p last (at_once w v))
     × (option_map (λ (x : FirstSending). n + 1) sent ≡ option_map (λ (x : Waiting). n + 1) (at_once w v))
+    × (is_some sent ≡ is_some (at_once w v))
 goes-at-once t n p last w None None next = absurd next
-goes-at-once t n p last w None (Some x) next = (rw (next.1, next.0) refl, refl)
-goes-at-once t n p last w (Some o) None next = (refl, refl)
+goes-at-once t n p last w None (Some x) next = (rw (next.1, next.0) refl, refl, refl)
+goes-at-once t n p last w (Some o) None next = (refl, refl, refl)
 goes-at-once t n p last w (Some o) (Some x) next = absurd next
 
 timely-by : (t : ℕ) (last : Option ℕ) (w : Waiting) (v : Option Outstanding)
@@ -123,41 +124,44 @@ module _ (t word c : ℕ) (m : Mapping) (p : Peer) (token text : List ℕ) (S : 
       let same : q.peer ≡ p = peer-same q p (ap asked_peer (sym b.spelled.is) ∙ b.peer) in
       begins-enter t c a q n S
       (record { kept = s.kept.kept; unsealed = b.unsealed; later = b.later }) s.drained
-      (record { spelled = b.spelled.spelled; token_size = b.worded.token_size; number = b.worded.number })
+      (record { short = b.spelled.body; spelled = b.spelled.spelled; token_size = b.worded.token_size; number = b.worded.number })
       b.spelled.is (alone-by t m.sense q S b.spelled.is b.unserved b.alone) (subst (λ (z : Peer). has_place t z S ≡ true) (sym same) b.place)
 
   in-room : (bytes room : ℕ) (gs : List Given) → SoundState S bytes room gs
       → MayBegin t word c m p token text S → KeptInRoom (asks_in_room t c a n S)
   in-room bytes room gs s b =
       let q = b.spelled.request in
-      let numbered : IsNumbered q n S = record { spelled = b.spelled.spelled; token_size = b.worded.token_size; number = b.worded.number } in
+      let numbered : IsNumbered q n S = record { short = b.spelled.body; spelled = b.spelled.spelled; token_size = b.worded.token_size; number = b.worded.number } in
       asks-in-room t c a n S s.kept b.later b.idle (subst IsProper (sym b.spelled.is) tt)
       (λ r e j h. subst (λ (z : CoapRequest). IsNumbered z n S) (request-of q r (sym b.spelled.is ∙ e)) numbered)
       (record { request = b.small; message = b.spelled.short })
 
   spelled-so : MayBegin t word c m p token text S → IsSpelled t a n S
-  spelled-so b = λ r e j h. subst (λ (z : CoapRequest). Spells (request_message z 0 token) text) (request-of b.spelled.request r (sym b.spelled.is ∙ e)) b.spelled.spelled
+  spelled-so b = λ r e j h. subst (λ (z : CoapRequest). Spells (first_message z 0 token) text) (request-of b.spelled.request r (sym b.spelled.is ∙ e)) b.spelled.spelled
 
   module _ (sent : Option FirstSending) (d : DraftValue) where
     abbrev ds : List Deed
     ds = Asks c a ∷ sent_first p sent
 
     abbrev S1 : State
-    S1 = with_exchange t (exchange_by t token p (asked_method m.sense) sent (length S.entries)) (reader_by c (length S.entries)) w (with_draft t d S)
+    S1 = with_exchange t (exchange_by t token p m.sense sent (length S.entries)) (reader_by c (length S.entries)) w (with_draft t d S)
 
     begun-at : (q : CoapRequest) → Drafts t S (Asks c a ∷ sent_first q.peer sent) d
         → IsNext t (link_of S.links q.peer).last_mid (next_list w (link_of S.links q.peer).outstanding) sent
-        → with_exchange t (exchange_by t token q.peer q.method sent (length S.entries)) (reader_by c (length S.entries)) w (with_draft t d S) ≡ begun t c a q n S
+        → with_exchange t (exchange_by t token q.peer (Requests q) sent (length S.entries)) (reader_by c (length S.entries)) w (with_draft t d S) ≡ begun t c a q n S
     begun-at q h next =
         let s = link_of S.links q.peer in
         let both = goes-at-once t (length S.entries) q.peer s.last_mid w s.outstanding sent next in
         let links = with_link q.peer (given_out (submitted t w s)) S.links in
         let draft : with_draft t d S ≡ entered_all t (begin_deeds t c a q n S) S =
         with-draft t S (Asks c a) (sent_first q.peer sent) d h ∙ ap (λ (xs : List Deed). entered_all t (Asks c a ∷ xs) S) both.0 in
-        let e = exchange_by t token q.peer q.method sent (length S.entries) in
+        let e = exchange_by t token q.peer (Requests q) sent (length S.entries) in
         let r = reader_by c (length S.entries) in
         let rs : (entered_all t (begin_deeds t c a q n S) S).readers ≡ S.readers = first-readers t q.peer s.last_mid (at_once w s.outstanding) (entered t (Asks c a) S) in
-        let ex : e ≡ begun_exchange t q n S = ap (λ (v : Option ℕ). record e { sending = v }) both.1 in
+        let out = at_once w s.outstanding in
+        let ex : e ≡ begun_exchange t q n S =
+        ap (λ (v : Option ℕ). record e { sending = v }) both.1
+        ∙ ap (λ (b : Bool). record e { sending = option_map (λ (x : Waiting). length S.entries + 1) out; awaits = b }) both.2 in
         ap (λ (U : State). record U { issued = S.issued + 1; exchanges = S.exchanges ++ e ∷ []; readers = U.readers ++ r ∷ []; links = links }) draft
         ∙ ap (λ (qs : List Reader). record (entered_all t (begin_deeds t c a q n S) S) { issued = S.issued + 1; exchanges = S.exchanges ++ e ∷ []; readers = qs ++ r ∷ []; links = links }) rs
         ∙ ap (λ (x : Exchange). record (entered_all t (begin_deeds t c a q n S) S) { issued = S.issued + 1; exchanges = S.exchanges ++ x ∷ []; readers = S.readers ++ r ∷ []; links = links }) ex
@@ -168,14 +172,14 @@ module _ (t word c : ℕ) (m : Mapping) (p : Peer) (token text : List ℕ) (S : 
     begun-is b h next =
         let q = b.spelled.request in
         let same : q.peer ≡ p = peer-same q p (ap asked_peer (sym b.spelled.is) ∙ b.peer) in
-        let method : q.method ≡ asked_method m.sense = sym (ap asked_method b.spelled.is) in
+        let sense : Requests q ≡ m.sense = sym b.spelled.is in
         subst (λ (z : Peer). Drafts t S (Asks c a ∷ sent_first z sent) d
         → IsNext t (link_of S.links z).last_mid (next_list w (link_of S.links z).outstanding) sent
-        → with_exchange t (exchange_by t token z (asked_method m.sense) sent (length S.entries)) (reader_by c (length S.entries)) w (with_draft t d S) ≡ begun t c a q n S)
-        same (subst (λ (k : ℕ). Drafts t S (Asks c a ∷ sent_first q.peer sent) d
+        → with_exchange t (exchange_by t token z m.sense sent (length S.entries)) (reader_by c (length S.entries)) w (with_draft t d S) ≡ begun t c a q n S)
+        same (subst (λ (k : Sense). Drafts t S (Asks c a ∷ sent_first q.peer sent) d
         → IsNext t (link_of S.links q.peer).last_mid (next_list w (link_of S.links q.peer).outstanding) sent
         → with_exchange t (exchange_by t token q.peer k sent (length S.entries)) (reader_by c (length S.entries)) w (with_draft t d S) ≡ begun t c a q n S)
-        method (begun-at q)) h next
+        sense (begun-at q)) h next
 
     module _ (bytes room : ℕ) (gs : List Given) (os : List Outgoing) (s : SoundState S bytes room gs)
         (b : MayBegin t word c m p token text S) (h : Drafts t S ds d)

@@ -13,7 +13,7 @@ use Rattle.exchange_core.specs.declared.ending.Telling.{Telling}
 use Rattle.exchange_core.specs.Values.{written}
 use Rattle.exchange_core.specs.Answering.{Given, IsFound, CountsFrom, IsGiven}
 use Rattle.exchange_core.specs.Drafts.{DraftValue, Drafts, IsDrafted}
-use Rattle.exchange_core.specs.Ending.{IsTold, IsAnswerTo, deed_of, given_to}
+use Rattle.exchange_core.specs.Ending.{IsTold, IsAnswerTo, deed_of, first_moment, given_to}
 use Rattle.exchange_core.proofs.Stepping.{found-stays, counts-stay, given-stay}
 
 -- The entries after one more.
@@ -44,7 +44,7 @@ told-drafted t S ds x g d e h told is more answers = record {
 }
   where
     made : Given
-    made = given_to t d.next x is.mapping
+    made = given_to S.entries t d.next x is.mapping
 
     w : Deed
     w = deed_of x
@@ -83,8 +83,8 @@ told-drafted t S ds x g d e h told is more answers = record {
           (sym (ap (λ (v : Ask). v.sense) ask ∙ told.asked.sense))
           (found-stays (S.entries ++ d.entries) (written t w ∷ []) x.finding.told
           x.finding.grounds (Requests told.asked.request) told.found);
-      counts = counts-stay (S.entries ++ d.entries) (written t w ∷ []) x.finding.grounds t t
-          told.counts;
+      counts = counts-stay (S.entries ++ d.entries) (written t w ∷ []) x.finding.grounds t
+          (first_moment S.entries t x.finding.grounds) told.counts;
     }
 
 -- What is told is so still where more is drafted.
@@ -96,8 +96,9 @@ told-stays h more ws t x a = record {
       (Requests a.asked.request)) (append_assoc h more ws)
       (found-stays (h ++ more) ws x.finding.told x.finding.grounds (Requests a.asked.request)
       a.found);
-  counts = subst (λ (es : List Written). CountsFrom es x.finding.grounds t t)
-      (append_assoc h more ws) (counts-stay (h ++ more) ws x.finding.grounds t t a.counts);
+  counts = subst (λ (es : List Written). CountsFrom es x.finding.grounds t
+      (first_moment h t x.finding.grounds)) (append_assoc h more ws)
+      (counts-stay (h ++ more) ws x.finding.grounds t (first_moment h t x.finding.grounds) a.counts);
 }
 
 pub all-told-still : (h more ws : List Written) (t : ℕ) (xs : List Telling)

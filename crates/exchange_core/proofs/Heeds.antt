@@ -1,226 +1,231 @@
 -- What is drafted and changed for a datagram is what the step leaves.
-use Rattle.std.proofs.Common.{◌≡◌, ℕ, suc, ◌+◌, ◌<◌, true, false, List, [], ◌∷◌, ◌++◌, length, map, get_or, Option, Some, None, Result, Ok, Err, refl, sym, ap, subst, ◌∙◌, append_assoc}
-use Rattle.std.specs.Prelude.{filter, option_to_list}
+use Rattle.std.proofs.Common.{◌≡◌, ℕ, suc, ◌+◌, ◌<◌, ◌≤◌, Bool, true, false, cond, List, [], ◌∷◌, ◌++◌, length, map, get_or, Option, Some, None, Result, Ok, Err, refl, sym, ap, subst, ◌∙◌, append_assoc}
+use Rattle.std.specs.Prelude.{is_some}
 use Rattle.std.specs.List.{AllByRecursion}
 use Rattle.coap_codec.specs.Spelling.{Content, Spells}
 use Rattle.coap_codec.specs.Reading.{message_at}
 use Rattle.coap_codec.specs.declared.fault.CodecFault.{CodecFault}
 use Rattle.coap_codec.proofs.Takes.{message_takes}
-use Rattle.resp_cache.specs.declared.pair.Pair.{Pair}
 use Rattle.uri_map.specs.declared.peer.Peer.{Peer}
-use Rattle.ask_model.specs.declared.cause.Cause.TheVariants.{Reset}
-use Rattle.journal_book.specs.Entries.{Grounds, Fault, Deed, Hears}
-use Rattle.message_layer.specs.Values.{LinkState, LinkValue, Told, told, no_news, response}
-use Rattle.message_layer.specs.Hearing.{says, replies, listed, reset_for, verdict_of}
-use Rattle.message_layer.specs.Prepared.{MayHeed, IsHearing, IsRead, is_lost, unread_verdict, unread_mid}
+use Rattle.journal_book.specs.Entries.{Deed, Hears}
+use Rattle.message_layer.specs.Values.{LinkState, LinkValue, Told, told}
+use Rattle.message_layer.specs.Hearing.{applied, says, replies, listed, reset_for, verdict_of}
+use Rattle.message_layer.specs.Prepared.{MayFollow, MayHeed, IsHearing, IsRead, followed, is_lost, unread_verdict, unread_mid}
+use Rattle.message_layer.specs.declared.prepared.FirstSending.{FirstSending}
 use Rattle.message_layer.specs.declared.prepared.Heeding.{Heeding}
 use Rattle.message_layer.specs.declared.prepared.Hearing.{Hearing}
+use Rattle.message_layer.specs.declared.prepared.Submission.{Submission}
+use Rattle.message_layer.specs.declared.state.Waiting.{Waiting}
 use Rattle.message_layer.specs.declared.verdict.News.{News}
 use Rattle.message_layer.specs.declared.verdict.News.TheVariants as N
 use Rattle.message_layer.specs.declared.verdict.Verdict.{Verdict}
-use Rattle.history_links.specs.Steps.{ended_token}
+use Rattle.history_laws.specs.Progress.{Progress}
 use Rattle.exchange_model.specs.declared.kept.Exchange.{Exchange}
-use Rattle.exchange_model.specs.declared.kept.Reader.{Reader}
-use Rattle.exchange_model.specs.State.{State, link_of, with_link}
-use Rattle.exchange_model.specs.Steps.{content_at, is_other, ended_in, left_by, method_in, settled, whole_by}
-use Rattle.exchange_model.specs.Calls.{Outcome, grounds_by, heard, told_for}
-use Rattle.exchange_model.specs.Entering.{entered_all, first_deeds, in_turn, going_as, sent_as, answer_of, confirm, heeded, garbled, IsMid, Comes}
+use Rattle.exchange_model.specs.State.{PeerLink, State, link_of, with_link}
+use Rattle.exchange_model.specs.Steps.{Matter, Nothing, Goes, Over, Numbers, exchanges_by, has_next_place, issued_by, matter_of, more_by, pieces_by, store_by}
+use Rattle.exchange_model.specs.Calls.{goes_as, goes_by, goes_with, heard, repeats, told_for}
+use Rattle.exchange_model.specs.Entering.{Effect, awaits_no_more, entered_all, first_deeds, going_as, sent_as, answer_of, confirm, heeded, next_out, taken_with, garbled, IsMid, Comes}
+use Rattle.exchange_model.specs.Keeping.{MayGoOn}
+use Rattle.exchange_model.specs.Steps.{given_out}
 use Rattle.exchange_model.proofs.CallerLemmas.{garbled-enters, is-bytes, message-enters}
 use Rattle.endpoint_table.specs.Tables.{heeds}
-use Rattle.exchange_core.specs.Hearing.{found_in, told_by, note_next, over_in, put_heard, link_deeds, hearing_deeds, exchanges_after, first_number, hearing_state, stored_after}
-use Rattle.exchange_core.specs.Ending.{deed_of}
+use Rattle.history_laws.proofs.CallerLemmas.{some-is}
+use Rattle.exchange_core.specs.declared.matter.Matter.{Matter as RustMatter}
+use Rattle.exchange_core.specs.declared.matter.Matter.TheVariants as M
+use Rattle.exchange_core.specs.Hearing.{first_number, hearing_deeds, hearing_state, note_next, over_in}
+use Rattle.exchange_core.specs.Matters.{IsMatter, IsPrepared, answer_in, matter_for, matter_with, more_in, next_in}
 use Rattle.exchange_core.specs.Sending.{sent_first}
-use Rattle.exchange_core.specs.Storing.{whole_found}
-use Rattle.exchange_core.proofs.Settling.{stored-none, stored-same}
-use Rattle.exchange_core.proofs.Heard.{TellsSo, told-same, next-deeds, next-noted}
+use Rattle.exchange_core.proofs.Heard.{IsFirstOf, next-deeds, next-is, next-noted, waiting_in}
+use Rattle.exchange_core.proofs.MatterBy.{matter-told}
 
 -- what the link and the tables say is what the step says
 
-module _ (t : ℕ) (p : Peer) (d : List ℕ) (S : State) (link : LinkValue) (x : Heeding) where
-  abbrev over : Option (List ℕ)
-  over = over_in x
+more-same : (n : ℕ) (new : Numbers) (k : RustMatter) (x : Matter) → IsMatter n new k x → more_by new x ≡ waiting_in (more_in k)
+more-same n new M.Nothing x i = ap (more_by new) i
+more-same n new (M.Goes g) x i = ap (more_by new) i.1 ∙ ap Some (sym i.4)
+more-same n new (M.Over e ended) x i = ap (more_by new) i.1
 
-  abbrev ended : Option Exchange
-  ended = ended_in over S.exchanges
+followed-same : (t : ℕ) (more : Option Submission) (s : LinkState) → followed t more s ≡ taken_with t (waiting_in more) s
+followed-same t None s = refl
+followed-same t (Some y) s = refl
 
+module _ (t : ℕ) (p : Peer) (d : List ℕ) (S : State) (link : LinkValue) (x : Heeding) (k : RustMatter) (new : Numbers) (matter : Matter) where
   abbrev n : ℕ
   n = length S.entries
 
-  pub heeded-so : (told : Told) (o : Outcome) → MayHeed t link x → link.state ≡ link_of S.links p
-      → TellsSo (told_by ended (found_in n ended told) S.readers) ended o.grounds S.readers
-      → settled S.entries ended (content_at t n o.whole) S.store ≡ stored_after x (put_heard t x told S) S
-      → heeded t p d x.mid x.token x.verdict o S ≡ hearing_state t p d x told S
-  heeded-so told o h at same stores =
-      let s = link_of S.links p in
-      let tellings = map answer_of (told_for ended o.grounds S.readers) in
-      let next : sent_first p x.next ≡ first_deeds t p s.last_mid
-      (in_turn x.verdict.ends s.waiting) =
-      next-deeds t p link x h ∙ ap (λ (u : LinkState). first_deeds t p u.last_mid
-      (in_turn x.verdict.ends u.waiting)) at in
-      let noted : (k : ℕ) (es : List Exchange) → note_next k x.next es
-      ≡ sent_as (going_as k (in_turn x.verdict.ends s.waiting)) es =
-      λ k es. next-noted t k link x es h ∙ ap (λ (u : LinkState). sent_as
-      (going_as k (in_turn x.verdict.ends u.waiting)) es) at in
-      let deeds : hearing_deeds p d x told S
-      ≡ Hears p d ∷ (map (confirm p) (replies x.mid x.verdict.reply)
-      ++ (first_deeds t p s.last_mid (in_turn x.verdict.ends s.waiting) ++ tellings)) =
-      ap (λ (ds : List Deed). link_deeds p d x ++ ds) same
-      ∙ (ap (λ (ds : List Deed). Hears p d ∷ ds)
-      (append_assoc (map (confirm p) (listed x.reply)) (sent_first p x.next)
-      tellings)
-      ∙ (ap (λ (bs : List (List ℕ)). Hears p d ∷
-      (map (confirm p) bs ++ (sent_first p x.next ++ tellings))) h.reply
-      ∙ ap (λ (ds : List Deed). Hears p d ∷ (map (confirm p) (replies x.mid x.verdict.reply) ++
-      (ds ++ tellings))) next)) in
-      let number : first_number n x ≡ n + 1 + length (replies x.mid x.verdict.reply) =
-      ap (λ (bs : List (List ℕ)). n + 1 + length bs) h.reply in
-      let es = left_by S.entries (option_to_list ended) (filter (is_other over) S.exchanges) in
-      let exchanges : exchanges_after S.entries x S.exchanges
-      ≡ sent_as (going_as (n + 1 + length (replies x.mid x.verdict.reply))
-      (in_turn x.verdict.ends s.waiting)) es =
-      ap (λ (k : ℕ). note_next k x.next es) number
-      ∙ noted (n + 1 + length (replies x.mid x.verdict.reply)) es in
-      let all : List Deed = Hears p d ∷ (map (confirm p) (replies x.mid x.verdict.reply)
-      ++ (first_deeds t p s.last_mid (in_turn x.verdict.ends s.waiting) ++ tellings)) in
-      sym (ap (λ (ds : List Deed). record (entered_all t ds S) {
-        exchanges = exchanges_after S.entries x S.exchanges;
-        store = stored_after x (put_heard t x told S) S;
-        links = with_link p
-            (heeds t x over s) S.links;
-      }) deeds
-      ∙ ap (λ (fs : List Exchange). record (entered_all t all S) {
-        exchanges = fs;
-        store = stored_after x (put_heard t x told S) S;
-        links = with_link p (heeds t x over s) S.links;
-      }) exchanges
-      ∙ ap (λ (ps : List Pair). record (entered_all t all S) {
-        exchanges = sent_as (going_as (n + 1 + length (replies x.mid x.verdict.reply))
-            (in_turn x.verdict.ends s.waiting)) es;
-        store = ps;
-        links = with_link p (heeds t x over s) S.links;
-      }) (sym stores))
+  abbrev s : LinkState
+  s = link_of S.links p
 
-not-lost : (v : News) → is_lost v ≡ false → v ≡ N.Lost → ⊥
+  abbrev tellings : List Deed
+  tellings = map answer_of (told_for n matter S.readers)
+
+  abbrev answered : ℕ
+  answered = length (replies x.mid x.verdict.reply)
+
+  abbrev es : List Exchange
+  es = exchanges_by S.entries new.token matter S.exchanges
+
+  -- the state, where these are the deeds, the exchanges and the links
+  abbrev left : List Deed → List Exchange → List PeerLink → State
+  left ds fs ls = record (entered_all t ds S) {
+    issued = issued_by matter S.issued;
+    exchanges = fs;
+    pieces = pieces_by n matter S.pieces;
+    store = store_by S.entries t matter S.store;
+    links = ls;
+  }
+
+  abbrev deeds_with : Option Waiting → List Deed
+  deeds_with w =
+      Hears p d ∷ (map (confirm p) (replies x.mid x.verdict.reply)
+      ++ (first_deeds t p s.last_mid (next_out x.verdict s w) ++ tellings))
+
+  abbrev exchanges_with : Option Waiting → List Exchange
+  exchanges_with w = sent_as (going_as (n + 1 + answered) (next_out x.verdict s w)) es
+
+  abbrev links_with : Option Waiting → List PeerLink
+  links_with w =
+      with_link p (given_out (awaits_no_more (over_in x) (taken_with t w (applied t x.mid x.token x.verdict s)))) S.links
+
+  abbrev left_with : Option Waiting → State
+  left_with w = left (deeds_with w) (exchanges_with w) (links_with w)
+
+  pub heeded-so : MayHeed t link x → MayFollow t link x (more_in k) → link.state ≡ link_of S.links p
+      → (s.outstanding ≡ None → s.waiting ≡ []) → IsMatter n new k matter
+      → heeded t p d x.mid x.token x.verdict (record { matter = matter; numbers = new }) S ≡ hearing_state t p d x k matter new S
+  heeded-so h f at rests i =
+      let w : Option Waiting = waiting_in (more_in k) in
+      let v : Option FirstSending = next_in x k in
+      let first : IsFirstOf t s.last_mid (next_out x.verdict s w) v =
+      subst (λ (u : LinkState). IsFirstOf t u.last_mid (next_out x.verdict u w) v) at
+      (next-is t link x (more_in k) h f (subst (λ (u : LinkState). u.outstanding ≡ None → u.waiting ≡ []) (sym at) rests)) in
+      let deeds : hearing_deeds p d x v matter S ≡ deeds_with w =
+      ap (λ (ds : List Deed). Hears p d ∷ ds)
+      (append_assoc (map (confirm p) (listed x.reply)) (sent_first p v) tellings)
+      ∙ (ap (λ (bs : List (List ℕ)). Hears p d ∷ (map (confirm p) bs ++ (sent_first p v ++ tellings))) h.reply
+      ∙ ap (λ (ds : List Deed). Hears p d ∷ (map (confirm p) (replies x.mid x.verdict.reply) ++ (ds ++ tellings)))
+      (next-deeds t p s.last_mid (next_out x.verdict s w) v first)) in
+      let number : first_number n x ≡ n + 1 + answered = ap (λ (bs : List (List ℕ)). n + 1 + length bs) h.reply in
+      let exchanges : note_next (first_number n x) v es ≡ exchanges_with w =
+      ap (λ (j : ℕ). note_next j v es) number ∙ next-noted t (n + 1 + answered) s.last_mid (next_out x.verdict s w) v es first in
+      let links : with_link p (heeds t x (more_in k) (over_in x) s) S.links ≡ links_with w =
+      ap (λ (u : LinkState). with_link p (given_out (awaits_no_more (over_in x) u)) S.links) (followed-same t (more_in k) (applied t x.mid x.token x.verdict s)) in
+      ap left_with (more-same n new k matter i)
+      ∙ sym (ap (λ (ds : List Deed). left ds (note_next (first_number n x) v es) (with_link p (heeds t x (more_in k) (over_in x) s) S.links)) deeds
+      ∙ (ap (λ (fs : List Exchange). left (deeds_with w) fs (with_link p (heeds t x (more_in k) (over_in x) s) S.links)) exchanges
+      ∙ ap (λ (ls : List PeerLink). left (deeds_with w) (exchanges_with w) ls) links))
+
+-- what a message is, and what is none
+
+pub not-lost : (v : News) → is_lost v ≡ false → v ≡ N.Lost → ⊥
 not-lost v e f = true-false (sym (ap is_lost f) ∙ e)
   where
     true-false : true ≡ false → ⊥
     true-false k = cc
 
-message-is : (t : ℕ) (p : Peer) (d : List ℕ) (S : State) (m : Content) (x : Heeding)
-    (g : Verdict → List ℕ → Outcome)
-    → x.mid ≡ m.mid → x.token ≡ m.token → x.verdict ≡ verdict_of t (link_of S.links p) m
-    → heeded t p d m.mid m.token (verdict_of t (link_of S.links p) m)
-    (g (verdict_of t (link_of S.links p) m) m.token) S
-    ≡ heeded t p d x.mid x.token x.verdict (g x.verdict x.token) S
-message-is t p d S m x g mid token verdict =
-    sym (ap (λ (k : ℕ). heeded t p d k x.token x.verdict (g x.verdict x.token) S) mid
-    ∙ (ap (λ (k : List ℕ). heeded t p d m.mid k x.verdict (g x.verdict k) S) token
-    ∙ ap (λ (v : Verdict). heeded t p d m.mid m.token v (g v m.token) S) verdict))
+-- It is to the exchanges what the message is.
+pub matter-is : (t : ℕ) (p : Peer) (d : List ℕ) (S : State) (link : LinkValue) (h : Hearing) (m : Content) → link.state ≡ link_of S.links p → IsRead t d link.state (Ok m) h
+    → matter_for t p h.heeding (told h.up) S ≡ matter_of t p m (verdict_of t (link_of S.links p) m) S
+matter-is t p d S link h m at read =
+    let x = h.heeding in
+    let b : Bool = has_next_place t p x.verdict S in
+    ap (λ (u : Told). matter_for t p x u S) read.up
+    ∙ (ap (λ (token : List ℕ). matter_with b (answer_in (says x.verdict.news m) token S)) read.token
+    ∙ (sym (matter-told x.verdict.news m b S)
+    ∙ ap (λ (v : Verdict). matter_of t p m v S) (read.verdict ∙ ap (λ (u : LinkState). verdict_of t u m) at)))
 
-none-is : (t : ℕ) (p : Peer) (d : List ℕ) (S : State) (k : Option ℕ) (x : Heeding) (g : Outcome)
-    → x.verdict ≡ unread_verdict k → heeded t p d x.mid x.token (garbled k) g S
-    ≡ heeded t p d x.mid x.token x.verdict g S
-none-is t p d S None x g e = ap (λ (v : Verdict). heeded t p d x.mid x.token v g S) (sym e)
-none-is t p d S (Some mid) x g e = ap (λ (v : Verdict). heeded t p d x.mid x.token v g S) (sym e)
+pub nothing-is : (t : ℕ) (p : Peer) (d : List ℕ) (S : State) (s : LinkState) (h : Hearing) (e : CodecFault) → IsRead t d s (Err e) h
+    → matter_for t p h.heeding (told h.up) S ≡ Nothing
+nothing-is t p d S s h e read = ap (λ (u : Told). matter_for t p h.heeding u S) read.up
+
+message-is : (t : ℕ) (p : Peer) (d : List ℕ) (S : State) (m : Content) (x : Heeding) (f : Effect)
+    → x.mid ≡ m.mid → x.token ≡ m.token → x.verdict ≡ verdict_of t (link_of S.links p) m
+    → heeded t p d m.mid m.token (verdict_of t (link_of S.links p) m) f S ≡ heeded t p d x.mid x.token x.verdict f S
+message-is t p d S m x f mid token verdict =
+    sym (ap (λ (k : ℕ). heeded t p d k x.token x.verdict f S) mid
+    ∙ (ap (λ (k : List ℕ). heeded t p d m.mid k x.verdict f S) token
+    ∙ ap (λ (v : Verdict). heeded t p d m.mid m.token v f S) verdict))
+
+none-is : (t : ℕ) (p : Peer) (d : List ℕ) (S : State) (k : Option ℕ) (x : Heeding) (f : Effect)
+    → x.verdict ≡ unread_verdict k → heeded t p d x.mid x.token (garbled k) f S ≡ heeded t p d x.mid x.token x.verdict f S
+none-is t p d S None x f e = ap (λ (v : Verdict). heeded t p d x.mid x.token v f S) (sym e)
+none-is t p d S (Some mid) x f e = ap (λ (v : Verdict). heeded t p d x.mid x.token v f S) (sym e)
 
 mid-is : (k : Option ℕ) (mid : ℕ) → mid ≡ unread_mid k → IsMid k mid
 mid-is None mid e = tt
 mid-is (Some n) mid e = e
 
-quiet : (k : Option ℕ) → (unread_verdict k).news ≡ N.Quiet
-quiet None = refl
-quiet (Some mid) = refl
+-- The exchange goes on by it that the message answers.
 
-nothing-told : (v : News) (token : List ℕ) (n : ℕ) (told : Told) (g : Grounds)
-    (es : List Exchange) (rs : List Reader) → v ≡ N.Quiet
-    → TellsSo (told_by (ended_in (ended_token v token) es)
-    (found_in n (ended_in (ended_token v token) es) told) rs) (ended_in (ended_token v token) es) g rs
-nothing-told v token n told g es rs e = rw (e) refl
+goes-is : (x : Matter) (e : Exchange) (u : Progress) → goes_with x ≡ Some (e, u) → x ≡ Goes e u
+goes-is Nothing e u h = absurd cc
+goes-is (Over f how) e u h = absurd cc
+goes-is (Goes f v) e u h =
+    let same = some-is (f, v) (e, u) h in
+    ap (λ (y : Exchange × Progress). Goes y.0 y.1) same
 
--- The step leaves what was drafted, and the tables after it.
-pub record HeardSo (t : ℕ) (p : Peer) (d : List ℕ) (x : Heeding) (told : Told)
-    (S : State) : Type 0 where
-  pub outcome : Outcome
-  pub is : heard t p d S ≡ heeded t p d x.mid x.token x.verdict outcome S
-  pub so : heeded t p d x.mid x.token x.verdict outcome S ≡ hearing_state t p d x told S
+new-goes : (b : Bool) (x : Matter) (e : Exchange) (u : Progress) → cond b None (goes_with x) ≡ Some (e, u) → x ≡ Goes e u
+new-goes true x e u h = absurd cc
+new-goes false x e u h = goes-is x e u h
 
-pub heard-so : (t : ℕ) (p : Peer) (d : List ℕ) (S : State) (link : LinkValue) (h : Hearing)
-    → Comes t p d S → IsHearing t d link h → link.state ≡ link_of S.links p
-    → HeardSo t p d h.heeding (told h.up) S
-heard-so t p d S link h come i at = by (message_at d) refl i.is
+pub goes-matter : (t : ℕ) (p : Peer) (d : List ℕ) (S : State) (link : LinkValue) (h : Hearing) → IsHearing t d link h → link.state ≡ link_of S.links p
+    → (e : Exchange) (u : Progress) → goes_by t p d S ≡ Some (e, u) → matter_for t p h.heeding (told h.up) S ≡ Goes e u
+goes-matter t p d S link h i at e u goes = by (message_at d) i.is goes
   where
-    x : Heeding
-    x = h.heeding
+    by : (r : Result Content CodecFault) → IsRead t d link.state r h → goes_as t p r S ≡ Some (e, u) → matter_for t p h.heeding (told h.up) S ≡ Goes e u
+    by (Err f) read g = absurd cc
+    by (Ok m) read g = matter-is t p d S link h m at read ∙ new-goes (repeats t (link_of S.links p) m) _ e u g
 
-    n : ℕ
-    n = length S.entries
+some-of : (v : Option (Exchange × Progress)) → is_some v ≡ true → (y : Exchange × Progress) × (v ≡ Some y)
+some-of None e = absurd cc
+some-of (Some y) e = (y, refl)
 
-    over : Option (List ℕ)
-    over = over_in x
+module _ (t word : ℕ) (p : Peer) (d : List ℕ) (S : State) (link : LinkValue) (h : Hearing) (k : RustMatter) (i : IsHearing t d link h) (at : link.state ≡ link_of S.links p)
+    (made : IsPrepared t word link h.heeding S k (matter_for t p h.heeding (told h.up) S)) where
+  pub goes-on : MayGoOn t p d made.numbers S
+  goes-on e u goes = made.continued e u (goes-matter t p d S link h i at e u goes)
 
-    by : (r : Result Content CodecFault) → message_at d ≡ r → IsRead t d link.state r h
-        → HeardSo t p d x (told h.up) S
-    by (Ok m) is read =
-        let verdict : x.verdict ≡ verdict_of t (link_of S.links p) m =
-        read.verdict ∙ ap (λ (u : LinkState). verdict_of t u m) at in
-        let ended : Option Exchange = ended_in over S.exchanges in
-        let g : Verdict → List ℕ → Outcome = λ v token.
-        let k = method_in (ended_in (ended_token v.news token) S.exchanges) in
-        record { grounds = grounds_by v.news n k m; whole = whole_by v.news k m } in
-        let same : TellsSo (told_by ended (found_in n ended (told h.up)) S.readers) ended
-        (g x.verdict x.token).grounds S.readers =
-        ap (λ (u : Told). map deed_of (told_by ended (found_in n ended u) S.readers)) read.up
-        ∙ told-same n m x.verdict.news x.token S.exchanges S.readers in
-        let stores : settled S.entries ended (content_at t n (g x.verdict x.token).whole) S.store
-        ≡ stored_after x (put_heard t x (told h.up) S) S =
-        stored-same t n S.entries x.verdict.news x.token S.exchanges m S.store
-        ∙ ap (λ (u : Told). stored_after x (put_heard t x u S) S) (sym read.up) in
-        record {
-          outcome = g x.verdict x.token;
-          is =
-              message-enters t p d m S come is
-              (λ e. not-lost x.verdict.news read.kept (ap (λ (v : Verdict). v.news) verdict ∙ e))
-              ∙ message-is t p d S m x g read.mid read.token verdict;
-          so = heeded-so t p d S link x (told h.up) (g x.verdict x.token) i.ready at same stores;
-        }
-    by (Err e) is read =
-        let g : Outcome = record { grounds = Fault Reset 0; whole = None } in
-        let silent : x.verdict.news ≡ N.Quiet =
-        ap (λ (v : Verdict). v.news) read.verdict ∙ quiet (reset_for d) in
-        record {
-          outcome = g;
-          is =
-              garbled-enters t p d e x.mid x.token g S come is
-              (mid-is (reset_for d) x.mid read.mid_is)
-              ∙ none-is t p d S (reset_for d) x g read.verdict;
-          so =
-              heeded-so t p d S link x (told h.up) g i.ready at
-              (nothing-told x.verdict.news x.token n (told h.up) g.grounds S.exchanges S.readers silent)
-              (stored-none S.entries x.verdict.news x.token S.exchanges None
-              (content_at t n (whole_found (found_in n (ended_in over S.exchanges) (told h.up)))) S.store silent);
-        }
+  pub goes-short : is_some (goes_by t p d S) ≡ true → length made.numbers.text ≤ 2024
+  goes-short some =
+      let y = some-of (goes_by t p d S) some in
+      made.short y.0.0 y.0.1 (goes-matter t p d S link h i at y.0.0 y.0.1 y.1)
 
--- a response that is told is what the datagram spells
+  pub as-heeded : ((link_of S.links p).outstanding ≡ None → (link_of S.links p).waiting ≡ [])
+      → heeded t p d h.heeding.mid h.heeding.token h.heeding.verdict (record { matter = matter_for t p h.heeding (told h.up) S; numbers = made.numbers }) S
+      ≡ hearing_state t p d h.heeding k (matter_for t p h.heeding (told h.up) S) made.numbers S
+  as-heeded rests =
+      heeded-so t p d S link h.heeding k made.numbers (matter_for t p h.heeding (told h.up) S) i.ready made.follows at rests made.is
 
-said : (v : News) (k m : Content) → says v k ≡ response m → k ≡ m
-said N.Response k m e = cc
-said N.Quiet k m e = absurd cc
-said (N.Reset token) k m e = absurd cc
-said N.Lost k m e = absurd cc
+  -- The step leaves what was drafted, and the tables after it.
+  pub heard-so : Comes t p d S → ((link_of S.links p).outstanding ≡ None → (link_of S.links p).waiting ≡ [])
+      → heard t p d made.numbers S ≡ hearing_state t p d h.heeding k (matter_for t p h.heeding (told h.up) S) made.numbers S
+  heard-so come rests = by (message_at d) refl i.is
+    where
+      x : Heeding
+      x = h.heeding
 
-nothing-said : (m : Content) → no_news ≡ response m → ⊥
-nothing-said m e = cc
+      matter : Matter
+      matter = matter_for t p x (told h.up) S
 
-pub spells : (t : ℕ) (d : List ℕ) (link : LinkValue) (h : Hearing) (m : Content)
-    → IsHearing t d link h → AllByRecursion (λ (b : ℕ). b < 256) d → told h.up ≡ response m
-    → Spells m d
-spells t d link h m i bytes e = by (message_at d) refl i.is
-  where
-    by : (r : Result Content CodecFault) → message_at d ≡ r → IsRead t d link.state r h → Spells m d
-    by (Ok k) is read =
-        subst (λ (v : Content). Spells v d) (said h.heeding.verdict.news k m (sym read.up ∙ e))
-        (message_takes d k (is-bytes d bytes) is)
-    by (Err f) is read = absurd (nothing-said m (sym read.up ∙ e))
+      so : heeded t p d x.mid x.token x.verdict (record { matter = matter; numbers = made.numbers }) S ≡ hearing_state t p d x k matter made.numbers S
+      so = as-heeded rests
+
+      by : (r : Result Content CodecFault) → message_at d ≡ r → IsRead t d link.state r h
+          → heard t p d made.numbers S ≡ hearing_state t p d x k matter made.numbers S
+      by (Ok m) is read =
+          let verdict : x.verdict ≡ verdict_of t (link_of S.links p) m = read.verdict ∙ ap (λ (u : LinkState). verdict_of t u m) at in
+          message-enters t p d m made.numbers S come is goes-on
+          (λ e. not-lost x.verdict.news read.kept (ap (λ (v : Verdict). v.news) verdict ∙ e))
+          ∙ (ap (λ (y : Matter). heeded t p d m.mid m.token (verdict_of t (link_of S.links p) m) (record { matter = y; numbers = made.numbers }) S) (sym (matter-is t p d S link h m at read))
+          ∙ (message-is t p d S m x (record { matter = matter; numbers = made.numbers }) read.mid read.token verdict ∙ so))
+      by (Err e) is read =
+          garbled-enters t p d e x.mid x.token made.numbers S come is (mid-is (reset_for d) x.mid read.mid_is)
+          ∙ (ap (λ (y : Matter). heeded t p d x.mid x.token (garbled (reset_for d)) (record { matter = y; numbers = made.numbers }) S) (sym (nothing-is t p d S link.state h e read))
+          ∙ (none-is t p d S (reset_for d) x (record { matter = matter; numbers = made.numbers }) read.verdict ∙ so))
+
+-- a message that is told is what the datagram spells
+pub spells : (d : List ℕ) (m : Content) → AllByRecursion (λ (b : ℕ). b < 256) d → message_at d ≡ Ok m → Spells m d
+spells d m bytes is = message_takes d m (is-bytes d bytes) is
 
 -- each byte of a datagram is one
 pub bytes-small : (d : List ℕ) → ((i : ℕ) → get_or d i 0 < 256)

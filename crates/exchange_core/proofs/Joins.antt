@@ -6,8 +6,7 @@ use Rattle.ask_model.specs.Sizes.{capped}
 use Rattle.journal_book.specs.Entries.{Asks, entry_size}
 use Rattle.exchange_model.specs.declared.kept.Reader.{Reader}
 use Rattle.exchange_model.specs.State.{State}
-use Rattle.exchange_model.specs.Steps.{joins, seals}
-use Rattle.exchange_model.specs.Calls.{Numbers}
+use Rattle.exchange_model.specs.Steps.{joins, seals, Numbers}
 use Rattle.exchange_model.specs.Entering.{IsDrained}
 use Rattle.exchange_model.specs.Room.{fits, KeptInRoom}
 use Rattle.exchange_model.specs.Sealing.{asks_in_room}

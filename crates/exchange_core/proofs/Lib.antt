@@ -11,9 +11,6 @@ mod Refusals
 mod Asks
 mod BeginLinks
 mod Begins
-mod Heard
-mod Heeds
-mod HeardSteps
 mod BeginSound
 mod TickDue
 mod Endings
@@ -32,4 +29,9 @@ mod Turning
 mod Outrun
 mod Joins
 mod Recalls
+mod MatterBy
 mod Settling
+mod Heard
+mod Tolds
+mod Heeds
+mod HeardSteps

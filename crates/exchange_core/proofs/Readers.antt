@@ -1,22 +1,19 @@
 -- Who waits for an exchange, and what they are told.
 use Rattle.std.proofs.Common.{◌≡◌, ℕ, ◌+◌, ◌<◌, ◌≤◌, suc, zero, List, [], ◌∷◌, length, map, Option, Some, None, refl, ap, arith}
-use Rattle.std.specs.Prelude.{filter, filter_map, option_map, slice_get}
+use Rattle.std.specs.Prelude.{filter_map, option_map, slice_get}
 use Rattle.std.specs.List.{AllByRecursion, cons_option}
-use Rattle.std.proofs.lemmas.List.{length-map}
-use Rattle.std.proofs.lemmas.List.Sums.{length-filter, count_by-le-length}
 use Rattle.journal_book.specs.Entries.{Deed, Written}
-use Rattle.reply_reading.specs.Findings.{Found}
 use Rattle.history_laws.proofs.CallerLemmas.{all-more}
 use Rattle.exchange_model.specs.declared.kept.Exchange.{Exchange}
 use Rattle.exchange_model.specs.declared.kept.Reader.{Reader}
-use Rattle.exchange_model.specs.Calls.{is_reader_of, read_by, timeout_for, told_late}
+use Rattle.exchange_model.specs.Calls.{read_by, timeout_for, told_late}
 use Rattle.exchange_model.specs.Entering.{answer_of}
 use Rattle.exchange_model.specs.Growing.{IsKnown, RiseByAsk}
 use Rattle.exchange_model.specs.Room.{KeptInRoom}
 use Rattle.exchange_model.specs.State.{State}
 use Rattle.exchange_model.proofs.CallerLemmas.{readers-known, readers-rise, within-limits}
 use Rattle.exchange_core.specs.Asked.{IsAskedIn}
-use Rattle.exchange_core.specs.Ending.{IsTold, deed_of, late_of, out_of_time, readers_told, tell_of}
+use Rattle.exchange_core.specs.Ending.{IsTold, deed_of, late_of, out_of_time}
 
 -- who is known has asked
 asked-by : (S : State) (r : Reader) → IsKnown S r → IsAskedIn S.entries r
@@ -67,13 +64,6 @@ few-told {X = X} f (r ∷ rs) = by (f r) (few-told f rs)
         → length (cons_option o (filter_map f rs)) ≤ suc (length rs)
     by None ih = omega (arith, ih)
     by (Some x) ih = omega (arith, ih)
-
-pub few-read : (e : Exchange) (f : Found) (rs : List Reader) → length (readers_told e f rs) ≤ length rs
-few-read e f rs =
-    let map = length-map (filter (is_reader_of e) rs) (tell_of f) in
-    let is = length-filter (is_reader_of e) rs in
-    let le = count_by-le-length (is_reader_of e) rs in
-    omega (arith, map, is, le)
 
 -- Those that took too long are told as the step says.
 

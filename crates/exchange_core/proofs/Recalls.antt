@@ -4,6 +4,7 @@ use Rattle.std.specs.Prelude.{sum_by, is_none, ◌&&◌, ◌==◌}
 use Rattle.std.specs.List.{AllByRecursion, find}
 use Rattle.std.proofs.lemmas.Bool.{and_parts}
 use Rattle.std.proofs.lemmas.Bool.Decides.{Decides-eqb}
+use Rattle.coap_codec.specs.Spelling.{Content}
 use Rattle.cache_key.specs.Keys.{CacheKey}
 use Rattle.resp_cache.specs.Stored.{Stored}
 use Rattle.resp_cache.specs.Stores.{is_fresh_under, moved, served, stored_in}
@@ -17,14 +18,14 @@ use Rattle.journal_book.specs.Views.{ask_of}
 use Rattle.history_laws.proofs.CallerLemmas.{some-is}
 use Rattle.reply_reading.specs.Findings.{Tells}
 use Rattle.exchange_model.specs.State.{State}
-use Rattle.exchange_model.specs.Steps.{seals}
-use Rattle.exchange_model.specs.Calls.{Numbers, IsAlone, asked, served_in}
+use Rattle.exchange_model.specs.Steps.{seals, Numbers}
+use Rattle.exchange_model.specs.Calls.{IsAlone, asked, served_in}
 use Rattle.exchange_model.specs.Entering.{entered_all, IsDrained}
-use Rattle.exchange_model.specs.Growing.{IsHeardIn}
+use Rattle.exchange_model.specs.Growing.{AreHeardAt, IsHeardAt, IsHeardIn}
 use Rattle.exchange_model.specs.Room.{fits, KeptInRoom}
 use Rattle.exchange_model.specs.Sealing.{asks_in_room}
 use Rattle.exchange_model.proofs.CallerLemmas.{served-enters, store-heard}
-use Rattle.exchange_core.specs.Answering.{Given, HeardAs, IsFound, CountsFrom, IsGiven}
+use Rattle.exchange_core.specs.Answering.{Given, AreHeard, HeardAs, IsFound, CountsFrom, IsGiven}
 use Rattle.exchange_core.specs.Drafts.{DraftValue, Drafts, IsDrafted}
 use Rattle.exchange_core.specs.Joining.{joined_for}
 use Rattle.exchange_core.specs.Recalling.{MayRecall, WasHeard, kept_given, moved_for, moved_under, recall_deeds, recalled, served_for, served_under}
@@ -71,10 +72,29 @@ enters-served t c a q n s S sense found =
 
 -- what is stored was heard
 
+heard-at : (S : State) (n : ℕ) (m : Content) → (h : IsHeardAt S n m) → HeardAs S.entries n h.moment m
+heard-at S n m h = record { peer = h.peer; bytes = h.bytes; stands = h.stands; spelled = h.spelled }
+
+all-heard : (S : State) (ns : List ℕ) (ms : List Content) → AreHeardAt S ns ms → AreHeard S.entries ns ms
+all-heard S [] [] h = tt
+all-heard S [] (m ∷ ms) h = absurd h
+all-heard S (n ∷ ns) [] h = absurd h
+all-heard S (n ∷ ns) (m ∷ ms) h = ((h.0.moment, heard-at S n m h.0), all-heard S ns ms h.1)
+
 heard-of : (S : State) (p : Pair) (x : Stored) → IsHeardIn S p → Some p.stored ≡ Some x → WasHeard S.entries x
 heard-of S p x h e =
     subst (WasHeard S.entries) (some-is p.stored x e)
-    (record { number = h.number; peer = h.peer; bytes = h.bytes; message = h.message; stands = h.stands; spelled = h.spelled; list = h.list; whole = h.whole })
+    (record {
+      number = h.number;
+      others = h.others;
+      message = h.message;
+      more = h.more;
+      list = h.list;
+      first = subst (λ (k : ℕ). HeardAs S.entries h.number k h.message) h.first
+          (heard-at S h.number h.message h.heard.0);
+      rest = all-heard S h.others h.more h.heard.1;
+      whole = h.whole;
+    })
 
 found-heard : (k : CacheKey) (t : ℕ) (S : State) (x : Stored) (ps : List Pair) → AllByRecursion (IsHeardIn S) ps
     → stored_in (find (is_fresh_under k t) ps) ≡ Some x → WasHeard S.entries x
@@ -100,18 +120,15 @@ was-heard t s q x S k sense found = by (is_get q) refl (served-is t s q S (Some 
 
 -- the answer stands in the journal
 
-heard-as : (h : List Written) (s : Stored) (w : WasHeard h s) → HeardAs h w.number s.heard w.message
-heard-as h s w = record { peer = w.peer; bytes = w.bytes; stands = w.stands; spelled = w.spelled }
-
 found-kept : (h : List Written) (s : Stored) (q : CoapRequest) → q.method ≡ 1 → WasHeard h s
     → IsFound h (Tells s.response) (Kept s.list) (Requests q)
 found-kept h s q get w =
     subst (λ (js : List ℕ). IsFound h (Tells s.response) (Kept js) (Requests q)) (sym w.list)
-    (w.message ∷ [], ((s.heard, heard-as h s w), tt), rw (get) w.whole)
+    (w.message ∷ w.more, ((s.heard, w.first), w.rest), rw (get) w.whole)
 
 counts-kept : (h : List Written) (s : Stored) (t : ℕ) → WasHeard h s → CountsFrom h (Kept s.list) t s.heard
 counts-kept h s t w =
-    subst (λ (js : List ℕ). CountsFrom h (Kept js) t s.heard) (sym w.list) (w.message, heard-as h s w)
+    subst (λ (js : List ℕ). CountsFrom h (Kept js) t s.heard) (sym w.list) (w.message, w.first)
 
 kept-given-stands : (t c : ℕ) (m : Mapping) (s : Stored) (S : State) → MayRecall t c m s S
     → IsGiven (entered_all t (recall_deeds c (ask_of m) s S) S).entries (kept_given (length S.entries) t c m s)

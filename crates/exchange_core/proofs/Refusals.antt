@@ -6,8 +6,8 @@ use Rattle.journal_book.specs.Entries.{Grounds, Fault, Deed, Asks, Answers, Writ
 use Rattle.journal_book.specs.Views.{ask_of}
 use Rattle.exchange_model.specs.State.{State}
 use Rattle.exchange_model.specs.Entering.{refusal_deeds, entered_all}
-use Rattle.exchange_model.specs.Steps.{seals}
-use Rattle.exchange_model.specs.Calls.{Numbers, asked}
+use Rattle.exchange_model.specs.Steps.{seals, Numbers}
+use Rattle.exchange_model.specs.Calls.{asked}
 use Rattle.exchange_model.specs.Room.{fits}
 use Rattle.exchange_model.specs.Sealing.{in_room, asks_in_room}
 use Rattle.exchange_core.proofs.Stepping.{entered-entries}

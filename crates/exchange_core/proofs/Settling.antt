@@ -1,26 +1,34 @@
--- What the end of an exchange does to the store is what the step says.
-use Rattle.std.proofs.Common.{◌≡◌, ℕ, Bool, true, false, cond, List, [], Option, Some, None, refl, sym, ap, ◌∙◌}
+-- What the end of an exchange does to the store, and a datagram to the other tables, is what the step says.
+use Rattle.std.proofs.Common.{◌≡◌, ℕ, Bool, true, false, cond, eqb, List, [], ◌∷◌, ◌++◌, map, Option, Some, None, refl, sym, ap, ◌∙◌}
 use Rattle.std.specs.Prelude.{filter, option_and_then, take, ◌&&◌, ◌==◌, is_none, length}
-use Rattle.std.specs.List.{find}
 use Rattle.limits.specs.declared.TheConstants.{MAX_STORED}
-use Rattle.coap_codec.specs.Spelling.{Content}
+use Rattle.coap_codec.specs.declared.block.Block.{Block}
 use Rattle.cache_key.specs.Keys.{CacheKey}
-use Rattle.resp_cache.specs.Stored.{Stored}
+use Rattle.resp_cache.specs.Stored.{Stored, stored_of}
 use Rattle.resp_cache.specs.Stores.{is_elsewhere, placed}
 use Rattle.resp_cache.specs.declared.pair.Pair.{Pair}
 use Rattle.ask_model.specs.Requests.{CoapRequest}
 use Rattle.ask_model.specs.Sharing.{asked_key, asked_place}
-use Rattle.journal_book.specs.Entries.{Written}
-use Rattle.history_laws.specs.Responses.{Response, whole_in}
-use Rattle.message_layer.specs.Hearing.{says}
-use Rattle.message_layer.specs.declared.verdict.News.{News}
-use Rattle.message_layer.specs.declared.verdict.News.TheVariants as N
-use Rattle.history_links.specs.Steps.{ended_token}
-use Rattle.reply_reading.specs.Findings.{found_by}
+use Rattle.journal_book.specs.Entries.{Grounds, Live, Kept, Fault, Written}
+use Rattle.history_laws.specs.Responses.{Response}
+use Rattle.history_laws.specs.Progress.{Reply, Ending, Whole, NotUnderstood, Reset, TimedOut, Turned, Progress}
+use Rattle.reply_reading.specs.Findings.{Found, Told, Tells, Fails}
 use Rattle.exchange_model.specs.declared.kept.Exchange.{Exchange}
-use Rattle.exchange_model.specs.Steps.{asked_in, content_at, ended_in, is_under, method_in, put_by, settled, settled_by, whole_by}
-use Rattle.exchange_core.specs.Hearing.{found_in}
-use Rattle.exchange_core.specs.Storing.{key_got, pair_of, put_for, settled_with, whole_found}
+use Rattle.exchange_model.specs.declared.kept.Piece.{Piece}
+use Rattle.exchange_model.specs.declared.kept.Reader.{Reader}
+use Rattle.exchange_model.specs.declared.kept.Work.{Work}
+use Rattle.exchange_model.specs.declared.kept.Work.TheVariants as W
+use Rattle.exchange_model.specs.Steps.{Matter, Numbers, asked_in, content_by, exchanges_by, goes_so, got_by, is_of_other, moment_in, pieces_by, pieces_with, progress_with, put_by, settled, settled_by, store_by, work_by}
+use Rattle.exchange_model.specs.Calls.{grounds_for}
+use Rattle.exchange_table.specs.Tables.{went_on}
+use Rattle.exchange_table.proofs.CallerLemmas.{went-so}
+use Rattle.exchange_progress.specs.Coming.{IsEnded, is_empty, told_as}
+use Rattle.exchange_progress.specs.declared.coming.Ended.{Ended}
+use Rattle.exchange_progress.specs.declared.coming.Ended.TheVariants as How
+use Rattle.exchange_core.specs.declared.matter.Going.{Going}
+use Rattle.exchange_core.specs.declared.matter.Matter.TheVariants as M
+use Rattle.exchange_core.specs.Matters.{IsMatter}
+use Rattle.exchange_core.specs.Storing.{content_told, key_ended, key_got, pair_of, put_for, put_in, settled_with, stored_for}
 
 -- what is put, or else what is there
 abbrev with_pair : Option Pair → List Pair → List Pair → List Pair
@@ -59,29 +67,118 @@ settled-put ws None f ps = refl
 settled-put ws (Some e) f ps =
     by-request (asked_in ws e.opening) e.current f ps ∙ with-same ws (Some e) (put_for ws (Some e) f) ps
 
-found-whole : (n : ℕ) (w : Option Response) → whole_found (Some (found_by n w)) ≡ w
-found-whole n None = refl
-found-whole n (Some w) = refl
+-- what is told, as it is stored
 
--- what a message that is heeded so does to the store
-pub stored-same : (t n : ℕ) (ws : List Written) (news : News) (token : List ℕ) (es : List Exchange) (m : Content) (ps : List Pair)
-    → (let e = ended_in (ended_token news token) es in
-    settled ws e (content_at t n (whole_by news (method_in e) m)) ps
-    ≡ settled_with ws e (put_for ws e (content_at t n (whole_found (found_in n e (says news m))))) ps)
-stored-same t n ws N.Quiet token es m ps = refl
-stored-same t n ws N.Lost token es m ps = refl
-stored-same t n ws N.Response token es m ps = by (find (is_under token) es)
+content-told : (ws : List Written) (t n : ℕ) (how : Ending) (sending : Option ℕ) (r : Reader)
+    → stored_for ws t (told_as how) (grounds_for how n sending r) ≡ content_by ws t how
+content-told ws t n (Whole w []) sending r = refl
+content-told ws t n (Whole w (x ∷ xs)) sending r = refl
+content-told ws t n NotUnderstood sending r = refl
+content-told ws t n Reset sending r = refl
+content-told ws t n TimedOut sending r = refl
+content-told ws t n Turned sending r = refl
+
+none_told : (ws : List Written) (t : ℕ) (w : Response) (g : Grounds) (b : Bool) → cond b (Some w) None ≡ None → eqb w.code 69 ≡ b → stored_for ws t (Tells w) g ≡ None
+none_told ws t w g true e is = absurd cc
+none_told ws t w (Live []) false e is = refl
+none_told ws t w (Live (j ∷ js)) false e is = rw (is) refl
+none_told ws t w (Kept js) false e is = refl
+none_told ws t w (Fault c k) false e is = refl
+
+pub stored-none : (ws : List Written) (t : ℕ) (told : Told) (g : Grounds) → content_told told ≡ None → stored_for ws t told g ≡ None
+stored-none ws t (Fails cause) g e = refl
+stored-none ws t (Tells w) g e = none_told ws t w g (eqb w.code 69) e refl
+
+some_told : (ws : List Written) (t : ℕ) (w v : Response) (j : ℕ) (js : List ℕ) (b : Bool) → cond b (Some w) None ≡ Some v
+    → cond b (Some (stored_of w (moment_in ws t j) (j ∷ js))) None ≡ Some (stored_of v (moment_in ws t j) (j ∷ js))
+some_told ws t w v j js true e = ap (λ (u : Option Response). stored_by u) e
   where
-    by : (v : Option Exchange) → settled ws v (content_at t n (whole_in (method_in v) m)) ps
-        ≡ settled_with ws v (put_for ws v (content_at t n (whole_found (Some (found_by n (whole_in (method_in v) m)))))) ps
-    by v =
-        settled-put ws v (content_at t n (whole_in (method_in v) m)) ps
-        ∙ ap (λ (w : Option Response). settled_with ws v (put_for ws v (content_at t n w)) ps)
-        (sym (found-whole n (whole_in (method_in v) m)))
-stored-same t n ws (N.Reset of) token es m ps = settled-put ws (find (is_under of) es) None ps
+    stored_by : Option Response → Option Stored
+    stored_by None = None
+    stored_by (Some u) = Some (stored_of u (moment_in ws t j) (j ∷ js))
+some_told ws t w v j js false e = absurd cc
 
--- what ends no exchange leaves the store
-pub stored-none : (ws : List Written) (news : News) (token : List ℕ) (es : List Exchange) (f g : Option Stored) (ps : List Pair)
-    → news ≡ N.Quiet
-    → (let e = ended_in (ended_token news token) es in settled ws e f ps ≡ settled_with ws e (put_for ws e g) ps)
-stored-none ws news token es f g ps quiet = rw (quiet) refl
+pub stored-some : (ws : List Written) (t : ℕ) (told : Told) (v : Response) (j : ℕ) (js : List ℕ) → content_told told ≡ Some v
+    → stored_for ws t told (Live (j ∷ js)) ≡ Some (stored_of v (moment_in ws t j) (j ∷ js))
+stored-some ws t (Fails cause) v j js e = absurd cc
+stored-some ws t (Tells w) v j js e = some_told ws t w v j js (eqb w.code 69) e
+
+-- what is put
+
+some_reader : Reader
+some_reader = record { ask = 0; conn = 0; opening = 0 }
+
+pub put-ended : (n t : ℕ) (ws : List Written) (e : Exchange) (f : Found) (how : Ending) → IsEnded n (How.Found f) how
+    → put_for ws (Some e) (stored_for ws t f.told f.grounds) ≡ put_for ws (Some e) (content_by ws t how)
+put-ended n t ws e f how i =
+    ap (λ (g : Found). put_for ws (Some e) (stored_for ws t g.told g.grounds)) (i None some_reader)
+    ∙ ap (put_for ws (Some e)) (content-told ws t n how None some_reader)
+
+pair-none : (key : Option CacheKey) → pair_of key None ≡ None
+pair-none None = refl
+pair-none (Some key) = refl
+
+pub put-turned : (t : ℕ) (ws : List Written) (e : Exchange) (how : Ending) → how ≡ Turned → None ≡ put_for ws (Some e) (content_by ws t how)
+put-turned t ws e how is = sym (ap (λ (u : Ending). put_for ws (Some e) (content_by ws t u)) is ∙ pair-none (key_ended ws (Some e)))
+
+-- the store after it
+
+pub stored-over : (n t : ℕ) (ws : List Written) (new : Numbers) (e : Exchange) (ended : Ended) (x : Matter) (put : Option Pair) (ps : List Pair) → IsMatter n new (M.Over e ended) x
+    → put ≡ put_in ws t x → settled_with ws (Some e) put ps ≡ store_by ws t x ps
+stored-over n t ws new e ended x put ps i is =
+    ap (λ (o : Option Pair). settled_with ws (Some e) o ps) (is ∙ ap (put_in ws t) i.1)
+    ∙ (sym (settled-put ws (Some e) (content_by ws t i.0) ps) ∙ sym (ap (λ (y : Matter). store_by ws t y ps) i.1))
+
+pub stored-nothing : (n t : ℕ) (ws : List Written) (new : Numbers) (x : Matter) (ps : List Pair) → IsMatter n new M.Nothing x → ps ≡ store_by ws t x ps
+stored-nothing n t ws new x ps i = sym (ap (λ (y : Matter). store_by ws t y ps) i)
+
+pub stored-goes : (n t : ℕ) (ws : List Written) (new : Numbers) (g : Going) (x : Matter) (ps : List Pair) → IsMatter n new (M.Goes g) x → ps ≡ store_by ws t x ps
+stored-goes n t ws new g x ps i = sym (ap (λ (y : Matter). store_by ws t y ps) i.1)
+
+-- the exchanges after it
+
+pub exchanges-go : (n : ℕ) (ws : List Written) (new : Numbers) (g : Going) (x : Matter) (es : List Exchange) → IsMatter n new (M.Goes g) x
+    → map (went_on g.exchange.token g.token g.onward.work) es ≡ exchanges_by ws new.token x es
+exchanges-go n ws new g x es i =
+    went-so g.exchange g.token g.onward.work (progress_with g.onward.work i.2.got) (works g.onward.work i.2.got) es
+    ∙ (ap (λ (token : List ℕ). map (goes_so g.exchange token (progress_with g.onward.work i.2.got)) es) i.3
+    ∙ sym (ap (λ (y : Matter). exchanges_by ws new.token y es) i.1
+    ∙ ap (λ (u : Progress). map (goes_so g.exchange new.token u) es) i.2.is))
+  where
+    works : (w : Work) (got : List Reply) (old : Work) → work_by (progress_with w got) old ≡ w
+    works (W.Fetches restarts pieces) got old = refl
+    works (W.Gives upload) got old = refl
+
+-- the pieces after it
+
+pieces-got : (e : Exchange) (n : ℕ) (got : List Reply) (b : Option Block) (xs : List Piece) → is_none b ≡ is_none (is_empty got)
+    → (is_none b ≡ true → filter (is_of_other e) xs ≡ pieces_with e n got xs)
+    × (is_none b ≡ false → xs ++ record { opening = e.opening; number = n } ∷ [] ≡ pieces_with e n got xs)
+pieces-got e n [] b xs same = (λ none. refl, λ some. absurd (clash (sym some ∙ same)))
+  where
+    clash : false ≡ true → ⊥
+    clash k = cc
+pieces-got e n (r ∷ rs) b xs same = (λ none. absurd (clash (sym none ∙ same)), λ some. refl)
+  where
+    clash : true ≡ false → ⊥
+    clash k = cc
+
+pieces-are : (n : ℕ) (new : Numbers) (g : Going) (x : Matter) (xs : List Piece) → (i : IsMatter n new (M.Goes g) x)
+    → pieces_with g.exchange n i.2.got xs ≡ pieces_by n x xs
+pieces-are n new g x xs i =
+    sym (ap (λ (y : Matter). pieces_by n y xs) i.1
+    ∙ (ap (λ (u : Progress). pieces_with g.exchange n (got_by u) xs) i.2.is ∙ ap (λ (got : List Reply). pieces_with g.exchange n got xs) (got-with g.onward.work i.2.got)))
+  where
+    got-with : (w : Work) (got : List Reply) → got_by (progress_with w got) ≡ got
+    got-with (W.Fetches restarts pieces) got = refl
+    got-with (W.Gives upload) got = refl
+
+pub pieces-next : (n : ℕ) (new : Numbers) (g : Going) (x : Matter) (xs : List Piece) (b : Block) → IsMatter n new (M.Goes g) x → g.onward.block ≡ Some b
+    → xs ++ record { opening = g.exchange.opening; number = n } ∷ [] ≡ pieces_by n x xs
+pieces-next n new g x xs b i some =
+    (pieces-got g.exchange n i.2.got g.onward.block xs i.2.anew).1 (ap (λ (o : Option Block). is_none o) some) ∙ pieces-are n new g x xs i
+
+pub pieces-anew : (n : ℕ) (new : Numbers) (g : Going) (x : Matter) (xs : List Piece) → IsMatter n new (M.Goes g) x → g.onward.block ≡ None
+    → filter (is_of_other g.exchange) xs ≡ pieces_by n x xs
+pieces-anew n new g x xs i none =
+    (pieces-got g.exchange n i.2.got g.onward.block xs i.2.anew).0 (ap (λ (o : Option Block). is_none o) none) ∙ pieces-are n new g x xs i

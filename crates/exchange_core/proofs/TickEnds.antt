@@ -1,6 +1,6 @@
 -- The exchanges that end at a tick are those that the step ends.
 use Rattle.std.proofs.Common.{◌≡◌, ℕ, inl, inr, Bool, true, false, not, List, Option, Some, None, refl, ap, arith}
-use Rattle.std.specs.Prelude.{filter, is_some, ◌&&◌, ◌||◌}
+use Rattle.std.specs.Prelude.{filter, ◌&&◌, ◌||◌}
 use Rattle.std.specs.Str.{bytes_eq}
 use Rattle.std.proofs.lemmas.Bool.{lt-ltb, le-ltb}
 use Rattle.std.proofs.lemmas.Bool.Decides.{eqb_tells, leb_tells}
@@ -51,7 +51,7 @@ over-one : (t : ℕ) (S : State) → Kept S → (e : Exchange)
     → is_over t S.links e ≡ expires t S.links e
 over-one t S k e =
     let s = link_of S.links e.peer in
-    ap (λ (b : Bool). is_past t e || (is_some e.sending && b))
+    ap (λ (b : Bool). is_past t e || (e.awaits && b))
     (given-vain t s e.token s.outstanding
     (few-copies k.reading e.peer s.outstanding k.rests.reads.legal
     (k.rests.reads.links_are e.peer).turn))

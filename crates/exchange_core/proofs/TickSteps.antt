@@ -5,7 +5,7 @@ use Rattle.journal_book.specs.Entries.{Passes}
 use Rattle.message_layer.specs.Calls.{is_among}
 use Rattle.exchange_model.specs.declared.kept.Exchange.{Exchange}
 use Rattle.exchange_model.specs.State.{State}
-use Rattle.exchange_model.specs.Steps.{seals, passes, is_gone, left_by, retired, timed_out, goes_on}
+use Rattle.exchange_model.specs.Steps.{seals, passes, is_gone, is_of_none, left_by, retired, timed_out, goes_on}
 use Rattle.exchange_model.specs.Calls.{tells, told_late, something_due, move_all, ticked}
 use Rattle.exchange_model.specs.Entering.{entered_all, all_going, sent_as, gone_tokens, link_after, tick_deeds, IsDrained}
 use Rattle.exchange_model.specs.Keeping.{MayStep}
@@ -71,21 +71,25 @@ module _ (t : ℕ) (S : State) (may : MayStep t S) (drained : IsDrained S)
     tick-moved gone over es g o e =
         ap (λ (V : State). record V {
           exchanges = es;
+          pieces = filter (is_of_none over) S.pieces;
           store = retired S.entries over S.store;
           links = map (link_after t (is_among gone)) S.links;
         }) drawn
         ∙ ap (λ (q : List ℕ → Bool). let V = entered_all t (tick_deeds t S) S in record V {
           exchanges = es;
+          pieces = filter (is_of_none over) S.pieces;
           store = retired S.entries over S.store;
           links = map (link_after t q) S.links;
         }) (gone-is t S gone g)
         ∙ ap (λ (xs : List Exchange). let V = entered_all t (tick_deeds t S) S in record V {
           exchanges = es;
+          pieces = filter (is_of_none xs) S.pieces;
           store = retired S.entries xs S.store;
           links = map (link_after t (is_gone t S)) S.links;
         }) o
         ∙ ap (λ (fs : List Exchange). let V = entered_all t (tick_deeds t S) S in record V {
           exchanges = fs;
+          pieces = filter (is_of_none (timed_out t S)) S.pieces;
           store = retired S.entries (timed_out t S) S.store;
           links = map (link_after t (is_gone t S)) S.links;
         }) e

@@ -1,10 +1,11 @@
 -- Asks that begin an exchange.
-use Rattle.std.specs.Prelude.{◌≡◌, ℕ, ◌+◌, ◌≤◌, true, false, List, [], ◌∷◌, ◌++◌, length, sum_by, Option, Some, None, option_map, Result, Ok, Err, ⊤}
+use Rattle.std.specs.Prelude.{◌≡◌, ℕ, ◌+◌, ◌≤◌, true, false, List, [], ◌∷◌, ◌++◌, length, sum_by, Option, Some, None, option_map, is_some, Result, Ok, Err, ⊤}
 use Rattle.std.specs.Arc.{arc_value}
-use Rattle.limits.specs.declared.TheConstants.{LAST_MOMENT, MAX_MESSAGE_LEN, MAX_REQUEST_SIZE}
+use Rattle.limits.specs.declared.TheConstants.{LAST_MOMENT, MAX_BODY_LEN, MAX_MESSAGE_LEN, MAX_REQUEST_SIZE}
 use Rattle.coap_codec.specs.Spelling.{Spells}
+use Rattle.blockwise.specs.Uploads.{begun}
 use Rattle.uri_map.specs.declared.peer.Peer.{Peer}
-use Rattle.ask_model.specs.Requests.{CoapRequest, Sense, Requests, Refuses, request_message}
+use Rattle.ask_model.specs.Requests.{CoapRequest, Sense, Requests, Refuses, first_message}
 use Rattle.ask_model.specs.Sizes.{capped, came_size}
 use Rattle.ask_model.specs.Datagrams.{asked_peer}
 use Rattle.ask_model.specs.Views.{Mapping}
@@ -13,10 +14,12 @@ use Rattle.journal_book.specs.Views.{ask_of}
 use Rattle.message_layer.specs.declared.prepared.FirstSending.{FirstSending}
 use Rattle.message_layer.specs.declared.state.Waiting.{Waiting}
 use Rattle.exchange_model.specs.declared.kept.Exchange.{Exchange}
+use Rattle.exchange_model.specs.declared.kept.Work.{Work}
+use Rattle.exchange_model.specs.declared.kept.Work.TheVariants as W
 use Rattle.exchange_model.specs.declared.kept.Reader.{Reader}
 use Rattle.exchange_model.specs.State.{State}
-use Rattle.exchange_model.specs.Steps.{seals}
-use Rattle.exchange_model.specs.Calls.{Numbers, has_place}
+use Rattle.exchange_model.specs.Steps.{first_work, seals, Numbers}
+use Rattle.exchange_model.specs.Calls.{has_place}
 use Rattle.exchange_model.specs.Resting.{HasConn}
 use Rattle.exchange_model.specs.Room.{fits}
 use Rattle.endpoint_table.specs.Tables.{submitted_to}
@@ -36,11 +39,12 @@ abbrev pub IsRequest : Sense → Type 0
 IsRequest (Requests q) = ⊤
 IsRequest (Refuses cause status) = ⊥
 
--- the message of a request, spelled under ID 0
+-- the first message of a request, spelled under ID 0
 pub record IsTextFor (sense : Sense) (token text : List ℕ) : Type 0 where
   pub request : CoapRequest
   pub is : sense ≡ Requests request
-  pub spelled : Spells (request_message request 0 token) text
+  pub body : length request.body ≤ MAX_BODY_LEN
+  pub spelled : Spells (first_message request 0 token) text
   pub short : length text ≤ MAX_MESSAGE_LEN
 
 -- the code of the request that is asked, or 0 where none is
@@ -48,16 +52,23 @@ abbrev pub asked_method : Sense → ℕ
 asked_method (Requests q) = q.method
 asked_method (Refuses cause status) = 0
 
--- the exchange that the ask with this number opens
-abbrev pub exchange_by : ℕ → List ℕ → Peer → ℕ → Option FirstSending → ℕ → Exchange
-exchange_by t token p method sent n = record {
+-- how far it has come before its first reply
+abbrev pub asked_work : Sense → Work
+asked_work (Requests q) = first_work q
+asked_work (Refuses cause status) = W.Gives (begun 0 6)
+
+-- the exchange that the ask with this number opens for what it means
+abbrev pub exchange_by : ℕ → List ℕ → Peer → Sense → Option FirstSending → ℕ → Exchange
+exchange_by t token p sense sent n = record {
   opening = n;
   token = token;
   since = t;
   peer = p;
-  method = method;
+  method = asked_method sense;
   sending = option_map (λ (x : FirstSending). n + 1) sent;
+  awaits = is_some sent;
   current = true;
+  work = asked_work sense;
 }
 
 -- who reads it first
@@ -76,8 +87,8 @@ with_exchange t e r w S = record S {
 abbrev pub numbers_of : List ℕ → List ℕ → ℕ → Numbers
 numbers_of token text word = record { token = token; text = text; word = word }
 
--- The ask of a connection that waits for nothing is served nothing, and joins no exchange; there is a place for its own, and
--- its message is spelled under the next token.
+-- The ask of a connection that waits for nothing is served nothing and joins no exchange, there is a
+-- place for its own, and its message is spelled under the next token.
 pub record MayBegin (t word c : ℕ) (m : Mapping) (p : Peer) (token text : List ℕ) (S : State)
     : Type 0 where
   pub unsealed : S.sealed ≡ false

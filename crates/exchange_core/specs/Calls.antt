@@ -1,16 +1,18 @@
 -- What each call of a core leaves.
-use Rattle.std.specs.Prelude.{◌≡◌, ◌⊎◌, ℕ, ◌≤◌, ◌<◌, ◌^◌, ◌/◌, min, max, true, false, length, drop, Option, Some, None, Result, Ok, Err}
-use Rattle.limits.specs.declared.TheConstants.{LAST_MOMENT, MAX_CONNECTIONS}
+use Rattle.std.specs.Prelude.{◌≡◌, ◌⊎◌, ℕ, ◌≤◌, ◌<◌, ◌^◌, ◌/◌, min, max, true, false, is_some, List, length, drop, Option, Some, None, Result, Ok, Err}
+use Rattle.limits.specs.declared.TheConstants.{LAST_MOMENT, MAX_CONNECTIONS, MAX_DATAGRAM_LEN, MAX_MESSAGE_LEN}
 use Rattle.coap_codec.specs.Spelling.{Spells}
-use Rattle.ask_model.specs.Requests.{CoapRequest, Requests, request_message}
+use Rattle.uri_map.specs.declared.peer.Peer.{Peer}
+use Rattle.ask_model.specs.Requests.{CoapRequest, Requests, first_message}
 use Rattle.ask_model.specs.Views.{Ask}
 use Rattle.history_laws.specs.Numbering.{token_number}
-use Rattle.exchange_model.specs.State.{State}
-use Rattle.exchange_model.specs.Steps.{opens, shuts}
+use Rattle.exchange_model.specs.State.{State, link_of}
+use Rattle.exchange_model.specs.Steps.{opens, shuts, Numbers}
 use Rattle.exchange_model.specs.Resting.{HasConn}
-use Rattle.exchange_model.specs.Calls.{Numbers, has_place, IsAlone}
+use Rattle.exchange_model.specs.Calls.{has_place, IsAlone, goes_by}
+use Rattle.exchange_model.specs.Keeping.{MayGoOn}
 use Rattle.exchange_model.specs.Room.{fits}
-use Rattle.exchange_model.specs.Sealing.{opens_in_room, asks_in_room}
+use Rattle.exchange_model.specs.Sealing.{opens_in_room, asks_in_room, hears_in_room}
 use Rattle.exchange_core.specs.declared.fault.OpenFault.{OpenFault}
 use Rattle.exchange_core.specs.declared.fault.OpenFault.TheVariants as Open
 use Rattle.exchange_core.specs.declared.fault.AskFault.{AskFault}
@@ -50,11 +52,11 @@ pub record IsWordedBy (word : ℕ) (n : Numbers) (S : State) : Type 0 where
   pub number : token_number n.token ≡ S.issued
   pub random : token_number (drop 4 n.token) ≡ word / 2 ^ 32
 
--- The message is spelled under it, where the ask begins an exchange.
+-- Its first message is spelled under it, where the ask begins an exchange.
 abbrev pub IsSpelled : ℕ → Ask → Numbers → State → Type 0
 IsSpelled t a n S =
     (q : CoapRequest) → a.sense ≡ Requests q → IsAlone t q S → has_place t q.peer S ≡ true
-    → Spells (request_message q 0 n.token) n.text
+    → Spells (first_message q 0 n.token) n.text
 
 pub record AsksSo (t word c : ℕ) (a : Ask) (old new : CoreValue) : Type 0 where
   pub numbers : Numbers
@@ -62,6 +64,21 @@ pub record AsksSo (t word c : ℕ) (a : Ask) (old new : CoreValue) : Type 0 wher
   pub spelled : IsSpelled t a numbers old.state
   pub idle : HasConn old.state.conns c None
   pub is : new ≡ stepped (asks_in_room t c a numbers old.state) old
+
+-- A datagram is lost after the seal, or from an endpoint to which nothing was sent, or above 2,048 bytes.
+pub record IsTakenIn (p : Peer) (d : List ℕ) (S : State) : Type 0 where
+  pub unsealed : S.sealed ≡ false
+  pub known : is_some (link_of S.links p).last_mid ≡ true
+  pub short : length d ≤ MAX_DATAGRAM_LEN
+
+-- A datagram is heard. Where an exchange goes on by it, its next message is spelled under the next token.
+pub record HearsSo (t word : ℕ) (p : Peer) (d : List ℕ) (old new : CoreValue) : Type 0 where
+  pub numbers : Numbers
+  pub worded : IsWordedBy word numbers old.state
+  pub goes : IsTakenIn p d old.state → MayGoOn t p d numbers old.state
+  pub short : IsTakenIn p d old.state → is_some (goes_by t p d old.state) ≡ true
+      → length numbers.text ≤ MAX_MESSAGE_LEN
+  pub is : new ≡ stepped (hears_in_room t p d numbers old.state) old
 
 -- An ask is entered under the next number; or the journal takes it no more; or the connection isn't
 -- open, or waits for an answer. Where memory is wanted, nothing changes.

@@ -1,16 +1,16 @@
 -- Exchanges that end, and all who wait for them.
-use Rattle.std.specs.Prelude.{◌≡◌, ℕ, List, ◌++◌, map, filter, filter_map, Option, Some, option_map, slice_get, unwrap_or}
+use Rattle.std.specs.Prelude.{◌≡◌, ℕ, List, ◌∷◌, ◌++◌, map, filter, filter_map, Option, Some, option_map, slice_get, unwrap_or}
 use Rattle.ask_model.specs.declared.cause.Cause.TheVariants as C
 use Rattle.ask_model.specs.Requests.{Requests}
 use Rattle.ask_model.specs.Views.{Ask, Mapping}
-use Rattle.journal_book.specs.Entries.{Deed, Answers, Asks, Fault, Written}
+use Rattle.journal_book.specs.Entries.{Grounds, Live, Kept, Fault, Deed, Answers, Asks, Written}
 use Rattle.journal_book.specs.Views.{ask_of}
 use Rattle.reply_reading.specs.Findings.{Found, Fails}
 use Rattle.exchange_model.specs.declared.kept.Exchange.{Exchange}
 use Rattle.exchange_model.specs.declared.kept.Reader.{Reader}
 use Rattle.exchange_model.specs.State.{State}
-use Rattle.exchange_model.specs.Steps.{is_past}
-use Rattle.exchange_model.specs.Calls.{is_reader_of, read_by, told_late}
+use Rattle.exchange_model.specs.Steps.{is_past, moment_in}
+use Rattle.exchange_model.specs.Calls.{read_by, told_late}
 use Rattle.exchange_model.specs.Entering.{answer_of}
 use Rattle.exchange_core.specs.declared.ending.Telling.{Telling}
 use Rattle.exchange_core.specs.Values.{written}
@@ -21,12 +21,14 @@ use Rattle.exchange_core.specs.Asked.{IsAskedIn}
 abbrev pub deed_of : Telling → Deed
 deed_of x = Answers x.reader.conn x.reader.ask x.finding.grounds
 
--- All who wait for the exchange are told what was found.
 abbrev pub tell_of : Found → Reader → Telling
 tell_of f r = record { reader = r; finding = f }
 
-abbrev pub readers_told : Exchange → Found → List Reader → List Telling
-readers_told e f rs = map (tell_of f) (filter (is_reader_of e) rs)
+-- the moment from which it counts: that of its first reply, or of this step
+abbrev pub first_moment : List Written → ℕ → Grounds → ℕ
+first_moment ws t (Live (j ∷ js)) = moment_in ws t j
+first_moment ws t (Kept (j ∷ js)) = moment_in ws t j
+first_moment ws t grounds = t
 
 -- All who wait for one of these exchanges are told that it took too long.
 abbrev pub late_of : Reader → Exchange → Telling
@@ -47,16 +49,17 @@ late_deeds t S = map answer_of (told_late (filter (is_past t) S.exchanges) S.rea
 pub record IsTold (h drafted : List Written) (t : ℕ) (x : Telling) : Type 0 where
   pub asked : IsAskedIn h x.reader
   pub found : IsFound (h ++ drafted) x.finding.told x.finding.grounds (Requests asked.request)
-  pub counts : CountsFrom (h ++ drafted) x.finding.grounds t t
+  pub counts : CountsFrom (h ++ drafted) x.finding.grounds t
+      (first_moment h t x.finding.grounds)
 
--- the answer to its ask, under this number
-abbrev pub given_to : ℕ → ℕ → Telling → Mapping → Given
-given_to t n x m = record {
+-- the answer to its ask, under this number, after these entries
+abbrev pub given_to : List Written → ℕ → ℕ → Telling → Mapping → Given
+given_to h t n x m = record {
   conn = x.reader.conn;
   ask = x.reader.ask;
   number = n;
   moment = t;
-  heard = t;
+  heard = first_moment h t x.finding.grounds;
   mapping = m;
   found = x.finding;
 }
@@ -65,4 +68,4 @@ pub record IsAnswerTo (h : List Written) (t n : ℕ) (x : Telling) (g : Given) :
   pub mapping : Mapping
   pub asked : (s c : ℕ) (a : Ask) → slice_get h x.reader.ask ≡ Some (written s (Asks c a))
       → ask_of mapping ≡ a
-  pub is : g ≡ given_to t n x mapping
+  pub is : g ≡ given_to h t n x mapping

@@ -6,8 +6,8 @@ use Rattle.ask_model.specs.Views.{Ask}
 use Rattle.journal_book.specs.Entries.{Written}
 use Rattle.exchange_model.specs.declared.kept.Exchange.{Exchange}
 use Rattle.exchange_model.specs.State.{State}
-use Rattle.exchange_model.specs.Steps.{joins}
-use Rattle.exchange_model.specs.Calls.{Numbers, asked, is_joined}
+use Rattle.exchange_model.specs.Steps.{joins, Numbers}
+use Rattle.exchange_model.specs.Calls.{asked, is_joined}
 use Rattle.exchange_model.specs.Room.{KeptInRoom}
 use Rattle.exchange_model.specs.Sealing.{in_room}
 

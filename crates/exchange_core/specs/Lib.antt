@@ -9,6 +9,7 @@ pub mod Expiring
 pub mod Faults
 pub mod Hearing
 pub mod Joining
+pub mod Matters
 pub mod Recalling
 pub mod Storing
 pub mod Refusing

@@ -1,25 +1,24 @@
 -- Asks that the store answers.
-use Rattle.std.specs.Prelude.{◌≡◌, ℕ, ◌+◌, List, [], ◌∷◌, length, Option, Some, None, slice_get}
-use Rattle.coap_codec.specs.Spelling.{Content, Spells}
-use Rattle.uri_map.specs.declared.peer.Peer.{Peer}
+use Rattle.std.specs.Prelude.{◌≡◌, ℕ, ◌+◌, List, [], ◌∷◌, length, Option, Some, None}
+use Rattle.coap_codec.specs.Spelling.{Content}
 use Rattle.cache_key.specs.Keys.{CacheKey}
 use Rattle.resp_cache.specs.Stored.{Stored}
 use Rattle.resp_cache.specs.Stores.{moved, served}
 use Rattle.resp_cache.specs.declared.pair.Pair.{Pair}
 use Rattle.ask_model.specs.Requests.{CoapRequest, Sense, Requests}
-use Rattle.ask_model.specs.Sharing.{is_get, key_read}
+use Rattle.ask_model.specs.Sharing.{key_read}
 use Rattle.ask_model.specs.Views.{Ask, Mapping}
-use Rattle.journal_book.specs.Entries.{Kept, Deed, Asks, Answers, Hears, Written}
+use Rattle.journal_book.specs.Entries.{Kept, Deed, Asks, Answers, Written}
 use Rattle.journal_book.specs.Views.{ask_of}
-use Rattle.history_laws.specs.Responses.{whole_in}
+use Rattle.history_laws.specs.Responses.{whole_fetched}
 use Rattle.reply_reading.specs.Findings.{Tells}
 use Rattle.exchange_model.specs.State.{State}
-use Rattle.exchange_model.specs.Calls.{Numbers, asked}
+use Rattle.exchange_model.specs.Steps.{Numbers}
+use Rattle.exchange_model.specs.Calls.{asked}
 use Rattle.exchange_model.specs.Entering.{entered_all}
 use Rattle.exchange_model.specs.Room.{KeptInRoom}
 use Rattle.exchange_model.specs.Sealing.{in_room}
-use Rattle.exchange_core.specs.Answering.{Given}
-use Rattle.exchange_core.specs.Values.{written}
+use Rattle.exchange_core.specs.Answering.{Given, HeardAs, AreHeard}
 
 -- what is stored for an ask, where it is a GET and that is fresh
 abbrev pub served_under : Option CacheKey → ℕ → List Pair → Option Stored
@@ -59,19 +58,20 @@ kept_given n t c m s = record {
   found = record { told = Tells s.response; grounds = Kept s.list };
 }
 
--- What is stored was heard whole, in one entry, in reply to a GET.
+-- What is stored was heard whole, in reply to a GET: the first of it at that moment, and the other
+-- pieces, if there are any, after it.
 pub record WasHeard (h : List Written) (s : Stored) : Type 0 where
   pub number : ℕ
-  pub peer : Peer
-  pub bytes : List ℕ
+  pub others : List ℕ
   pub message : Content
-  pub stands : slice_get h number ≡ Some (written s.heard (Hears peer bytes))
-  pub spelled : Spells message bytes
-  pub list : s.list ≡ number ∷ []
-  pub whole : whole_in 1 message ≡ Some s.response
+  pub more : List Content
+  pub list : s.list ≡ number ∷ others
+  pub first : HeardAs h number s.heard message
+  pub rest : AreHeard h others more
+  pub whole : whole_fetched message more ≡ Some s.response
 
--- The ask is a GET that is answered so, whatever its message would be sent under, which keeps what a
--- core keeps.
+-- The ask is a GET that is answered so, whatever its message would be sent under, which keeps what
+-- a core keeps.
 pub record MayRecall (t c : ℕ) (m : Mapping) (s : Stored) (S : State) : Type 0 where
   pub request : CoapRequest
   pub sense : m.sense ≡ Requests request

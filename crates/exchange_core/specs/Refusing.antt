@@ -4,7 +4,8 @@ use Rattle.ask_model.specs.declared.cause.Cause.{Cause}
 use Rattle.ask_model.specs.Requests.{CoapRequest, Requests}
 use Rattle.ask_model.specs.Views.{Ask}
 use Rattle.exchange_model.specs.State.{State}
-use Rattle.exchange_model.specs.Calls.{Numbers, has_place, IsAlone, asked}
+use Rattle.exchange_model.specs.Steps.{Numbers}
+use Rattle.exchange_model.specs.Calls.{has_place, IsAlone, asked}
 use Rattle.exchange_model.specs.Entering.{refusal_deeds, entered_all}
 use Rattle.exchange_model.specs.Room.{KeptInRoom}
 use Rattle.exchange_model.specs.Sealing.{in_room}
@@ -14,8 +15,8 @@ pub record MayRefuse (t c : ℕ) (a : Ask) (cause : Cause) (S : State) : Type 0 
   pub is : (n : Numbers) → asked t c a n S ≡ entered_all t (refusal_deeds c a cause S) S
   pub kept : KeptInRoom (in_room t (entered_all t (refusal_deeds c a cause S) S) S)
 
--- It asks for nothing, or is served what is stored, or joins an exchange, or there is no place for its
--- own.
+-- It asks for nothing, or is served what is stored, or joins an exchange, or there is no place for
+-- its own.
 abbrev pub BeginsNothing : ℕ → Ask → State → Type 0
 BeginsNothing t a S =
     (q : CoapRequest) → a.sense ≡ Requests q → IsAlone t q S → has_place t q.peer S ≡ true

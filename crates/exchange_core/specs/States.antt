@@ -24,6 +24,7 @@ state_of s = record {
   issued = s.issued;
   conns = s.conns.items;
   exchanges = s.exchanges.exchanges;
+  pieces = s.fetched.pieces;
   readers = s.readers.items;
   store = s.store.pairs;
   links = s.endpoints.links;

@@ -1,32 +1,29 @@
 -- What the end of an exchange does to the store.
-use Rattle.std.specs.Prelude.{ℕ, Bool, List, Option, Some, None, option_and_then, take, ◌==◌, if◌then◌else◌}
+use Rattle.std.specs.Prelude.{ℕ, List, ◌∷◌, Option, Some, None, option_and_then, take, ◌==◌, if◌then◌else◌}
 use Rattle.limits.specs.declared.TheConstants.{MAX_STORED}
 use Rattle.cache_key.specs.Keys.{CacheKey}
 use Rattle.ask_model.specs.Requests.{CoapRequest}
 use Rattle.ask_model.specs.Sharing.{asked_key, is_get}
-use Rattle.journal_book.specs.Entries.{Written}
-use Rattle.resp_cache.specs.Stored.{Stored}
+use Rattle.journal_book.specs.Entries.{Grounds, Live, Written}
+use Rattle.resp_cache.specs.Stored.{Stored, stored_of}
 use Rattle.resp_cache.specs.Stores.{placed}
 use Rattle.resp_cache.specs.declared.pair.Pair.{Pair}
 use Rattle.history_laws.specs.Responses.{Response}
 use Rattle.history_laws.specs.Storing.{content}
-use Rattle.reply_reading.specs.Findings.{Found, Told, Tells, Fails}
+use Rattle.reply_reading.specs.Findings.{Told, Tells, Fails}
 use Rattle.exchange_model.specs.declared.kept.Exchange.{Exchange}
-use Rattle.exchange_model.specs.Steps.{asked_in, settled}
+use Rattle.exchange_model.specs.Steps.{Matter, Over, asked_in, content_by, moment_in, settled}
 
--- the whole response that was found
-abbrev pub whole_told : Told → Option Response
-whole_told (Tells w) = Some w
-whole_told (Fails cause) = None
+-- the whole 2.05 that is told, if it is one
+abbrev pub content_told : Told → Option Response
+content_told (Tells w) = if w.code == content then Some w else None
+content_told (Fails cause) = None
 
-abbrev pub whole_found : Option Found → Option Response
-whole_found None = None
-whole_found (Some f) = whole_told f.told
-
--- the same, if it is a 2.05
-abbrev pub content_of : Option Response → Option Response
-content_of None = None
-content_of (Some w) = if w.code == content then Some w else None
+-- the whole 2.05 that is told, which counts from the moment of its first reply
+abbrev pub stored_for : List Written → ℕ → Told → Grounds → Option Stored
+stored_for ws t (Tells w) (Live (j ∷ js)) =
+    if w.code == content then Some (stored_of w (moment_in ws t j) (j ∷ js)) else None
+stored_for ws t told grounds = None
 
 -- the key of a GET whose exchange has ended and wasn't outrun
 abbrev pub key_got : CoapRequest → Option CacheKey
@@ -44,6 +41,11 @@ pair_of _ _ = None
 
 abbrev pub put_for : List Written → Option Exchange → Option Stored → Option Pair
 put_for ws ended found = pair_of (key_ended ws ended) found
+
+-- what a message puts into the store, which is this to the exchanges
+abbrev pub put_in : List Written → ℕ → Matter → Option Pair
+put_in ws t (Over e how) = put_for ws (Some e) (content_by ws t how)
+put_in ws t x = None
 
 -- what is stored after that, or after the end of an exchange that puts nothing
 abbrev pub settled_with : List Written → Option Exchange → Option Pair → List Pair → List Pair

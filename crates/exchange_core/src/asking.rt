@@ -129,8 +129,8 @@ fn read_stored<R: Relation>(
     recall(alloc, s, moment, conn, mapped, stored)
 }
 
-/// Enters an ask for something: it is answered by what is stored, joins an exchange, or begins one, or
-/// is answered as busy where there is no place for one.
+/// Enters an ask for something: it is answered by what is stored, joins an exchange, or begins one,
+/// or is answered as busy where there is no place for one.
 fn ask_peer<R: Relation>(
     alloc: Global,
     s: &mut State<R>,

@@ -12,7 +12,7 @@ ghost use Rattle.message_layer.specs.Sending.{IsSubmitted};
 ghost use Rattle.exchange_model.specs.State.{State as CoreState, link_of};
 ghost use Rattle.exchange_model.specs.Resting.{HasConn};
 ghost use Rattle.endpoint_table.specs.Tables.{link_at};
-ghost use Rattle.exchange_core.specs.Beginning.{IsRequest, IsTextFor, with_exchange, IsBegun, IsBegunBy, IsEntered, MayBegin, asked_method, exchange_by};
+ghost use Rattle.exchange_core.specs.Beginning.{IsRequest, IsTextFor, with_exchange, IsBegun, IsBegunBy, IsEntered, MayBegin, asked_method, asked_work, exchange_by};
 ghost use Rattle.exchange_core.specs.Joining.{joined_for};
 ghost use Rattle.exchange_core.specs.Recalling.{served_for};
 ghost use Rattle.exchange_core.specs.Sending.{IsTimed, sent_first};
@@ -31,14 +31,18 @@ use crate::sealing::seal;
 use crate::sending::draft_first;
 use crate::state::{State, commit, make_places, start};
 use ask_model::{Mapped, Meaning};
+use blockwise::{LARGEST_SZX, Pieces, Upload};
 use coap_codec::{Bytes, Token};
-use exchange_model::{Exchange, Reader};
+use exchange_model::{Exchange, Reader, Work};
 use journal_book::{Entry, Event};
 use message_layer::{FirstSending, LinkFault, Submission};
 use std::alloc::{AllocError, Global};
 use std::sync::Arc;
 use transformers::Relation;
 use uri_map::Peer;
+
+/// The code of a GET (RFC 7252 section 12.1.1).
+const GET: u8 = 1;
 
 /// What an ask comes to.
 #[derive(Drop)]
@@ -60,7 +64,8 @@ fn text_of<R: Relation>(
     ensures small { came_size mapped.now.came ≤ MAX_REQUEST_SIZE }
 {
     let _came = mapped.came();
-    let Some(text) = mapped.request(alloc, 0, token)? else {
+    let _body = mapped.body();
+    let Some(text) = mapped.request(alloc, None, 0, token)? else {
         unreachable!()
     };
     Ok(text)
@@ -136,17 +141,30 @@ fn method_of<R: Relation>(mapped: &Mapped<R>) -> u8
     }
 }
 
+/// How far the exchange of a request has come before its first reply.
+fn work_of<R: Relation>(mapped: &Mapped<R>) -> Work
+    ensures { result ≡ asked_work mapped.now.sense }
+{
+    if method_of(mapped) == GET {
+        return Work::Fetches {
+            restarts: 0,
+            pieces: Pieces::none(),
+        };
+    }
+    Work::Gives(Upload::new(mapped.body(), LARGEST_SZX))
+}
+
 /// The exchange that the ask with this number opens, whose message goes out at once where it is sent.
-fn exchange_of(
+fn exchange_of<R: Relation>(
     opening: u32,
     moment: u64,
     token: Token,
     peer: Peer,
-    method: u8,
+    mapped: &Mapped<R>,
     sent: &Option<FirstSending>,
 ) -> Exchange
     requires { opening ≤ MAX_ENTRIES }
-    ensures { result ≡ exchange_by moment token peer method sent.now opening }
+    ensures { result ≡ exchange_by moment token peer mapped.now.sense sent.now opening }
 {
     let sending = match sent {
         Some(_) => Some(opening + 1),
@@ -157,9 +175,11 @@ fn exchange_of(
         token,
         since: moment,
         peer,
-        method,
+        method: method_of(mapped),
         sending,
+        awaits: sent.is_some(),
         current: true,
+        work: work_of(mapped),
     }
 }
 
@@ -263,8 +283,7 @@ fn ask<R: Relation>(
     let sent = &submission.sent;
     let draft = draft_ask(alloc, s, moment, conn, &mapped, peer, sent)?;
     let number = s.journal.len() as u32;
-    let method = method_of(&mapped);
-    let exchange = exchange_of(number, moment, token, peer, method, sent);
+    let exchange = exchange_of(number, moment, token, peer, &mapped, sent);
     let reader = Reader {
         ask: number,
         conn,
@@ -281,8 +300,9 @@ fn ask<R: Relation>(
 }
 
 /// Begins the exchange of a request from a connection that waits for nothing, where nothing that is
-/// stored answers it, it joins none, and fewer than 256 are open. Its message goes out at once, or waits for its turn at its endpoint. The random word
-/// makes its token, its first timeout, and the endpoint's first message ID.
+/// stored answers it, it joins none, and fewer than 256 are open. Its message goes out at once, or
+/// waits for its turn at its endpoint. The random word makes its token, its first timeout, and the
+/// endpoint's first message ID.
 pub fn begin<R: Relation>(
     alloc: Global,
     s: &mut State<R>,

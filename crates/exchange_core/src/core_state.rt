@@ -1,11 +1,11 @@
 //! The core.
 
-ghost use Rattle.std.specs.Prelude.{◌≡◌, ◌≤◌, ◌^◌, ◌↔◌, [], None, Err, IfErr, IfOk, IfSome, OnOk, OnErr, IsTrue, IsFalse, option_map, min, map, sum_by};
+ghost use Rattle.std.specs.Prelude.{◌≡◌, ◌≤◌, ◌^◌, ◌↔◌, [], None, Err, IfErr, IfOk, IfSome, OnOk, OnErr, IsTrue, IsFalse, length, option_map, min, map, sum_by};
 ghost use Rattle.std.specs.Arc.{arc_value};
 ghost use Rattle.journal_book.specs.Entries.{entry_size};
 ghost use Rattle.journal_book.specs.Views.{ask_of};
 ghost use Rattle.exchange_model.specs.Rotating.{fault_of};
-ghost use Rattle.exchange_model.specs.Sealing.{hears_in_room, ticks_in_room};
+ghost use Rattle.exchange_model.specs.Sealing.{ticks_in_room};
 ghost use Rattle.std.specs.List.{reduce};
 ghost use Rattle.history_laws.specs.Justified.{Stands};
 ghost use Rattle.exchange_model.specs.Keeping.{start};
@@ -13,7 +13,7 @@ ghost use Rattle.exchange_model.specs.Room.{KeptInRoom};
 ghost use Rattle.exchange_model.specs.Resting.{HasConn};
 ghost use Rattle.exchange_core.specs.Serving.{IsFirstTaken, AreBelow, AreOlder};
 ghost use Rattle.exchange_core.specs.Answering.{given_of};
-ghost use Rattle.exchange_core.specs.Calls.{now, IsOpened, IsAsked, IsClosed, IsUnknown};
+ghost use Rattle.exchange_core.specs.Calls.{now, HearsSo, IsOpened, IsAsked, IsClosed, IsUnknown};
 ghost use Rattle.exchange_core.specs.Due.{next_tick, IsNextTick};
 ghost use Rattle.exchange_core.specs.Snapshots.{Grows, IsOf, MayRestore};
 ghost use Rattle.exchange_core.specs.Values.{CoreValue, outgoing_of, stepped};
@@ -30,7 +30,7 @@ use crate::{asking, due, hearing, opening, rotating, serving, snapshot, taking, 
 use ask_model::Mapped;
 use endpoint_table::Endpoints;
 use exchange_model::{Conn, Exchange};
-use exchange_table::Exchanges;
+use exchange_table::{Exchanges, Fetched};
 use journal_book::Journal;
 use limits::{LAST_MOMENT, MAX_ENTRIES};
 use resp_cache::Store;
@@ -88,6 +88,7 @@ impl<R: Relation> Core<R> {
                 issued: 0,
                 conns: Vec::new(alloc),
                 exchanges: Exchanges::new(alloc),
+                fetched: Fetched::new(alloc),
                 readers: Vec::new(alloc),
                 store: Store::new(alloc),
                 endpoints,
@@ -146,12 +147,13 @@ impl<R: Relation> Core<R> {
     }
 
     /// Takes a request of a connection at this moment. A GET is answered by the response that is
-    /// stored for it, while that is fresh, or joins the open exchange of an equal one, unless a write
-    /// to its place has ended since that was opened (RFC 7252 section 5.6). Else the request begins an
-    /// exchange, whose message goes out at once or waits for its turn at its endpoint (section 4.7), or
-    /// it is answered at once: a refusal, or busy where 256 exchanges are open, 64 messages wait at the
-    /// endpoint, or its message IDs are used up. The first call that finds no room for it seals the
-    /// journal. The word is 64 random bits, for the token, the ID and the timeout.
+    /// stored for it, while that is fresh, or joins the open exchange of an equal one, unless a
+    /// write to its place has ended since that was opened (RFC 7252 section 5.6). Else the request
+    /// begins an exchange, whose message goes out at once or waits for its turn at its endpoint
+    /// (section 4.7), or it is answered at once: a refusal, or busy where 256 exchanges are open, 64
+    /// messages wait at the endpoint, or its message IDs are used up. The first call that finds no
+    /// room for it seals the journal. The word is 64 random bits, for the token, the ID and the
+    /// timeout.
     pub fn ask(
         &mut self,
         moment: u64,
@@ -172,31 +174,32 @@ impl<R: Relation> Core<R> {
     }
 
     /// Takes a datagram that came from this endpoint at this moment (RFC 7252 sections 4.2 to 4.5 and
-    /// 5.3.2). The whole 2.05 that ends the exchange of a GET is stored, where no write outran that; and
-    /// where a write ends, what is stored of its place goes (sections 5.6, 5.9.2). The word isn't looked
-    /// at.
+    /// 5.3.2). The reply to a GET may be one piece of several: its exchange goes on then with a message
+    /// that asks for the next one, under the next token, and ends with the last, or where that message
+    /// finds no place (RFC 7959 section 2.4). The whole 2.05 that ends the exchange of a GET is stored,
+    /// where no write outran that; and where a write ends, what is stored of its place goes (RFC 7252
+    /// sections 5.6, 5.9.2). The word is 64 random bits, for that token and its timeout.
     pub fn heard(
         &mut self,
         moment: u64,
-        _word: u64,
+        word: u64,
         peer: Peer,
         datagram: &[u8],
     ) -> Result<(), AllocError>
-        ensures heard { OnOk result (self.new
-            ≡ stepped (hears_in_room (now self.old.state.moment moment) peer datagram.now
-            self.old.state) self.old) }
+        ensures heard { OnOk result (HearsSo (now self.old.state.moment moment) word peer
+            datagram.now self.old self.new) }
         ensures memory { OnErr result (self.new ≡ self.old) }
         ensures kept { KeptInRoom self.old.state }
     {
         let moment = self.now(moment);
-        hearing::hear(self.alloc, &mut self.state, moment, peer, datagram)
+        hearing::hear(self.alloc, &mut self.state, moment, word, peer, datagram)
     }
 
     /// Does what is due at this moment (RFC 7252 sections 4.2 and 4.8.2): copies go out; messages
-    /// that were sent five times in vain are given up, and the next ones go out; and asks are answered
-    /// whose exchanges end with that, or were open for 93 seconds. Where writes end so, what is stored
-    /// of their places goes. The first call that finds no room for it seals the journal. After the seal
-    /// the asks alone are answered, for which room is held.
+    /// that were sent five times in vain are given up, and the next ones go out; and asks are
+    /// answered whose exchanges end with that, or were open for 93 seconds. Where writes end so, what
+    /// is stored of their places goes. The first call that finds no room for it seals the journal.
+    /// After the seal the asks alone are answered, for which room is held.
     pub fn tick(&mut self, moment: u64) -> Result<(), AllocError>
         ensures ticks { OnOk result (self.new
             ≡ stepped (ticks_in_room (now self.old.state.moment moment) self.old.state) self.old) }
@@ -252,6 +255,13 @@ impl<R: Relation> Core<R> {
         ensures { result.now ≡ self.now.state.exchanges }
     {
         self.state.exchanges.as_slice()
+    }
+
+    /// How many responses are stored.
+    pub fn stored_count(&self) -> usize
+        ensures { result ≡ length self.now.state.store }
+    {
+        self.state.store.len()
     }
 
     /// The moment of the next tick that has something to do, if any has: none before it changes the

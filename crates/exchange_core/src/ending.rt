@@ -1,19 +1,26 @@
 //! Exchanges that end, for whatever reason, and all who wait for them.
 
-ghost use Rattle.std.specs.Prelude.{◌≡◌, ◌≤◌, ◌<◌, ◌+◌, ◌∷◌, ◌++◌, [], List, length, map, IfOk, OnOk};
+ghost use Rattle.std.specs.Prelude.{◌≡◌, ◌≤◌, ◌<◌, ◌+◌, ◌∷◌, ◌++◌, [], ℕ, List, Option, length, map, IfOk, OnOk};
 ghost use Rattle.std.specs.List.{AllByRecursion};
 ghost use Rattle.journal_book.specs.Entries.{Deed, Written};
+ghost use Rattle.journal_book.specs.Views.{grounds_of};
+ghost use Rattle.history_laws.specs.Progress.{Ending};
 ghost use Rattle.exchange_model.specs.State.{State as CoreState};
+ghost use Rattle.exchange_model.specs.Steps.{moment_in};
+ghost use Rattle.exchange_progress.specs.Coming.{IsEnded, found_for};
 ghost use Rattle.exchange_core.specs.Answering.{given_of};
 ghost use Rattle.exchange_core.specs.Asked.{IsAskIn};
 ghost use Rattle.exchange_core.specs.Drafts.{IsDrafted};
-ghost use Rattle.exchange_core.specs.Ending.{IsAnswerTo, IsTold, deed_of, readers_told};
+ghost use Rattle.exchange_core.specs.Ending.{IsAnswerTo, IsTold, deed_of, first_moment};
+ghost use Rattle.exchange_core.specs.Matters.{readers_told};
 
 use crate::answer::Answer;
 use crate::draft::Draft;
 use crate::requests::request_of;
+use ask_model::Cause;
 use exchange_model::{Exchange, Reader};
-use journal_book::Journal;
+use exchange_progress::Ended;
+use journal_book::{Grounds, Journal};
 use reply_reading::Finding;
 use std::alloc::{AllocError, Global};
 use std::collections::VecDeque;
@@ -26,26 +33,62 @@ pub struct Telling {
     pub finding: Finding,
 }
 
-/// All who wait for the exchange are told what was found.
+/// What the reader is told of that.
+fn finding_for(ended: &Ended, reader: &Reader) -> Result<Finding, AllocError>
+    ensures { (n : ℕ) (how : Ending) (sending : Option ℕ) → IsEnded n ended.now how
+        → IfOk result (λ f. f ≡ found_for how n sending reader.now) }
+{
+    match ended {
+        Ended::Found(finding) => finding.copy(),
+        Ended::Turned => Ok(Finding::fault(Cause::Busy, reader.ask)),
+    }
+}
+
+/// All who wait for the exchange are told how it ended.
 pub fn readers_told(
     alloc: Global,
     exchange: &Exchange,
-    finding: &Finding,
+    ended: &Ended,
     readers: &[Reader],
 ) -> Result<VecDeque<Telling>, AllocError>
-    ensures { IfOk result
-        (λ v. v.items ≡ readers_told exchange.now finding.now readers.now) }
+    ensures { (n : ℕ) (how : Ending) → IsEnded n ended.now how
+        → IfOk result (λ v. v.items ≡ readers_told how n exchange.now readers.now) }
 {
     let mut told = VecDeque::new(alloc);
     'each: for reader in readers {
         if reader.opening == exchange.opening {
             told.push_back(Telling {
                 reader: *reader,
-                finding: finding.copy()?,
+                finding: finding_for(ended, reader)?,
             })?;
         }
     }
     Ok(told)
+}
+
+/// The moment from which it counts: that of its first reply, or this one, where its entry comes now.
+pub fn first_moment<R: Relation>(journal: &Journal<R>, grounds: &Grounds, moment: u64) -> u64
+    ensures { result ≡ first_moment journal.now.entries moment (grounds_of grounds.now) }
+{
+    let numbers = match grounds {
+        Grounds::Live(numbers) => numbers,
+        Grounds::Kept(numbers) => numbers,
+        Grounds::Fault(_, _) => return moment,
+    };
+    match numbers.as_slice() {
+        [first, ..] => moment_in(journal, *first, moment),
+        [] => moment,
+    }
+}
+
+/// The moment of the entry with this number, or this one, where that comes now.
+fn moment_in<R: Relation>(journal: &Journal<R>, number: u32, moment: u64) -> u64
+    ensures { result ≡ moment_in journal.now.entries moment number }
+{
+    match journal.get(number as usize) {
+        Some(entry) => entry.moment,
+        None => moment,
+    }
 }
 
 /// The answer to the reader's ask, in the entry with this number.
@@ -60,13 +103,14 @@ fn answer_to<R: Relation>(
         (λ a. IsAnswerTo journal.now.entries moment number telling (given_of a)) }
 {
     let mapped = request_of(journal, telling.reader.ask)?;
+    let heard = first_moment(journal, telling.finding.grounds(), moment);
     Ok(Answer {
         conn: telling.reader.conn,
         ask: telling.reader.ask,
         number,
         mapped,
         moment,
-        heard: moment,
+        heard,
         finding: telling.finding,
     })
 }

@@ -15,13 +15,13 @@ use journal_book::Journal;
 use std::alloc::{AllocError, Global};
 use transformers::Relation;
 
-/// Whether the exchange ends: it has been open for as long as it may, or its message is given up.
+/// Whether the exchange ends: it has been open for as long as it may, or the message to which it
+/// awaits a reply is given up.
 fn is_over(exchange: &Exchange, given: &[GivenUp], moment: u64) -> bool
     ensures { result ≡ is_over_by moment given.now exchange.now }
 {
     is_past(exchange, moment)
-        || exchange.sending.is_some()
-            && is_that(&find_given_up(given, &exchange.peer), &exchange.token)
+        || exchange.awaits && is_that(&find_given_up(given, &exchange.peer), &exchange.token)
 }
 
 /// Whether the token is that of the message that is given up.

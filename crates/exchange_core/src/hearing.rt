@@ -1,44 +1,39 @@
 //! What a datagram does.
 
-ghost use Rattle.std.specs.List.{AllByRecursion};
-ghost use Rattle.coap_codec.specs.Spelling.{Content, Spells};
-ghost use Rattle.endpoint_table.specs.Tables.{link_at};
-ghost use Rattle.std.specs.Prelude.{ℕ, ◌≡◌, ◌≤◌, ◌<◌, ◌^◌, ◌+◌, ◌∷◌, ◌++◌, [], List, None, Some, true, false, map, filter, is_some, option_to_list, sum_by, length, IfOk, IfSome, OnOk, OnErr};
+ghost use Rattle.std.specs.Prelude.{ℕ, ◌≡◌, ◌≤◌, ◌<◌, ◌+◌, ◌∷◌, ◌++◌, [], List, Some, true, false, map, is_some, sum_by, length, IfOk, IfSome, OnOk, OnErr};
 ghost use Rattle.limits.specs.declared.TheConstants.{LAST_MOMENT, MAX_ENTRIES};
-ghost use Rattle.journal_book.specs.Entries.{Deed};
-ghost use Rattle.message_layer.specs.Values.{told, response};
-ghost use Rattle.message_layer.specs.Hearing.{listed};
-ghost use Rattle.message_layer.specs.Prepared.{IsHearing, MayHeed};
-ghost use Rattle.exchange_model.specs.State.{State as CoreState, link_of};
-ghost use Rattle.exchange_model.specs.Steps.{is_other, left_by, ended_in, method_in};
-ghost use Rattle.exchange_model.specs.Entering.{confirm};
-ghost use Rattle.exchange_model.specs.Sealing.{hears_in_room};
 ghost use Rattle.ask_model.specs.Sizes.{capped};
-ghost use Rattle.journal_book.specs.Entries.{entry_size};
-ghost use Rattle.exchange_model.specs.Growing.{IsKnown};
+ghost use Rattle.journal_book.specs.Entries.{Deed, entry_size};
+ghost use Rattle.message_layer.specs.Hearing.{listed};
+ghost use Rattle.message_layer.specs.Prepared.{IsHearing, MayFollow, MayHeed};
+ghost use Rattle.endpoint_table.specs.Tables.{link_at};
+ghost use Rattle.exchange_model.specs.State.{State as CoreState, link_of};
+ghost use Rattle.exchange_model.specs.Steps.{Matter as ModelMatter, Numbers, exchanges_by, issued_by, pieces_by, store_by};
+ghost use Rattle.exchange_model.specs.Entering.{confirm};
+ghost use Rattle.exchange_core.specs.Calls.{HearsSo};
 ghost use Rattle.exchange_core.specs.Drafts.{Drafts, IsDrafted};
-ghost use Rattle.exchange_core.specs.Sound.{IsSound};
-ghost use Rattle.exchange_core.specs.Values.{stepped};
-ghost use Rattle.exchange_core.specs.Hearing.{exchanges_after, first_number, note_next, put_heard, tables_after, with_heard, found_in, over_in, told_by, link_deeds, hearing_deeds};
-ghost use Rattle.exchange_core.specs.Storing.{settled_with};
-ghost use Rattle.exchange_core.specs.Sending.{IsTimed, sent_first};
+ghost use Rattle.exchange_core.specs.Hearing.{IsNewestIn, first_number, hearing_deeds, link_deeds, note_next, over_in, tables_after, with_heard};
+ghost use Rattle.exchange_core.specs.Matters.{IsMatter, IsNextToken, TellsSo, more_in, next_in, told_of};
 ghost use Rattle.exchange_core.specs.Places.{IsOrdered};
+ghost use Rattle.exchange_core.specs.Sending.{IsTimed};
+ghost use Rattle.exchange_core.specs.Sound.{IsSound};
 ghost use Rattle.exchange_core.specs.States.{state_of, seen, given_in, outgoing, SeesSame};
+ghost use Rattle.exchange_core.specs.Storing.{put_in};
 
 use crate::draft::Draft;
 use crate::ending::{Telling, draft_tellings, readers_told};
+use crate::matter::{Matter, matter_of, next_in};
+use crate::numbering::token_of;
 use crate::room::takes;
 use crate::sealing::seal;
 use crate::sending::draft_first;
 use crate::state::{State, commit, make_places, start};
 use crate::storing::{make_room_for, put_of, settle};
-use ask_model::Cause;
 use coap_codec::{Bytes as Whole, Token};
-use exchange_model::{Exchange, Reader};
-use exchange_table::Exchanges;
+use exchange_model::Reader;
+use exchange_table::{Exchanges, Fetched};
 use journal_book::{Entry, Event, Journal};
-use message_layer::{Bytes, FirstSending, Hearing, Heeding, News, Up};
-use reply_reading::{Finding, finding_of};
+use message_layer::{Bytes, FirstSending, Hearing, Heeding, News, Submission};
 use resp_cache::{Pair, Store};
 use std::alloc::{AllocError, Global};
 use std::collections::VecDeque;
@@ -53,46 +48,6 @@ fn ended_token(heeding: &Heeding) -> Option<Token>
         News::Quiet | News::Lost => None,
         News::Response => Some(heeding.token),
         News::Reset(token) => Some(token),
-    }
-}
-
-/// The exchange that ends.
-fn ended_exchange(exchanges: &Exchanges, over: Option<Token>) -> Option<Exchange>
-    ensures { result ≡ ended_in over exchanges.now.exchanges }
-{
-    match over {
-        Some(token) => exchanges.find(&token).copied(),
-        None => None,
-    }
-}
-
-/// The code of its request, or 0 where there is no exchange.
-fn method_in(exchange: &Option<Exchange>) -> u8
-    ensures { result ≡ method_in exchange.now }
-{
-    match exchange {
-        Some(exchange) => exchange.method,
-        None => 0,
-    }
-}
-
-/// What is found of the exchange that ends, by what the link tells of the datagram in the entry with
-/// this number.
-fn finding_in(
-    alloc: Global,
-    number: u32,
-    ended: &Option<Exchange>,
-    up: Up,
-) -> Result<Option<Finding>, AllocError>
-    ensures { IfOk result (λ o. o ≡ found_in number ended.now (told up)) }
-{
-    match up {
-        Up::Response(message) => {
-            let finding = finding_of(alloc, method_in(ended), number, message)?;
-            Ok(Some(finding))
-        }
-        Up::Reset(_) => Ok(Some(Finding::fault(Cause::Reset, number))),
-        _ => Ok(None),
     }
 }
 
@@ -122,11 +77,12 @@ fn draft_link<R: Relation>(
     peer: Peer,
     datagram: &[u8],
     heeding: &Heeding,
+    next: &Option<FirstSending>,
 ) -> Result<Draft<R>, AllocError>
     requires few { length s.now.journal.entries ≤ MAX_ENTRIES }
-    requires timed { IsTimed heeding.now.next }
+    requires timed { IsTimed next.now }
     ensures drafts { IfOk result (λ d. Drafts moment (state_of s.now)
-        (link_deeds peer datagram.now heeding.now) d) }
+        (link_deeds peer datagram.now heeding.now next.now) d) }
     ensures answers { IfOk result (λ d. d.answers ≡ []) }
 {
     let mut draft = start(alloc, s);
@@ -136,21 +92,21 @@ fn draft_link<R: Relation>(
         event: Event::Heard { peer, bytes },
     })?;
     draft_reply(&mut draft, moment, peer, &heeding.reply)?;
-    draft_first(&mut draft, moment, peer, &heeding.next)?;
+    draft_first(&mut draft, moment, peer, next)?;
     Ok(draft)
 }
 
-/// All who wait for the exchange that ends, if any, and what their asks come to.
-fn told_by(
+/// All who wait for the exchange that ends, if any does, and what their asks come to.
+fn told_of(
     alloc: Global,
-    ended: &Option<Exchange>,
-    finding: &Option<Finding>,
+    matter: &Matter,
     readers: &[Reader],
 ) -> Result<VecDeque<Telling>, AllocError>
-    ensures { IfOk result (λ v. v.items ≡ told_by ended.now finding.now readers.now) }
+    ensures { (n : ℕ) (new : Numbers) (x : ModelMatter) → IsMatter n new matter.now x
+        → IfOk result (λ v. v.items ≡ told_of n x readers.now) }
 {
-    match (ended, finding) {
-        (Some(exchange), Some(finding)) => readers_told(alloc, exchange, finding, readers),
+    match matter {
+        Matter::Over(exchange, ended) => readers_told(alloc, exchange, ended, readers),
         _ => Ok(VecDeque::new(alloc)),
     }
 }
@@ -162,7 +118,7 @@ struct Brought<R: Relation> {
     put: Option<Pair>,
 }
 
-/// All that the datagram brings.
+/// All that the datagram brings, which is this to the exchanges.
 fn draft_heard<R: Relation>(
     alloc: Global,
     s: &State<R>,
@@ -170,41 +126,46 @@ fn draft_heard<R: Relation>(
     peer: Peer,
     datagram: &[u8],
     heeding: &Heeding,
-    up: Up,
+    matter: &Matter,
 ) -> Result<Brought<R>, AllocError>
     requires few { length s.now.journal.entries ≤ MAX_ENTRIES }
     requires readers { length s.now.readers.items ≤ MAX_ENTRIES }
-    requires known { AllByRecursion (IsKnown (state_of s.now)) s.now.readers.items }
-    requires timed { IsTimed heeding.now.next }
-    requires spelled { (m : Content) → told up ≡ response m → Spells m datagram.now }
-    ensures drafted { IfOk result (λ b. IsDrafted moment (state_of s.now)
-        (hearing_deeds peer datagram.now heeding.now (told up) (state_of s.now)) b.draft) }
-    ensures put { IfOk result
-        (λ b. b.put ≡ put_heard moment heeding.now (told up) (state_of s.now)) }
+    requires timed { IsTimed (next_in heeding.now matter.now) }
+    requires tells { TellsSo moment (link_deeds peer datagram.now heeding.now
+        (next_in heeding.now matter.now)) matter.now (state_of s.now) }
+    ensures drafted { (new : Numbers) (x : ModelMatter)
+        → IsMatter (length s.now.journal.entries) new matter.now x
+        → IfOk result (λ b. IsDrafted moment (state_of s.now) (hearing_deeds peer datagram.now
+        heeding.now (next_in heeding.now matter.now) x (state_of s.now)) b.draft) }
+    ensures put { (new : Numbers) (x : ModelMatter)
+        → IsMatter (length s.now.journal.entries) new matter.now x
+        → IfOk result (λ b. b.put ≡ put_in s.now.journal.entries moment x) }
 {
-    let number = s.journal.len() as u32;
-    let mut draft = draft_link(alloc, s, moment, peer, datagram, heeding)?;
-    let ended = ended_exchange(&s.exchanges, ended_token(heeding));
-    let finding = finding_in(alloc, number, &ended, up)?;
-    let told = told_by(alloc, &ended, &finding, &s.readers)?;
+    let next = next_in(heeding, matter);
+    let mut draft = draft_link(alloc, s, moment, peer, datagram, heeding, next)?;
+    let told = told_of(alloc, matter, &s.readers)?;
     draft_tellings(&mut draft, &s.journal, told, moment)?;
-    let put = put_of(alloc, &s.journal, &ended, &finding, moment, number)?;
+    let put = put_of(alloc, &s.journal, matter, moment)?;
     Ok(Brought { draft, put })
 }
 
-/// The exchange ends that the datagram ends. Where it was a write, GETs join those of its place no more.
-fn end_exchange<R: Relation>(exchanges: &mut Exchanges, journal: &Journal<R>, heeding: &Heeding)
-    ensures { let over = over_in heeding.now in let es = exchanges.old.exchanges in
-        exchanges.new.exchanges
-        ≡ left_by journal.now.entries (option_to_list (ended_in over es)) (filter (is_other over) es) }
+/// The exchanges after the datagram: one goes on, or ends; where that was a write, GETs join those of
+/// its place no more.
+fn change_exchanges<R: Relation>(exchanges: &mut Exchanges, journal: &Journal<R>, matter: &Matter)
+    requires { IsNewestIn matter.now exchanges.old.exchanges }
+    ensures { (n : ℕ) (new : Numbers) (x : ModelMatter) → IsMatter n new matter.now x
+        → exchanges.new.exchanges
+        ≡ exchanges_by journal.now.entries new.token x exchanges.old.exchanges }
 {
-    let Some(token) = ended_token(heeding) else {
-        return;
-    };
-    let ended = exchanges.find(&token).copied();
-    exchanges.remove(&token);
-    if let Some(exchange) = &ended {
-        exchanges.outrun(journal, exchange);
+    match matter {
+        Matter::Nothing => {}
+        Matter::Goes(going) => {
+            exchanges.go_on(&going.exchange.token, &going.token, going.onward.work);
+        }
+        Matter::Over(exchange, _) => {
+            exchanges.remove(&exchange.token);
+            exchanges.outrun(journal, exchange);
+        }
     }
 }
 
@@ -228,47 +189,83 @@ fn first_number(number: u32, heeding: &Heeding) -> u32
     }
 }
 
-/// The exchanges after the datagram, whose own entry comes next.
-fn change_exchanges<R: Relation>(exchanges: &mut Exchanges, journal: &Journal<R>, heeding: &Heeding)
-    requires few { length journal.now.entries ≤ MAX_ENTRIES }
-    ensures { exchanges.new.exchanges
-        ≡ exchanges_after journal.now.entries heeding.now exchanges.old.exchanges }
+/// The pieces after the datagram, whose own entry has this number. There is room for one more.
+fn change_pieces(fetched: &mut Fetched, matter: &Matter, number: u32)
+    requires { fetched.old.room ≡ true }
+    ensures { (new : Numbers) (x : ModelMatter) → IsMatter number new matter.now x
+        → fetched.new.pieces ≡ pieces_by number x fetched.old.pieces }
 {
-    end_exchange(exchanges, journal, heeding);
-    let number = journal.len() as u32;
-    note_next(exchanges, &heeding.next, first_number(number, heeding));
+    match matter {
+        Matter::Nothing => {}
+        Matter::Goes(going) => match going.onward.block {
+            Some(_) => fetched.push_in_room(going.exchange.opening, number),
+            None => fetched.drop_of(going.exchange.opening),
+        },
+        Matter::Over(exchange, _) => fetched.drop_of(exchange.opening),
+    }
 }
 
-/// The store after the datagram, which may end one of these exchanges.
+/// The store after the datagram: what is put, where something is.
 fn change_store<R: Relation>(
     store: &mut Store,
     journal: &Journal<R>,
-    exchanges: &Exchanges,
-    heeding: &Heeding,
+    matter: &Matter,
     put: Option<Pair>,
 )
-    requires room { IfSome put (λ p. store.old.room ≡ true) }
-    ensures { let ended = ended_in (over_in heeding.now) exchanges.now.exchanges in
-        store.new.pairs ≡ settled_with journal.now.entries ended put store.old.pairs }
+    requires { IfSome put (λ p. store.old.room ≡ true) }
+    ensures { (n t : ℕ) (new : Numbers) (x : ModelMatter) → IsMatter n new matter.now x
+        → put ≡ put_in journal.now.entries t x
+        → store.new.pairs ≡ store_by journal.now.entries t x store.old.pairs }
 {
-    let ended = ended_exchange(exchanges, ended_token(heeding));
-    settle(store, journal, &ended, put);
+    if let Matter::Over(exchange, _) = matter {
+        settle(store, journal, exchange, put);
+    }
 }
 
-/// The tables after the datagram.
+/// How many tokens are issued after the datagram.
+fn issued_after(issued: u32, matter: &Matter) -> u32
+    requires { issued < 4294967295 }
+    ensures { (n : ℕ) (new : Numbers) (x : ModelMatter) → IsMatter n new matter.now x
+        → result ≡ issued_by x issued }
+{
+    match matter {
+        Matter::Goes(_) => issued + 1,
+        _ => issued,
+    }
+}
+
+/// The message that is handed in.
+fn into_more(matter: Matter) -> Option<Submission>
+    ensures { result ≡ more_in matter }
+{
+    match matter {
+        Matter::Goes(going) => Some(going.submission),
+        _ => None,
+    }
+}
+
+/// The tables after the datagram. There is room for one piece more.
 fn change_tables<R: Relation>(
     s: &mut State<R>,
-    peer: Peer,
     moment: u64,
+    peer: Peer,
     heeding: Heeding,
+    matter: Matter,
     put: Option<Pair>,
 )
     requires room { IfSome put (λ p. s.old.store.room ≡ true) }
+    requires piece { s.old.fetched.room ≡ true }
     requires few { length s.old.journal.entries ≤ MAX_ENTRIES }
+    requires issued { s.old.issued < 4294967295 }
+    requires newest { IsNewestIn matter s.old.exchanges.exchanges }
     requires early { moment ≤ LAST_MOMENT }
     requires ready { MayHeed moment (link_at s.old.endpoints peer) heeding }
+    requires follows { MayFollow moment (link_at s.old.endpoints peer) heeding (more_in matter) }
     requires known { is_some (link_of s.old.endpoints.links peer).last_mid ≡ true }
-    ensures state { state_of s.new ≡ tables_after moment peer heeding put (state_of s.old) }
+    ensures state { (new : Numbers) (x : ModelMatter)
+        → IsMatter (length s.old.journal.entries) new matter x
+        → put ≡ put_in s.old.journal.entries moment x
+        → state_of s.new ≡ tables_after moment peer heeding matter x new (state_of s.old) }
     ensures journal { s.new.journal ≡ s.old.journal }
     ensures conns { s.new.conns ≡ s.old.conns }
     ensures readers { s.new.readers ≡ s.old.readers }
@@ -276,31 +273,45 @@ fn change_tables<R: Relation>(
     ensures answers { s.new.answers ≡ s.old.answers }
     ensures sends { s.new.sends ≡ s.old.sends }
 {
-    change_store(&mut s.store, &s.journal, &s.exchanges, &heeding, put);
-    change_exchanges(&mut s.exchanges, &s.journal, &heeding);
+    let number = s.journal.len() as u32;
+    change_store(&mut s.store, &s.journal, &matter, put);
+    change_exchanges(&mut s.exchanges, &s.journal, &matter);
+    let next = next_in(&heeding, &matter);
+    note_next(&mut s.exchanges, next, first_number(number, &heeding));
+    change_pieces(&mut s.fetched, &matter, number);
+    s.issued = issued_after(s.issued, &matter);
     let over = ended_token(&heeding);
-    s.endpoints.heed(&peer, heeding, over, moment);
+    s.endpoints
+        .heed(&peer, heeding, into_more(matter), over, moment);
 }
 
 /// Adds what was drafted, once there are places for it, and changes the tables.
 fn add_heard<R: Relation>(
     s: &mut State<R>,
-    peer: Peer,
     moment: u64,
+    peer: Peer,
     heeding: Heeding,
+    matter: Matter,
     brought: Brought<R>,
 ) -> Result<(), AllocError>
     requires room { length brought.draft.entries ≤ s.old.journal.room }
     requires few { length s.old.journal.entries + length brought.draft.entries ≤ MAX_ENTRIES }
     requires ordered { IsOrdered (state_of s.old) }
+    requires issued { s.old.issued < 4294967295 }
+    requires newest { IsNewestIn matter s.old.exchanges.exchanges }
     requires early { moment ≤ LAST_MOMENT }
     requires ready { MayHeed moment (link_at s.old.endpoints peer) heeding }
+    requires follows { MayFollow moment (link_at s.old.endpoints peer) heeding (more_in matter) }
     requires known { is_some (link_of s.old.endpoints.links peer).last_mid ≡ true }
-    ensures state { OnOk result
-        (state_of s.new ≡ with_heard moment peer heeding brought.put brought.draft (state_of s.old)) }
+    ensures state { (new : Numbers) (x : ModelMatter)
+        → IsMatter (length s.old.journal.entries) new matter x
+        → brought.put ≡ put_in s.old.journal.entries moment x
+        → OnOk result (state_of s.new
+        ≡ with_heard moment peer heeding matter x new brought.draft (state_of s.old)) }
     ensures bytes { OnOk result
         (s.new.bytes ≡ capped (s.old.bytes + capped (sum_by entry_size brought.draft.entries))) }
-    ensures room { OnOk result (s.new.journal.room + length brought.draft.entries ≡ s.old.journal.room) }
+    ensures room { OnOk result
+        (s.new.journal.room + length brought.draft.entries ≡ s.old.journal.room) }
     ensures answers { OnOk result (given_in s.new ≡ given_in s.old ++ brought.draft.answers) }
     ensures sends { OnOk result (outgoing s.new ≡ outgoing s.old ++ brought.draft.sends) }
     ensures same { OnErr result (SeesSame s.old s.new) }
@@ -308,16 +319,20 @@ fn add_heard<R: Relation>(
     let Brought { draft, put } = brought;
     make_places(s, &draft)?;
     make_room_for(&mut s.store, &put)?;
-    change_tables(s, peer, moment, heeding, put);
+    s.fetched.make_room()?;
+    change_tables(s, moment, peer, heeding, matter, put);
     commit(s, draft, moment);
     Ok(())
 }
 
-/// Does what a datagram brings that isn't lost, or seals the journal.
+/// Does what a datagram brings that isn't lost, or seals the journal. A next message goes under this
+/// token.
 fn take<R: Relation>(
     alloc: Global,
     s: &mut State<R>,
     moment: u64,
+    word: u64,
+    token: &Token,
     peer: Peer,
     datagram: &[u8],
     hearing: Hearing,
@@ -326,29 +341,33 @@ fn take<R: Relation>(
     requires unsealed { s.old.sealed ≡ false }
     requires later { s.old.moment ≤ moment }
     requires early { moment ≤ LAST_MOMENT }
+    requires token { IsNextToken word token.now (state_of s.old) }
     requires hears { IsHearing moment datagram.now (link_at s.old.endpoints peer) hearing }
     ensures sound { IsSound s.new }
-    ensures heard { OnOk result (seen s.new
-        ≡ stepped (hears_in_room moment peer datagram.now (state_of s.old)) (seen s.old)) }
+    ensures heard { OnOk result
+        (HearsSo moment word peer datagram.now (seen s.old) (seen s.new)) }
     ensures memory { OnErr result (seen s.new ≡ seen s.old) }
 {
     let Hearing { heeding, up } = hearing;
-    let brought = draft_heard(alloc, s, moment, peer, datagram, &heeding, up)?;
+    let matter = matter_of(alloc, s, moment, word, token, &peer, &heeding, up)?;
+    let brought = draft_heard(alloc, s, moment, peer, datagram, &heeding, &matter)?;
     let taken = takes(alloc, s, &brought.draft)?;
     if !taken {
         seal(s, moment);
         return Ok(());
     }
-    add_heard(s, peer, moment, heeding, brought)?;
+    add_heard(s, moment, peer, heeding, matter, brought)?;
     Ok(())
 }
 
 /// Takes a datagram that came from the endpoint at this moment. One from an endpoint of which
-/// nothing was asked is lost, and so is each after the seal.
+/// nothing was asked is lost, and so is each after the seal. The word makes the token and the first
+/// timeout of a next message.
 pub fn hear<R: Relation>(
     alloc: Global,
     s: &mut State<R>,
     moment: u64,
+    word: u64,
     peer: Peer,
     datagram: &[u8],
 ) -> Result<(), AllocError>
@@ -356,15 +375,16 @@ pub fn hear<R: Relation>(
     requires later { s.old.moment ≤ moment }
     requires early { moment ≤ LAST_MOMENT }
     ensures sound { IsSound s.new }
-    ensures heard { OnOk result (seen s.new
-        ≡ stepped (hears_in_room moment peer datagram.now (state_of s.old)) (seen s.old)) }
+    ensures heard { OnOk result
+        (HearsSo moment word peer datagram.now (seen s.old) (seen s.new)) }
     ensures memory { OnErr result (seen s.new ≡ seen s.old) }
 {
+    let token = token_of(s.issued, word);
     if s.sealed {
         return Ok(());
     }
     match s.endpoints.prepare_heard(&peer, datagram, moment)? {
-        Some(hearing) => take(alloc, s, moment, peer, datagram, hearing),
+        Some(hearing) => take(alloc, s, moment, word, &token, peer, datagram, hearing),
         None => Ok(()),
     }
 }

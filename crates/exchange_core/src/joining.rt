@@ -5,7 +5,7 @@ ghost use Rattle.std.specs.Arc.{arc_value};
 ghost use Rattle.limits.specs.declared.TheConstants.{LAST_MOMENT, MAX_ENTRIES};
 ghost use Rattle.journal_book.specs.Entries.{Asks};
 ghost use Rattle.journal_book.specs.Views.{ask_of};
-ghost use Rattle.exchange_model.specs.Calls.{Numbers};
+ghost use Rattle.exchange_model.specs.Steps.{Numbers};
 ghost use Rattle.exchange_model.specs.Sealing.{asks_in_room};
 ghost use Rattle.exchange_core.specs.Drafts.{Drafts};
 ghost use Rattle.exchange_core.specs.Joining.{MayJoin, is_joined_by};

@@ -17,6 +17,7 @@ mod expiring;
 mod fault;
 mod hearing;
 mod joining;
+mod matter;
 mod noting;
 mod numbering;
 mod opening;

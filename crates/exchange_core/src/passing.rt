@@ -9,6 +9,8 @@ ghost use Rattle.exchange_model.specs.Calls.{something_due};
 ghost use Rattle.exchange_model.specs.Entering.{all_deeds, all_going, gone_tokens, sent_as, tick_deeds};
 ghost use Rattle.exchange_model.specs.Steps.{is_gone, left_by, timed_out, goes_on};
 ghost use Rattle.endpoint_table.specs.Turns.{AreTurns, turns_deeds, turns_going};
+ghost use Rattle.exchange_table.specs.Places.{RiseBy};
+ghost use Rattle.exchange_table.specs.Tables.{opening_of};
 ghost use Rattle.exchange_core.specs.Drafts.{IsDrafted};
 ghost use Rattle.exchange_core.specs.Passing.{moved_on};
 ghost use Rattle.exchange_core.specs.Places.{IsOrdered};
@@ -173,6 +175,7 @@ pub fn prepare<R: Relation>(
 /// Does a tick as it was prepared.
 pub fn pass<R: Relation>(s: &mut State<R>, passing: Passing<R>, moment: u64)
     requires early { moment ≤ LAST_MOMENT }
+    requires rising { RiseBy opening_of passing.over.items }
     requires ready { AreTurns moment passing.gone.items
         s.old.endpoints.links s.old.endpoints.rooms passing.turns.items }
     requires places { HasPlaces s.old passing.draft }
@@ -197,5 +200,6 @@ pub fn pass<R: Relation>(s: &mut State<R>, passing: Passing<R>, moment: u64)
     retire_all(&mut s.store, &s.journal, &over);
     s.endpoints.tick(turns, moment, &gone);
     s.exchanges = still;
+    s.fetched.drop_all(&over);
     state::commit(s, draft, moment);
 }

@@ -18,7 +18,7 @@ use crate::fault::RotateFault;
 use crate::state::State;
 use endpoint_table::Keeping;
 use exchange_model::Exchange;
-use exchange_table::Exchanges;
+use exchange_table::{Exchanges, Fetched};
 use journal_book::Journal;
 use journal_copies::{Copies, copies_of};
 use limits::{MAX_COPIES, MAX_COPIES_LEN, MAX_NUMBERED};
@@ -107,6 +107,7 @@ fn turn<R: Relation>(
     s.endpoints.keep(keeping, moment);
     s.conns.clear();
     s.exchanges = Exchanges::new(alloc);
+    s.fetched = Fetched::new(alloc);
     s.readers.clear();
     s.store = Store::new(alloc);
     s.answers.clear();

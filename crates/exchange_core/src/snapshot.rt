@@ -17,7 +17,7 @@ use crate::outgoing::Datagram;
 use crate::state::State;
 use endpoint_table::Endpoints;
 use exchange_model::{Conn, Reader};
-use exchange_table::Exchanges;
+use exchange_table::{Exchanges, Fetched};
 use resp_cache::Store;
 use std::alloc::{AllocError, Global};
 use std::collections::VecDeque;
@@ -37,6 +37,7 @@ pub struct Snapshot<R: Relation> {
     issued: u32,
     conns: Vec<Conn>,
     exchanges: Exchanges,
+    fetched: Fetched,
     readers: Vec<Reader>,
     store: Store,
     endpoints: Endpoints,
@@ -63,6 +64,7 @@ impl<R: Relation> Model for Snapshot<R> {
         issued = s.issued;
         conns = s.conns.items;
         exchanges = s.exchanges.exchanges;
+        pieces = s.fetched.pieces;
         readers = s.readers.items;
         store = s.store.pairs;
         links = s.endpoints.links;
@@ -115,6 +117,7 @@ pub fn take_snapshot<R: Relation>(alloc: Global, s: &State<R>) -> Result<Snapsho
         issued: s.issued,
         conns: Vec::from_slice(alloc, &s.conns)?,
         exchanges: s.exchanges.copy(alloc)?,
+        fetched: s.fetched.copy(alloc)?,
         readers: Vec::from_slice(alloc, &s.readers)?,
         store: s.store.copy()?,
         endpoints: s.endpoints.copy()?,
@@ -141,6 +144,7 @@ pub fn put_back<R: Relation>(s: &mut State<R>, snapshot: Snapshot<R>)
     s.issued = snapshot.issued;
     s.conns = snapshot.conns;
     s.exchanges = snapshot.exchanges;
+    s.fetched = snapshot.fetched;
     s.readers = snapshot.readers;
     s.store = snapshot.store;
     s.endpoints.put_back(snapshot.endpoints);

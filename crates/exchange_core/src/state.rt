@@ -19,7 +19,7 @@ use crate::noting::{note_conns, note_readers};
 use crate::outgoing::Datagram;
 use endpoint_table::Endpoints;
 use exchange_model::{Conn, Reader};
-use exchange_table::Exchanges;
+use exchange_table::{Exchanges, Fetched};
 use journal_book::{Entry, Journal};
 use resp_cache::Store;
 use std::alloc::{AllocError, Global};
@@ -41,6 +41,8 @@ pub struct State<R: Relation> {
     pub issued: u32,
     pub conns: Vec<Conn>,
     pub exchanges: Exchanges,
+    /// the pieces that they have fetched
+    pub fetched: Fetched,
     /// who waits for an exchange, in the order of their asks
     pub readers: Vec<Reader>,
     /// the responses that may be served again

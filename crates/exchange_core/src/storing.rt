@@ -1,15 +1,21 @@
 //! What the end of an exchange does to the store (RFC 7252 sections 5.6 and 5.9.2).
 
-ghost use Rattle.std.specs.Prelude.{◌≡◌, true, IfOk, IfSome, OnErr, OnOk, option_map, Some, None};
+ghost use Rattle.std.specs.Prelude.{◌≡◌, ℕ, true, IfOk, IfSome, OnOk, option_map, Some, None};
 ghost use Rattle.std.specs.Arc.{arc_value};
 ghost use Rattle.cache_key.specs.Keys.{key_of};
-ghost use Rattle.exchange_model.specs.Steps.{content_at, retired, settled};
-ghost use Rattle.exchange_core.specs.Storing.{content_of, key_ended, put_for, settled_with, whole_found};
+ghost use Rattle.exchange_model.specs.Steps.{Matter as ModelMatter, Numbers, content_by, retired, settled};
+ghost use Rattle.history_laws.specs.Progress.{Ending};
+ghost use Rattle.exchange_progress.specs.Coming.{IsEnded};
+ghost use Rattle.exchange_core.specs.Matters.{IsMatter};
+ghost use Rattle.exchange_core.specs.Storing.{content_told, key_ended, put_for, put_in, settled_with, stored_for};
 
+use crate::ending::first_moment;
+use crate::matter::Matter;
 use cache_key::{Key, Reading};
 use exchange_model::Exchange;
+use exchange_progress::Ended;
 use exchange_table::asked;
-use journal_book::Journal;
+use journal_book::{Grounds, Journal};
 use reply_reading::{Finding, Outcome, Response};
 use resp_cache::{Pair, Store, StoredResponse};
 use std::alloc::{AllocError, Global};
@@ -20,55 +26,108 @@ use transformers::Relation;
 const CONTENT: u8 = 69;
 
 /// The whole 2.05 that was found, if it is one.
-fn content_in(finding: &Option<Finding>) -> Option<&Arc<Response>>
-    ensures { option_map (λ r. arc_value r.now) result ≡ content_of (whole_found finding.now) }
+fn content_in(finding: &Finding) -> Option<&Arc<Response>>
+    ensures { option_map (λ r. arc_value r.now) result ≡ content_told finding.now.told }
 {
-    match finding.as_ref()?.outcome() {
+    match finding.outcome() {
         Outcome::Whole(response) if response.code == CONTENT => Some(response),
         _ => None,
     }
 }
 
 /// What the GET reads whose exchange has ended, if no write outran it.
-fn reading_in<'a, R: Relation>(
-    journal: &'a Journal<R>,
-    ended: &Option<Exchange>,
-) -> Option<Reading<'a>>
+fn reading_in<'a, R: Relation>(journal: &'a Journal<R>, ended: &Exchange) -> Option<Reading<'a>>
     ensures { option_map (λ r. key_of r.peer r.target.now r.accept) result
-        ≡ key_ended journal.now.entries ended.now }
+        ≡ key_ended journal.now.entries (Some ended.now) }
 {
-    let exchange = ended.as_ref()?;
-    if !exchange.current {
+    if !ended.current {
         return None;
     }
-    asked(journal, exchange.opening)?.reading()
+    asked(journal, ended.opening)?.reading()
 }
 
-/// What the end of the exchange puts into the store, of what was found at this moment in the entry
-/// with this number: a whole 2.05 to a GET that no write outran. It shares the response.
-pub fn put_of<R: Relation>(
+/// The whole 2.05 that was found, as it is stored: it counts from the moment of its first reply. It
+/// shares the response.
+fn stored_for<R: Relation>(
     alloc: Global,
     journal: &Journal<R>,
-    ended: &Option<Exchange>,
-    finding: &Option<Finding>,
+    finding: &Finding,
     moment: u64,
-    number: u32,
-) -> Result<Option<Pair>, AllocError>
-    ensures { IfOk result (λ o. o ≡ put_for journal.now.entries ended.now
-        (content_at moment number (whole_found finding.now))) }
+) -> Result<Option<StoredResponse>, AllocError>
+    ensures { IfOk result (λ o. o
+        ≡ stored_for journal.now.entries moment finding.now.told finding.now.grounds) }
 {
     let Some(response) = content_in(finding) else {
         return Ok(None);
     };
+    let Grounds::Live(numbers) = finding.grounds() else {
+        return Ok(None);
+    };
+    if numbers.as_slice().is_empty() {
+        return Ok(None);
+    }
+    let heard = first_moment(journal, finding.grounds(), moment);
+    let shared = Arc::try_clone(response)?;
+    let list = Vec::from_slice(alloc, numbers.as_slice())?;
+    Ok(Some(StoredResponse::new(alloc, shared, heard, list)?))
+}
+
+/// What the exchange puts into the store that ends with what was found: a whole 2.05 to a GET that no
+/// write outran.
+fn put_found<R: Relation>(
+    alloc: Global,
+    journal: &Journal<R>,
+    ended: &Exchange,
+    finding: &Finding,
+    moment: u64,
+) -> Result<Option<Pair>, AllocError>
+    ensures { IfOk result (λ o. o ≡ put_for journal.now.entries (Some ended.now)
+        (stored_for journal.now.entries moment finding.now.told finding.now.grounds)) }
+{
     let Some(reading) = reading_in(journal, ended) else {
         return Ok(None);
     };
-    let shared = Arc::try_clone(response)?;
-    let list = Vec::from_slice(alloc, &[number])?;
+    let Some(stored) = stored_for(alloc, journal, finding, moment)? else {
+        return Ok(None);
+    };
     Ok(Some(Pair {
         key: Key::of(alloc, reading.peer, reading.target, reading.accept)?,
-        stored: StoredResponse::new(alloc, shared, moment, list)?,
+        stored,
     }))
+}
+
+/// What the end of the exchange puts into the store.
+fn put_ended<R: Relation>(
+    alloc: Global,
+    journal: &Journal<R>,
+    exchange: &Exchange,
+    ended: &Ended,
+    moment: u64,
+) -> Result<Option<Pair>, AllocError>
+    ensures { (n : ℕ) (how : Ending) → IsEnded n ended.now how
+        → IfOk result (λ o. o ≡ put_for journal.now.entries (Some exchange.now)
+        (content_by journal.now.entries moment how)) }
+{
+    match ended {
+        Ended::Found(finding) => put_found(alloc, journal, exchange, finding, moment),
+        Ended::Turned => Ok(None),
+    }
+}
+
+/// What a message puts into the store, which is this to the exchanges.
+pub fn put_of<R: Relation>(
+    alloc: Global,
+    journal: &Journal<R>,
+    matter: &Matter,
+    moment: u64,
+) -> Result<Option<Pair>, AllocError>
+    ensures { (n : ℕ) (new : Numbers) (x : ModelMatter) → IsMatter n new matter.now x
+        → IfOk result (λ o. o ≡ put_in journal.now.entries moment x) }
+{
+    match matter {
+        Matter::Over(exchange, ended) => put_ended(alloc, journal, exchange, ended, moment),
+        _ => Ok(None),
+    }
 }
 
 /// Makes room for what is put, if anything is.
@@ -104,23 +163,20 @@ pub fn retire_all<R: Relation>(store: &mut Store, journal: &Journal<R>, over: &[
     }
 }
 
-/// The exchange has ended, if any has: what it puts is stored, for which there is room, or what it
-/// changed goes.
+/// The exchange has ended: what it puts is stored, for which there is room, or what it changed goes.
 pub fn settle<R: Relation>(
     store: &mut Store,
     journal: &Journal<R>,
-    ended: &Option<Exchange>,
+    ended: &Exchange,
     put: Option<Pair>,
 )
     requires { IfSome put (λ p. store.old.room ≡ true) }
     ensures { store.new.pairs
-        ≡ settled_with journal.now.entries ended.now put store.old.pairs }
+        ≡ settled_with journal.now.entries (Some ended.now) put store.old.pairs }
 {
     if let Some(Pair { key, stored }) = put {
         store.put_in_room(key, stored);
         return;
     }
-    if let Some(exchange) = ended {
-        retire(store, journal, exchange);
-    }
+    retire(store, journal, ended);
 }

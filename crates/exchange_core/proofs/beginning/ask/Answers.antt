@@ -1,7 +1,6 @@
 use Rattle.std.proofs.Common.{refl, ap, ◌∙◌, arith}
 use Rattle.std.specs.Arc.{arc_value}
 use Rattle.ask_model.specs.Views.{Mapping}
-use Rattle.exchange_core.specs.Beginning.{asked_method}
 use Rattle.exchange_table.specs.Tables.{number_of, opening_of}
 use Rattle.exchange_core.specs.States.{state_of}
 use Rattle.exchange_core.proofs.Ordered.{latest}
@@ -23,7 +22,7 @@ exchange_of-exchange-requires g c =
 pub returns-in-Ok-clause-sound : goal.returns-in-Ok-clause-sound
 returns-in-Ok-clause-sound g c =
     let n = c.len-number.ensures in
-    let asked = c.method_of-method.ensures ∙ ap (λ (m : Mapping). asked_method m.sense) c.deref.ensures in
+    let asked = ap (λ (m : Mapping). m.sense) c.deref.ensures in
     let k = link-takes c.args.moment c.args.message.peer c.args.s.now.endpoints c.args.message.submission
     c.requires.message.ready in
     let next = sent-next _ _ _ _ _ k c.requires.message.waiting in
@@ -36,7 +35,7 @@ returns-in-Ok-clause-sound g c =
 pub returns-in-Err-clause-sound : goal.returns-in-Err-clause-sound
 returns-in-Err-clause-sound g c =
     let n = c.len-number.ensures in
-    let asked = c.method_of-method.ensures ∙ ap (λ (m : Mapping). asked_method m.sense) c.deref.ensures in
+    let asked = ap (λ (m : Mapping). m.sense) c.deref.ensures in
     let k = link-takes c.args.moment c.args.message.peer c.args.s.now.endpoints c.args.message.submission
     c.requires.message.ready in
     let next = sent-next _ _ _ _ _ k c.requires.message.waiting in
@@ -49,7 +48,7 @@ returns-in-Err-clause-sound g c =
 pub returns-in-Ok-clause-ok : goal.returns-in-Ok-clause-ok
 returns-in-Ok-clause-ok g c =
     let n = c.len-number.ensures in
-    let asked = c.method_of-method.ensures ∙ ap (λ (m : Mapping). asked_method m.sense) c.deref.ensures in
+    let asked = ap (λ (m : Mapping). m.sense) c.deref.ensures in
     let k = link-takes c.args.moment c.args.message.peer c.args.s.now.endpoints c.args.message.submission
     c.requires.message.ready in
     let next = sent-next _ _ _ _ _ k c.requires.message.waiting in
@@ -64,7 +63,7 @@ returns-in-Ok-clause-ok g c =
 pub returns-in-Err-clause-err : goal.returns-in-Err-clause-err
 returns-in-Err-clause-err g c =
     let n = c.len-number.ensures in
-    let asked = c.method_of-method.ensures ∙ ap (λ (m : Mapping). asked_method m.sense) c.deref.ensures in
+    let asked = ap (λ (m : Mapping). m.sense) c.deref.ensures in
     let k = link-takes c.args.moment c.args.message.peer c.args.s.now.endpoints c.args.message.submission
     c.requires.message.ready in
     let next = sent-next _ _ _ _ _ k c.requires.message.waiting in

@@ -1,5 +1,5 @@
 use Rattle.std.proofs.Common.{◌≡◌, ℕ, List, Option, sym, ap, subst, ◌∙◌}
-use Rattle.std.specs.Prelude.{Bool, filter, is_some, not, ◌&&◌, ◌||◌}
+use Rattle.std.specs.Prelude.{Bool, filter, not, ◌&&◌, ◌||◌}
 use Rattle.uri_map.specs.declared.peer.Peer.{Peer}
 use Rattle.exchange_model.specs.State.{PeerLink, link_of}
 use Rattle.exchange_model.specs.Steps.{is_past}
@@ -14,7 +14,7 @@ module _ (t : ℕ) (gs : List GivenUp) (links : List PeerLink)
     (h : (p : Peer) → given_at gs p ≡ given_up t (link_of links p)) where
   over-by : is_over_by t gs ≡ is_over t links
   over-by = λ i e. ap (λ (o : Option (List ℕ)).
-      is_past t e || (is_some e.sending && is_that o e.token)) (h e.peer) i
+      is_past t e || (e.awaits && is_that o e.token)) (h e.peer) i
 
   overs : (es : List Exchange)
       → filter (is_over_by t gs) es ≡ filter (is_over t links) es

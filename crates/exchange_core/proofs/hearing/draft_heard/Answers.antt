@@ -1,29 +1,31 @@
-use Rattle.std.proofs.Common.{◌≡◌, ◌++◌, length, map, List, Option, refl, ap, sym, subst, ◌∙◌, arith}
+use Rattle.std.proofs.Common.{◌≡◌, ◌++◌, length, map, ℕ, List, refl, ap, sym, subst, ◌∙◌, arith}
 use Rattle.std.specs.List.{AllByRecursion}
-use Rattle.message_layer.specs.Values.{told}
-use Rattle.exchange_model.specs.Steps.{ended_in}
+use Rattle.journal_book.specs.Entries.{Deed, Written}
 use Rattle.exchange_model.specs.State.{State}
+use Rattle.exchange_model.specs.Calls.{told_for}
+use Rattle.exchange_model.specs.Entering.{answer_of}
 use Rattle.exchange_core.specs.declared.ending.Telling.{Telling}
 use Rattle.exchange_core.specs.Drafts.{IsDrafted}
 use Rattle.exchange_core.specs.Ending.{IsTold, deed_of}
-use Rattle.exchange_core.specs.Hearing.{found_in, link_deeds, over_in, told_by}
+use Rattle.exchange_core.specs.Hearing.{link_deeds}
+use Rattle.exchange_core.specs.Matters.{next_in, told_of}
 use Rattle.exchange_core.specs.States.{state_of}
+use Rattle.exchange_core.specs.Values.{written}
 use Rattle.exchange_core.proofs.Drafting.{answers-none}
-use Rattle.exchange_core.proofs.Heard.{all-told, link-few, put-is, told-are, told-few}
+use Rattle.exchange_core.proofs.Heard.{link-few}
+use Rattle.exchange_core.proofs.Tolds.{told-few, told-same}
 use Rattle.exchange_core.proofs.hearing.draft_heard.Goals as goal
 
 pub draft_tellings-requires-clause-room : goal.draft_tellings-requires-clause-room
 draft_tellings-requires-clause-room g c =
     let S : State = state_of c.args.s.now in
-    let ended = ended_in (over_in c.args.heeding.now) S.exchanges in
-    let found = found_in (length S.entries) ended (told c.args.up) in
-    let are : c.in_ok-told.told.items ≡ told_by ended found S.readers =
-    told-are _ _ ended _ _ _ _ _ (told c.args.up) c.in_ok-told.ensures c.in_ok-finding.ensures c.deref.ensures.value c.len-number.ensures
-    (c.ended_exchange-ended.ensures ∙ ap (λ (o : Option (List _)). ended_in o S.exchanges) c.ended_token.ensures) in
+    let k = c.requires.tells in
+    let are : c.in_ok-told.told.items ≡ told_of (length S.entries) k.matter S.readers =
+    c.in_ok-told.ensures (length S.entries) k.numbers k.matter k.is ∙ ap (told_of (length S.entries) k.matter) c.deref.ensures.value in
     let next = c.in_ok-draft.ensures.drafts.next in
     let few = c.requires.few in
-    let link = link-few c.args.peer c.args.datagram.now c.args.heeding.now in
-    let most = told-few ended found S.readers in
+    let link = link-few c.args.peer c.args.datagram.now c.args.heeding.now c.next_in-next.result.now in
+    let most = told-few (length S.entries) k.matter S.readers in
     let count = ap (λ (xs : List Telling). length xs) are in
     let readers = c.requires.readers in
     omega (arith, next, few, link, most, count, readers)
@@ -32,33 +34,27 @@ pub draft_tellings-requires-clause-told : goal.draft_tellings-requires-clause-to
 draft_tellings-requires-clause-told g c =
     let t = c.args.moment in
     let S : State = state_of c.args.s.now in
-    let ended = ended_in (over_in c.args.heeding.now) S.exchanges in
-    let found = found_in (length S.entries) ended (told c.args.up) in
-    let are : c.in_ok-told.told.items ≡ told_by ended found S.readers =
-    told-are _ _ ended _ _ _ _ _ (told c.args.up) c.in_ok-told.ensures c.in_ok-finding.ensures c.deref.ensures.value c.len-number.ensures
-    (c.ended_exchange-ended.ensures ∙ ap (λ (o : Option (List _)). ended_in o S.exchanges) c.ended_token.ensures) in
+    let k = c.requires.tells in
+    let are : c.in_ok-told.told.items ≡ told_of (length S.entries) k.matter S.readers =
+    c.in_ok-told.ensures (length S.entries) k.numbers k.matter k.is ∙ ap (told_of (length S.entries) k.matter) c.deref.ensures.value in
+    let drafted : c.in_ok-draft.draft.entries ≡ map (written t) (link_deeds c.args.peer c.args.datagram.now c.args.heeding.now (next_in c.args.heeding.now c.args.matter.now)) =
+    c.in_ok-draft.ensures.drafts.entries
+    ∙ ap (λ v. map (written t) (link_deeds c.args.peer c.args.datagram.now c.args.heeding.now v)) c.next_in-next.ensures in
     subst (AllByRecursion (IsTold S.entries c.in_ok-draft.draft.entries t)) (sym are)
-    (all-told S t c.args.peer c.args.datagram.now c.args.heeding.now (told c.args.up)
-    (over_in c.args.heeding.now) found c.in_ok-draft.draft.entries
-    c.in_ok-draft.ensures.drafts.entries c.requires.known refl c.requires.spelled)
+    (subst (λ (ws : List Written). AllByRecursion (IsTold S.entries ws t) (told_of (length S.entries) k.matter S.readers)) (sym drafted) k.told)
 
 pub returns-clause-drafted : goal.returns-clause-drafted
-returns-clause-drafted g c =
+returns-clause-drafted g c = λ new x i.
     let t = c.args.moment in
     let S : State = state_of c.args.s.now in
-    let ended = ended_in (over_in c.args.heeding.now) S.exchanges in
-    let found = found_in (length S.entries) ended (told c.args.up) in
+    let n : ℕ = length S.entries in
     let ds = link_deeds c.args.peer c.args.datagram.now c.args.heeding.now in
-    let are : c.in_ok-told.told.items ≡ told_by ended found S.readers =
-    told-are _ _ ended _ _ _ _ _ (told c.args.up) c.in_ok-told.ensures c.in_ok-finding.ensures c.deref.ensures.value c.len-number.ensures
-    (c.ended_exchange-ended.ensures ∙ ap (λ (o : Option (List _)). ended_in o S.exchanges) c.ended_token.ensures) in
-    subst (λ (xs : List Telling). IsDrafted t S (ds ++ map deed_of xs) c.draft_tellings.new.draft) are
-    (c.in_ok-draft_tellings.ensures S ds refl
-    (answers-none t S ds c.in_ok-draft.draft c.in_ok-draft.ensures.drafts c.in_ok-draft.ensures.answers))
-
-pub returns-clause-put : goal.returns-clause-put
-returns-clause-put g c =
-    let S : State = state_of c.args.s.now in
-    let ended = ended_in (over_in c.args.heeding.now) S.exchanges in
-    put-is S.entries _ _ ended _ c.args.moment _ _ (told c.args.up) c.in_ok-put.ensures c.in_ok-finding.ensures c.len-number.ensures
-    (c.ended_exchange-ended.ensures ∙ ap (λ (o : Option (List _)). ended_in o S.exchanges) c.ended_token.ensures)
+    let now = c.next_in-next.result.now in
+    let are : c.in_ok-told.told.items ≡ told_of n x S.readers =
+    c.in_ok-told.ensures n new x i ∙ ap (told_of n x) c.deref.ensures.value in
+    subst (λ (es : List Deed). IsDrafted t S es c.draft_tellings.new.draft)
+    (ap (λ (xs : List Telling). ds now ++ map deed_of xs) are
+    ∙ (ap (λ (es : List Deed). ds now ++ es) (told-same n x S.readers)
+    ∙ ap (λ v. ds v ++ map answer_of (told_for n x S.readers)) c.next_in-next.ensures))
+    (c.in_ok-draft_tellings.ensures S (ds now) refl
+    (answers-none t S (ds now) c.in_ok-draft.draft c.in_ok-draft.ensures.drafts c.in_ok-draft.ensures.answers))

@@ -30,7 +30,7 @@ returns-clause-drafts g c =
     let two = c.in_ok-draft_reply.ensures.drafts S _ one in
     let three = c.in_ok-draft_first.ensures.drafts S _ two in
     subst (λ (b : List ℕ). Drafts c.args.moment S
-    (link_deeds c.args.peer b c.args.heeding.now) c.draft_first.new.draft)
+    (link_deeds c.args.peer b c.args.heeding.now c.args.next.now) c.draft_first.new.draft)
     c.in_ok-bytes.ensures three
 
 pub enter-requires-clause-next : goal.enter-requires-clause-next

@@ -1,20 +1,40 @@
 use Rattle.std.proofs.Common.{refl, sym, ◌∙◌, arith}
 use Rattle.endpoint_table.specs.Tables.{link_at}
+use Rattle.exchange_core.specs.Matters.{more_in}
 use Rattle.exchange_core.specs.States.{state_of}
-use Rattle.exchange_model.proofs.CallerLemmas.{readers-known}
+use Rattle.exchange_model.proofs.CallerLemmas.{all-asked-for, restarts-few}
+use Rattle.exchange_core.proofs.BeginSound.{issued-below}
 use Rattle.exchange_core.proofs.Ordered.{conns-ordered, ordered}
 use Rattle.exchange_core.proofs.Heard.{next-timed}
-use Rattle.exchange_core.proofs.Heeds.{spells, bytes-small}
-use Rattle.exchange_core.proofs.HeardSteps.{sound-sealed, seen-sealed, sound-heard, seen-heard}
+use Rattle.exchange_core.proofs.Heeds.{bytes-small}
+use Rattle.exchange_core.proofs.HeardSteps.{newest-in, sound-sealed, seen-sealed, sound-heard, seen-heard, tells-so}
 use Rattle.exchange_core.proofs.Readers.{few-readers}
 use Rattle.exchange_core.proofs.Sounding.{room-for}
 use Rattle.exchange_core.proofs.hearing.take.Goals as goal
 
+pub matter_of-requires-clause-few : goal.matter_of-requires-clause-few
+matter_of-requires-clause-few g c = restarts-few (state_of c.args.s.now) c.requires.sound.kept.kept
+
+pub matter_of-requires-clause-asked : goal.matter_of-requires-clause-asked
+matter_of-requires-clause-asked g c = all-asked-for (state_of c.args.s.now) c.requires.sound.kept.kept
+
+pub matter_of-requires-clause-known : goal.matter_of-requires-clause-known
+matter_of-requires-clause-known g c = c.requires.hears.known
+
 pub draft_heard-requires-clause-readers : goal.draft_heard-requires-clause-readers
 draft_heard-requires-clause-readers g c = few-readers (state_of c.args.s.now) c.requires.sound.kept
 
-pub draft_heard-requires-clause-known : goal.draft_heard-requires-clause-known
-draft_heard-requires-clause-known g c = readers-known (state_of c.args.s.now) c.requires.sound.kept
+pub draft_heard-requires-clause-timed : goal.draft_heard-requires-clause-timed
+draft_heard-requires-clause-timed g c =
+    next-timed c.args.moment c.args.peer (state_of c.args.s.now) (link_at c.args.s.now.endpoints c.args.peer) c.args.hearing.heeding
+    (more_in c.in_ok-matter.matter) c.requires.hears.ready c.in_ok-matter.ensures.follows refl c.requires.sound.kept.kept
+
+pub draft_heard-requires-clause-tells : goal.draft_heard-requires-clause-tells
+draft_heard-requires-clause-tells g c =
+    tells-so c.args.moment c.args.word c.args.peer c.args.datagram.now (state_of c.args.s.now) (link_at c.args.s.now.endpoints c.args.peer) c.args.hearing _ _ _
+    c.requires.sound c.requires.unsealed c.requires.later c.requires.early
+    (bytes-small c.args.datagram.now (λ i. omega (arith, c.type_inv.datagram i)))
+    c.requires.hears refl c.in_ok-matter.matter c.in_ok-matter.ensures
 
 pub takes-requires-clause-ordered : goal.takes-requires-clause-ordered
 takes-requires-clause-ordered g c = conns-ordered (state_of c.args.s.now) c.requires.sound.kept
@@ -22,40 +42,19 @@ takes-requires-clause-ordered g c = conns-ordered (state_of c.args.s.now) c.requ
 pub add_heard-requires-clause-ordered : goal.add_heard-requires-clause-ordered
 add_heard-requires-clause-ordered g c = ordered (state_of c.args.s.now) c.requires.sound.kept
 
-pub draft_heard-requires-clause-timed : goal.draft_heard-requires-clause-timed
-draft_heard-requires-clause-timed g c =
-    let i = c.requires.hears in
-    next-timed c.args.moment c.args.peer (state_of c.args.s.now) (link_at c.args.s.now.endpoints c.args.peer) c.args.hearing.heeding
-    i.ready
-    refl
-    c.requires.sound.kept.kept
+pub add_heard-requires-clause-issued : goal.add_heard-requires-clause-issued
+add_heard-requires-clause-issued g c = issued-below _ _ _ _ c.requires.sound
 
-pub draft_heard-requires-clause-spelled : goal.draft_heard-requires-clause-spelled
-draft_heard-requires-clause-spelled g c = λ m e.
-    spells c.args.moment c.args.datagram.now (link_at c.args.s.now.endpoints c.args.peer) c.args.hearing m c.requires.hears
-    (bytes-small c.args.datagram.now (λ i. omega (arith, c.type_inv.datagram i))) e
+pub add_heard-requires-clause-newest : goal.add_heard-requires-clause-newest
+add_heard-requires-clause-newest g c =
+    let made = c.in_ok-matter.ensures in
+    newest-in (state_of c.args.s.now) c.requires.sound.kept.kept _ c.in_ok-matter.matter _ made.numbers made.is made.worded.number
 
-pub returns-then-not-taken-clause-sound : goal.returns-then-not-taken-clause-sound
-returns-then-not-taken-clause-sound g c =
-    let e = c.seal.ensures in
-    sound-sealed c.args.moment c.args.peer c.args.datagram.now
-    (state_of c.args.s.now) (link_at c.args.s.now.endpoints c.args.peer) c.args.hearing _ _ _
-    c.requires.sound c.requires.unsealed c.requires.later c.requires.early
-    (bytes-small c.args.datagram.now (λ i. omega (arith, c.type_inv.datagram i)))
-    c.requires.hears refl
-    c.in_ok-brought.brought.draft c.in_ok-brought.ensures.drafted c.in_ok-brought.brought.put c.in_ok-brought.ensures.put _ _ _ _
-    (sym (c.in_ok-taken.ensures c.args.moment) ∙ c.if-not-taken.true) e.state e.bytes e.room e.answers
+pub add_heard-requires-clause-follows : goal.add_heard-requires-clause-follows
+add_heard-requires-clause-follows g c = c.in_ok-matter.ensures.follows
 
-pub returns-then-not-taken-clause-heard : goal.returns-then-not-taken-clause-heard
-returns-then-not-taken-clause-heard g c =
-    let e = c.seal.ensures in
-    seen-sealed c.args.moment c.args.peer c.args.datagram.now
-    (state_of c.args.s.now) (link_at c.args.s.now.endpoints c.args.peer) c.args.hearing _ _ _
-    c.requires.sound c.requires.unsealed c.requires.later c.requires.early
-    (bytes-small c.args.datagram.now (λ i. omega (arith, c.type_inv.datagram i)))
-    c.requires.hears refl
-    c.in_ok-brought.brought.draft c.in_ok-brought.ensures.drafted c.in_ok-brought.brought.put c.in_ok-brought.ensures.put _ _ _ _
-    (sym (c.in_ok-taken.ensures c.args.moment) ∙ c.if-not-taken.true) e.state e.answers e.sends
+pub add_heard-requires-clause-known : goal.add_heard-requires-clause-known
+add_heard-requires-clause-known g c = c.requires.hears.known
 
 pub add_heard-requires-clause-room : goal.add_heard-requires-clause-room
 add_heard-requires-clause-room g c =
@@ -67,29 +66,48 @@ add_heard-requires-clause-few g c =
     (room-for c.args.moment (state_of c.args.s.now) _ _ _ c.in_ok-brought.brought.draft c.requires.sound
     (sym (c.in_ok-taken.ensures c.args.moment) ∙ c.if-not-taken.false)).1
 
-pub add_heard-requires-clause-known : goal.add_heard-requires-clause-known
-add_heard-requires-clause-known g c = c.requires.hears.known
+pub returns-then-not-taken-clause-sound : goal.returns-then-not-taken-clause-sound
+returns-then-not-taken-clause-sound g c =
+    let e = c.seal.ensures in let made = c.in_ok-matter.ensures in
+    sound-sealed c.args.moment c.args.word c.args.peer c.args.datagram.now
+    (state_of c.args.s.now) (link_at c.args.s.now.endpoints c.args.peer) c.args.hearing _ _ _
+    c.requires.sound c.requires.unsealed c.requires.later c.requires.early
+    (bytes-small c.args.datagram.now (λ i. omega (arith, c.type_inv.datagram i)))
+    c.requires.hears refl c.in_ok-matter.matter made
+    c.in_ok-brought.brought.draft (c.in_ok-brought.ensures.drafted made.numbers _ made.is) _ _ _ _
+    (sym (c.in_ok-taken.ensures c.args.moment) ∙ c.if-not-taken.true) e.state e.bytes e.room e.answers
+
+pub returns-then-not-taken-clause-heard : goal.returns-then-not-taken-clause-heard
+returns-then-not-taken-clause-heard g c =
+    let e = c.seal.ensures in let made = c.in_ok-matter.ensures in
+    seen-sealed c.args.moment c.args.word c.args.peer c.args.datagram.now
+    (state_of c.args.s.now) (link_at c.args.s.now.endpoints c.args.peer) c.args.hearing _ _ _
+    c.requires.sound c.requires.unsealed c.requires.later c.requires.early
+    (bytes-small c.args.datagram.now (λ i. omega (arith, c.type_inv.datagram i)))
+    c.requires.hears refl c.in_ok-matter.matter made
+    c.in_ok-brought.brought.draft (c.in_ok-brought.ensures.drafted made.numbers _ made.is) _ _ _ _
+    (sym (c.in_ok-taken.ensures c.args.moment) ∙ c.if-not-taken.true) e.state e.answers e.sends
 
 pub returns-clause-sound : goal.returns-clause-sound
 returns-clause-sound g c =
-    let e = c.in_ok-add_heard.ensures in
-    sound-heard c.args.moment c.args.peer c.args.datagram.now
+    let e = c.in_ok-add_heard.ensures in let made = c.in_ok-matter.ensures in
+    sound-heard c.args.moment c.args.word c.args.peer c.args.datagram.now
     (state_of c.args.s.now) (link_at c.args.s.now.endpoints c.args.peer) c.args.hearing _ _ _
     c.requires.sound c.requires.unsealed c.requires.later c.requires.early
     (bytes-small c.args.datagram.now (λ i. omega (arith, c.type_inv.datagram i)))
-    c.requires.hears refl
-    c.in_ok-brought.brought.draft c.in_ok-brought.ensures.drafted c.in_ok-brought.brought.put c.in_ok-brought.ensures.put _ _ _ _
+    c.requires.hears refl c.in_ok-matter.matter made
+    c.in_ok-brought.brought.draft (c.in_ok-brought.ensures.drafted made.numbers _ made.is) _ _ _ _
     (sym (c.in_ok-taken.ensures c.args.moment) ∙ c.if-not-taken.false)
-    e.state e.bytes e.room e.answers
+    (e.state made.numbers _ made.is (c.in_ok-brought.ensures.put made.numbers _ made.is)) e.bytes e.room e.answers
 
 pub returns-clause-heard : goal.returns-clause-heard
 returns-clause-heard g c =
-    let e = c.in_ok-add_heard.ensures in
-    seen-heard c.args.moment c.args.peer c.args.datagram.now
+    let e = c.in_ok-add_heard.ensures in let made = c.in_ok-matter.ensures in
+    seen-heard c.args.moment c.args.word c.args.peer c.args.datagram.now
     (state_of c.args.s.now) (link_at c.args.s.now.endpoints c.args.peer) c.args.hearing _ _ _
     c.requires.sound c.requires.unsealed c.requires.later c.requires.early
     (bytes-small c.args.datagram.now (λ i. omega (arith, c.type_inv.datagram i)))
-    c.requires.hears refl
-    c.in_ok-brought.brought.draft c.in_ok-brought.ensures.drafted c.in_ok-brought.brought.put c.in_ok-brought.ensures.put _ _ _ _
+    c.requires.hears refl c.in_ok-matter.matter made
+    c.in_ok-brought.brought.draft (c.in_ok-brought.ensures.drafted made.numbers _ made.is) _ _ _ _
     (sym (c.in_ok-taken.ensures c.args.moment) ∙ c.if-not-taken.false)
-    e.state e.answers e.sends
+    (e.state made.numbers _ made.is (c.in_ok-brought.ensures.put made.numbers _ made.is)) e.answers e.sends

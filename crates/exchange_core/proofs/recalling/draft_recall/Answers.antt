@@ -1,4 +1,4 @@
-use Rattle.std.proofs.Common.{[], ap, arith}
+use Rattle.std.proofs.Common.{[], arith}
 use Rattle.exchange_core.specs.States.{state_of}
 use Rattle.exchange_core.proofs.Recalls.{recall-drafted}
 use Rattle.exchange_core.proofs.recalling.draft_recall.Goals as goal

@@ -1,8 +1,7 @@
-use Rattle.std.proofs.Common.{ℕ, ◌+◌, ◌++◌, List, length, refl, sym, ap, subst, ◌∙◌, arith}
+use Rattle.std.proofs.Common.{ℕ, ◌+◌, ◌++◌, List, length, sym, ap, subst, ◌∙◌, arith}
 use Rattle.std.specs.Prelude.{sum_by}
 use Rattle.std.specs.Arc.{arc_value}
 use Rattle.ask_model.specs.Sizes.{capped}
-use Rattle.ask_model.specs.Views.{Mapping}
 use Rattle.journal_book.specs.Entries.{entry_size}
 use Rattle.exchange_model.specs.State.{State}
 use Rattle.exchange_core.specs.Answering.{Given}

@@ -3,12 +3,15 @@ use Rattle.std.specs.Prelude.{sum_by, OnOk, OnErr}
 use Rattle.journal_book.specs.Entries.{entry_size}
 use Rattle.message_layer.specs.Calls.{is_among}
 use Rattle.exchange_model.specs.State.{State}
-use Rattle.exchange_model.specs.Steps.{seals}
+use Rattle.exchange_model.specs.Steps.{expires, seals}
 use Rattle.exchange_model.specs.Calls.{ticked}
 use Rattle.exchange_model.specs.Keeping.{MayStep}
 use Rattle.exchange_model.specs.Entering.{tick_deeds, IsDrained}
 use Rattle.exchange_model.specs.Room.{fits, KeptInRoom}
 use Rattle.exchange_model.specs.Sealing.{late, ticks_in_room}
+use Rattle.exchange_table.specs.Places.{RiseBy}
+use Rattle.exchange_table.specs.Tables.{opening_of}
+use Rattle.exchange_table.proofs.CallerLemmas.{rise-filter}
 use Rattle.exchange_core.specs.Values.{CoreValue, stepped}
 use Rattle.exchange_core.specs.Passing.{moved_on}
 use Rattle.exchange_core.specs.Places.{IsOrdered}
@@ -17,7 +20,7 @@ use Rattle.exchange_core.specs.States.{state_of, seen, given_in, outgoing, with_
 use Rattle.exchange_core.proofs.Stepping.{committed, same-core}
 use Rattle.exchange_core.proofs.TickSound.{sees-sound}
 use Rattle.exchange_core.proofs.TickSteps.{when-fits, when-full, fits-in-room, tick-drained, tick-fits, tick-moved}
-use Rattle.exchange_core.proofs.Ordered.{ordered}
+use Rattle.exchange_core.proofs.Ordered.{exchanges-ordered, ordered}
 use Rattle.exchange_core.proofs.Sounding.{room-for, sound-drafted}
 use Rattle.exchange_core.proofs.ticking.tick_due.Goals as goal
 
@@ -90,6 +93,13 @@ returns-then-not-taken-clause-memory g c =
 pub pass-requires-clause-ready : goal.pass-requires-clause-ready
 pass-requires-clause-ready g c =
     rw (c.in_ok-make_places.ensures.endpoints) c.in_ok-passing.ensures.ready
+
+pub pass-requires-clause-rising : goal.pass-requires-clause-rising
+pass-requires-clause-rising g c =
+    let S : State = state_of c.args.s.now in
+    subst (RiseBy opening_of) (sym c.in_ok-passing.ensures.over)
+    (rise-filter opening_of (expires c.args.moment S.links) S.exchanges
+    (exchanges-ordered S c.requires.sound.kept.kept))
 
 pub pass-requires-clause-room : goal.pass-requires-clause-room
 pass-requires-clause-room g c =

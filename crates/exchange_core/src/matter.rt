@@ -1,0 +1,222 @@
+//! What a datagram is to the open exchanges.
+
+ghost use Rattle.std.specs.Prelude.{◌≡◌, ◌≤◌, ◌<◌, ◌^◌, None, Some, true, is_some, IfOk, IfSome, length};
+ghost use Rattle.std.specs.List.{AllByRecursion, find};
+ghost use Rattle.coap_codec.specs.Spelling.{Spells};
+ghost use Rattle.limits.specs.declared.TheConstants.{LAST_MOMENT, MAX_ENTRIES, MAX_MESSAGE_LEN};
+ghost use Rattle.ask_model.specs.Requests.{CoapRequest, block_message};
+ghost use Rattle.ask_model.specs.Datagrams.{block_or_first};
+ghost use Rattle.blockwise.specs.Downloads.{IsSayable};
+ghost use Rattle.message_layer.specs.Values.{told};
+ghost use Rattle.message_layer.specs.Prepared.{IsUnnumberedCon, MayHeed};
+ghost use Rattle.endpoint_table.specs.Tables.{link_at};
+ghost use Rattle.exchange_model.specs.State.{link_of};
+ghost use Rattle.exchange_model.specs.Steps.{asked_in, has_next_place, is_under};
+ghost use Rattle.exchange_progress.specs.Coming.{AsksSayable};
+ghost use Rattle.exchange_core.specs.Matters.{IsAnswered, IsAskedFor, IsFewTimes, IsNextFor, IsNextToken, IsPrepared, answer_in, matter_for, next_in};
+ghost use Rattle.exchange_core.specs.States.{state_of};
+
+use crate::state::State;
+use ask_model::Cause;
+use coap_codec::{Block, Bytes, Token};
+use exchange_model::Exchange;
+use exchange_progress::{Coming, Ended, Onward, comes_to};
+use exchange_table::asked;
+use journal_book::Journal;
+use message_layer::{FirstSending, Heeding, LinkFault, Submission, Up};
+use reply_reading::Finding;
+use std::alloc::{AllocError, Global};
+use transformers::Relation;
+use uri_map::Peer;
+
+/// The exchange that a datagram answers, and what that comes to.
+#[derive(Drop)]
+pub struct Answered {
+    pub exchange: Exchange,
+    pub coming: Coming,
+}
+
+/// An exchange that goes on, with its next message.
+#[derive(Drop)]
+pub struct Going {
+    pub exchange: Exchange,
+    pub onward: Onward,
+    /// what its next message goes under
+    pub token: Token,
+    pub submission: Submission,
+}
+
+/// What a datagram is to the exchanges.
+#[derive(Drop)]
+pub enum Matter {
+    /// nothing
+    Nothing,
+    /// by it an exchange goes on
+    Goes(Going),
+    /// by it this exchange ends so
+    Over(Exchange, Ended),
+}
+
+/// The exchange whose latest message goes under the token.
+fn exchange_under<R: Relation>(s: &State<R>, token: &Token) -> Option<Exchange>
+    requires { AllByRecursion IsFewTimes s.now.exchanges.exchanges }
+    ensures is { result ≡ find (is_under token.now) s.now.exchanges.exchanges }
+    ensures few { IfSome result IsFewTimes }
+{
+    s.exchanges.find(token).copied()
+}
+
+/// The exchange that the datagram answers, by what its link tells of it, and what that comes to by the
+/// entry with this number.
+fn answer_in<R: Relation>(
+    alloc: Global,
+    s: &State<R>,
+    number: u32,
+    token: &Token,
+    up: Up,
+) -> Result<Option<Answered>, AllocError>
+    requires number { number ≡ length s.now.journal.entries }
+    requires few { AllByRecursion IsFewTimes s.now.exchanges.exchanges }
+    ensures is { IfOk result
+        (λ o. IsAnswered number o (answer_in (told up) token.now (state_of s.now))) }
+    ensures sayable { IfOk result (λ o. IfSome o (λ a. AsksSayable a.coming)) }
+{
+    match up {
+        Up::Response(message) => {
+            let Some(exchange) = exchange_under(s, token) else {
+                return Ok(None);
+            };
+            let pieces = s.fetched.as_slice();
+            let coming = comes_to(alloc, &s.journal, pieces, &exchange, number, message)?;
+            Ok(Some(Answered { exchange, coming }))
+        }
+        Up::Reset(of) => {
+            let Some(exchange) = exchange_under(s, &of) else {
+                return Ok(None);
+            };
+            let finding = Finding::fault(Cause::Reset, number);
+            let coming = Coming::Ends(Ended::Found(finding));
+            Ok(Some(Answered { exchange, coming }))
+        }
+        _ => Ok(None),
+    }
+}
+
+/// The message for this block of what the ask with this number was for, or of its body, or for the first,
+/// under message ID 0.
+fn next_text<R: Relation>(
+    alloc: Global,
+    journal: &Journal<R>,
+    opening: u32,
+    block: Option<Block>,
+    token: &Token,
+) -> Result<Bytes, AllocError>
+    requires asked { is_some (asked_in journal.now.entries opening) ≡ true }
+    requires block { IfSome block IsSayable }
+    ensures spelled { (q : CoapRequest) → asked_in journal.now.entries opening ≡ Some q
+        → IfOk result (λ text. Spells (block_message q (block_or_first q block) 0 token.now) text) }
+    ensures short { IfOk result (λ text. length text ≤ MAX_MESSAGE_LEN) }
+    ensures message { IfOk result (IsUnnumberedCon token.now) }
+{
+    let Some(mapped) = asked(journal, opening) else {
+        unreachable!()
+    };
+    let Some(text) = mapped.request(alloc, block, 0, token)? else {
+        unreachable!()
+    };
+    Ok(text)
+}
+
+/// Prepares the next message of the exchange, under the next token, or finds no place for it.
+fn prepare_next<R: Relation>(
+    alloc: Global,
+    s: &State<R>,
+    moment: u64,
+    word: u64,
+    token: &Token,
+    peer: &Peer,
+    heeding: &Heeding,
+    opening: u32,
+    block: Option<Block>,
+) -> Result<Option<Submission>, AllocError>
+    requires early { moment ≤ LAST_MOMENT }
+    requires ready { MayHeed moment (link_at s.now.endpoints peer.now) heeding.now }
+    requires known { is_some (link_of s.now.endpoints.links peer.now).last_mid ≡ true }
+    requires asked { is_some (asked_in s.now.journal.entries opening) ≡ true }
+    requires block { IfSome block IsSayable }
+    ensures next { (q : CoapRequest) → asked_in s.now.journal.entries opening ≡ Some q
+        → IfOk result (λ o. IfSome o (IsNextFor moment word
+        (link_at s.now.endpoints peer.now) heeding.now q block token.now)) }
+    ensures place { IfOk result (λ o. is_some o
+        ≡ has_next_place moment peer.now heeding.now.verdict (state_of s.now)) }
+{
+    let text = next_text(alloc, &s.journal, opening, block, token)?;
+    match s
+        .endpoints
+        .prepare_more(peer, heeding, *token, text.as_slice(), moment, word)
+    {
+        Ok(submission) => Ok(Some(submission)),
+        Err(LinkFault::Memory) => Err(AllocError),
+        Err(_) => Ok(None),
+    }
+}
+
+/// What the datagram is to the exchanges, by what its link tells of it. A next message goes under
+/// this token.
+pub fn matter_of<R: Relation>(
+    alloc: Global,
+    s: &State<R>,
+    moment: u64,
+    word: u64,
+    token: &Token,
+    peer: &Peer,
+    heeding: &Heeding,
+    up: Up,
+) -> Result<Matter, AllocError>
+    requires entries { length s.now.journal.entries ≤ MAX_ENTRIES }
+    requires few { AllByRecursion IsFewTimes s.now.exchanges.exchanges }
+    requires asked { AllByRecursion (IsAskedFor s.now.journal.entries) s.now.exchanges.exchanges }
+    requires early { moment ≤ LAST_MOMENT }
+    requires ready { MayHeed moment (link_at s.now.endpoints peer.now) heeding.now }
+    requires known { is_some (link_of s.now.endpoints.links peer.now).last_mid ≡ true }
+    requires token { IsNextToken word token.now (state_of s.now) }
+    ensures { IfOk result (λ k. IsPrepared moment word (link_at s.now.endpoints peer.now)
+        heeding.now (state_of s.now) k
+        (matter_for moment peer.now heeding.now (told up) (state_of s.now))) }
+{
+    let number = s.journal.len() as u32;
+    let Some(answered) = answer_in(alloc, s, number, &heeding.token, up)? else {
+        return Ok(Matter::Nothing);
+    };
+    let Answered { exchange, coming } = answered;
+    match coming {
+        Coming::Ends(ended) => Ok(Matter::Over(exchange, ended)),
+        Coming::Goes(onward) => {
+            let opening = exchange.opening;
+            let block = onward.block;
+            let next = prepare_next(alloc, s, moment, word, token, peer, heeding, opening, block)?;
+            match next {
+                Some(submission) => Ok(Matter::Goes(Going {
+                    exchange,
+                    onward,
+                    token: *token,
+                    submission,
+                })),
+                None => Ok(Matter::Over(exchange, Ended::Turned)),
+            }
+        }
+    }
+}
+
+/// The message that goes out next: the one that waited first, or else the one that is handed in.
+pub fn next_in<'a>(heeding: &'a Heeding, matter: &'a Matter) -> &'a Option<FirstSending>
+    ensures { result.now ≡ next_in heeding.now matter.now }
+{
+    if heeding.next.is_some() {
+        return &heeding.next;
+    }
+    match matter {
+        Matter::Goes(going) => &going.submission.sent,
+        _ => &heeding.next,
+    }
+}
