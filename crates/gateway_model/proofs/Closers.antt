@@ -13,7 +13,7 @@ use Rattle.http_mapping.specs.Means.{closes}
 use Rattle.history_claims.specs.Headline.{IsEntry}
 use Rattle.exchange_model.specs.declared.kept.Conn.{Conn}
 use Rattle.exchange_model.specs.State.{State}
-use Rattle.exchange_model.specs.Steps.{shuts, seals}
+use Rattle.exchange_model.specs.Steps.{shuts, seals, Numbers}
 use Rattle.exchange_model.specs.Calls.{heard}
 use Rattle.exchange_model.specs.Resting.{HasConn}
 use Rattle.exchange_model.specs.Growing.{at_moment}
@@ -345,11 +345,12 @@ act-closes M w (Takes c bytes) old out new i h =
     (λ d x e. changed-before c d (extended bytes) old.unasked x (λ x n. extended-number bytes x ∙ n)
     (subst (λ (s : Served). unasked_at d s.unasked ≡ Some x) h.0 e)) refl tt tt (λ d g. tt))
 act-closes M w (Hears p bytes) old out new i h =
-    subst (ActCloses M old new) (sym h.1)
-    (steps-close M old new (ap (λ (s : Served). s.unasked) h.0)
-    (steps-by (hears_in_room (at w old) p bytes old.core.state) old.core new.core (ap (λ (s : Served). s.core) h.0)
-    (hears-move (at w old) p bytes old.core.state h.3)) h.2
-    (λ s. ap (λ (x : Served). x.core.state.sealed) h.0 ∙ stays-sealed (at w old) (heard (at w old) p bytes old.core.state) old.core.state s))
+    let n : Numbers = h.0.numbers in
+    subst (ActCloses M old new) (sym h.2)
+    (steps-close M old new h.1
+    (steps-by (hears_in_room (at w old) p bytes n old.core.state) old.core new.core h.0.is
+    (hears-move (at w old) p bytes n old.core.state h.4)) h.3
+    (λ s. ap (λ (v : CoreValue). v.state.sealed) h.0.is ∙ stays-sealed (at w old) (heard (at w old) p bytes n old.core.state) old.core.state s))
 act-closes M w Passes old out new i h =
     subst (ActCloses M old new) (sym h.1)
     (steps-close M old new (ap (λ (s : Served). s.unasked) h.0)

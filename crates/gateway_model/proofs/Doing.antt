@@ -10,8 +10,7 @@ use Rattle.history_laws.specs.Justified.{Stands}
 use Rattle.history_claims.specs.Headline.{IsEntry}
 use Rattle.history_claims.proofs.CallerLemmas.{answer-once}
 use Rattle.exchange_model.specs.State.{State}
-use Rattle.exchange_model.specs.Steps.{shuts}
-use Rattle.exchange_model.specs.Calls.{Numbers}
+use Rattle.exchange_model.specs.Steps.{shuts, Numbers}
 use Rattle.exchange_model.specs.Growing.{Adds, at_moment, IsOfAsk, by_client, HasNoClient}
 use Rattle.exchange_model.specs.Sealing.{opens_in_room, asks_in_room, hears_in_room, ticks_in_room}
 use Rattle.exchange_model.proofs.CallerLemmas.{asks-add, asks-answer, hears-add, hears-answer, opens-add, opens-alone, ticks-add, ticks-answer}
@@ -298,10 +297,11 @@ did-act M G w (Takes c bytes) goes old out new h =
     subst (λ (out : List Emission). Did M G old.core out new.core) (sym h.1)
     (did-aside M G old.core new.core [] (ap (λ (s : Served). s.core) h.0) (aside-none G))
 did-act M G w (Hears p bytes) goes old out new h =
-    subst (λ (out : List Emission). Did M G old.core out new.core) (sym h.1)
-    (let x : Adds (at w old) old.core.state (hears_in_room (at w old) p bytes old.core.state) = hears-add (at w old) p bytes old.core.state in
-    did-hears M G (at w old) old.core new.core (hears_in_room (at w old) p bytes old.core.state) h.2
-    (ap (λ (s : Served). s.core) h.0) x (hears-answer (at w old) p bytes old.core.state x))
+    subst (λ (out : List Emission). Did M G old.core out new.core) (sym h.2)
+    (let S : State = hears_in_room (at w old) p bytes h.0.numbers old.core.state in
+    let x : Adds (at w old) old.core.state S = hears-add (at w old) p bytes h.0.numbers old.core.state in
+    did-hears M G (at w old) old.core new.core S h.3 h.0.is x
+    (hears-answer (at w old) p bytes h.0.numbers old.core.state x))
 did-act M G w Passes goes old out new h =
     subst (λ (out : List Emission). Did M G old.core out new.core) (sym h.1)
     (let x : Adds (at w old) old.core.state (ticks_in_room (at w old) old.core.state) = ticks-add (at w old) old.core.state in

@@ -9,7 +9,7 @@ use Rattle.ask_model.specs.Views.{Ask}
 use Rattle.journal_book.specs.Entries.{Hears as Heard, Passes as Passed, Deed, Written}
 use Rattle.http_mapping.specs.Means.{closes}
 use Rattle.exchange_model.specs.State.{State}
-use Rattle.exchange_model.specs.Steps.{opens, shuts, seals}
+use Rattle.exchange_model.specs.Steps.{opens, shuts, seals, Numbers}
 use Rattle.exchange_model.specs.Calls.{asked, something_due, ticked}
 use Rattle.exchange_model.specs.Growing.{at_moment}
 use Rattle.exchange_model.specs.Keeping.{IsDone}
@@ -193,12 +193,13 @@ input-shows M w (H.Bytes c bytes) acts old out new h o kept =
 input-shows M w (H.Datagram p bytes) acts old out new h o kept =
     let d = subst (λ (xs : List Act). DoesAll M w xs old out new) o.are h in
     let S : State = old.core.state in
-    let heard : d.0.core.state ≡ hears_in_room (at w old) p bytes.now S = ap (λ (s : Served). s.core.state) d.3.0 in
+    let n : Numbers = d.3.0.numbers in
+    let heard : d.0.core.state ≡ hears_in_room (at w old) p bytes.now n S = ap (λ (v : CoreValue). v.state) d.3.0.is in
     let rest : GoesSo d.0.core.state new.core.state = goes-all M w o.rest d.0 d.2 new (each-delivers IsOther each-other o.rest o.then) d.4 in
     by d.0.core.state rest
     (subst
     (λ (X : State). Firstly (at w old) (Heard p bytes.now) S X ⊎ (Unheard S X × IsLost (at w old) p bytes.now S X))
-    (sym heard) (hears-first (at w old) p bytes.now S))
+    (sym heard) (hears-first (at w old) p bytes.now n S))
   where
     by : (S1 : State) → GoesSo S1 new.core.state
         → Firstly (at w old) (Heard p bytes.now) old.core.state S1

@@ -136,8 +136,7 @@ once M w c (Takes d bytes) old out new h = plain (owed c new) (owed c old)
           ∙ subst (λ (s : Served). unasked_at c s.unasked ≡ Some x) h.0 e,
       refl,
     )
-once M w c (Hears p bytes) old out new h =
-    plain (owed c new) (owed c old) (same-at c old new (ap (λ (s : Served). s.unasked) h.0))
+once M w c (Hears p bytes) old out new h = plain (owed c new) (owed c old) (same-at c old new h.1)
 once M w c Passes old out new h =
     plain (owed c new) (owed c old) (same-at c old new (ap (λ (s : Served). s.unasked) h.0))
 once M w c (Asks d) old out new h =

@@ -27,8 +27,8 @@ use Rattle.ask_model.specs.Requests.{CoapRequest, Sense, Requests, Refuses}
 use Rattle.ask_model.specs.Views.{Ask}
 use Rattle.ask_model.specs.declared.cause.Cause.TheVariants as C
 use Rattle.journal_book.specs.Entries.{Kept, Fault, Deed, Opens, Asks, Sends, Hears, Passes, Answers, Shuts, Seals, Written}
-use Rattle.exchange_model.specs.Steps.{recalls, opens, asks, shuts, seals, begins, hears, hears_nothing, sends_first, sends_copy, is_past, joins, timed_out, passes}
-use Rattle.exchange_model.specs.Calls.{asked_for, served_in, serves, Numbers, next_by, next, refused, has_place, asked_by, asked, given_back, Telling, tells, told_for, told_late, joined, asked_with, takes_new, takes_by, repeats, resets, reads_so, heard, is_due, moves_by, moves, move_all, peer_of, something_due, ticked, ended_by, grounds_of}
+use Rattle.exchange_model.specs.Steps.{recalls, opens, asks, shuts, seals, begins, Numbers, matter_of, hears, hears_nothing, sends_first, sends_copy, is_past, joins, timed_out, passes}
+use Rattle.exchange_model.specs.Calls.{asked_for, served_in, serves, next_by, next, refused, has_place, asked_by, asked, given_back, Telling, tells, told_for, told_late, joined, asked_with, takes_new, takes_by, repeats, resets, reads_so, heard, is_due, moves_by, moves, move_all, peer_of, something_due, ticked}
 use Rattle.exchange_model.specs.declared.kept.Exchange.{Exchange}
 use Rattle.exchange_model.specs.State.{State, link_of}
 use Rattle.exchange_model.specs.Entering.{answer_of}
@@ -302,37 +302,37 @@ lost-crowded t s m e = kind m.kind e
     kind Rst e = absurd (rst s.outstanding e)
 
 -- It stands first; or nothing changes, since it was lost.
-reads-first : (t : ℕ) (p : Peer) (d : List ℕ) (S : State)
-    → Firstly t (Hears p d) S (reads_so t p d (message_at d) S) ⊎ ((reads_so t p d (message_at d) S ≡ S) × KeepsMany t p S)
-reads-first t p d S = read (message_at d)
+reads-first : (t : ℕ) (p : Peer) (d : List ℕ) (n : Numbers) (S : State)
+    → Firstly t (Hears p d) S (reads_so t p d n (message_at d) S) ⊎ ((reads_so t p d n (message_at d) S ≡ S) × KeepsMany t p S)
+reads-first t p d n S = read (message_at d)
   where
     nothing : (bs : List (List ℕ)) → Firstly t (Hears p d) S (given_back t p bs (hears_nothing t p d S))
     nothing bs = first t (Hears p d) S (hears_nothing t p d S) _ refl (given-unheard t p bs (hears_nothing t p d S))
 
-    new : (m : Content) (v : Verdict) → Firstly t (Hears p d) S (takes_new t p d m v S)
+    new : (m : Content) (v : Verdict) → Firstly t (Hears p d) S (takes_new t p d m v n S)
     new m v =
-        let S1 = hears t p d m S in
+        let S1 = hears t p d m n S in
         let S2 = given_back t p (replies m.mid v.reply) S1 in
         let S3 = next t p S2 in
-        first t (Hears p d) S S1 (takes_new t p d m v S) refl
-        (both S1 S3 (takes_new t p d m v S)
+        first t (Hears p d) S S1 (takes_new t p d m v n S) refl
+        (both S1 S3 (takes_new t p d m v n S)
         (both S1 S2 S3 (given-unheard t p (replies m.mid v.reply) S1) (next-unheard t p S2))
-        (all-told-unheard t (told_for (ended_by v m S) (grounds_of v m S) S.readers) S3))
+        (all-told-unheard t (told_for (length S.entries) (matter_of t p m v S) S.readers) S3))
 
     taken : (m : Content) (v : Verdict) → (v.news ≡ N.Lost → KeepsMany t p S) → (news : News) → v.news ≡ news
-        → Firstly t (Hears p d) S (takes_by t p d m v news S) ⊎ ((takes_by t p d m v news S ≡ S) × KeepsMany t p S)
+        → Firstly t (Hears p d) S (takes_by t p d m v n news S) ⊎ ((takes_by t p d m v n news S ≡ S) × KeepsMany t p S)
     taken m v crowded N.Lost e = inr (refl, crowded e)
     taken m v crowded N.Quiet e = inl (new m v)
     taken m v crowded N.Response e = inl (new m v)
     taken m v crowded (N.Reset token) e = inl (new m v)
 
     message : (m : Content) (v : Verdict) → (v.news ≡ N.Lost → KeepsMany t p S) → (b : Bool)
-        → Firstly t (Hears p d) S (cond b (given_back t p (replies m.mid v.reply) (hears_nothing t p d S)) (takes_by t p d m v v.news S))
-        ⊎ ((cond b (given_back t p (replies m.mid v.reply) (hears_nothing t p d S)) (takes_by t p d m v v.news S) ≡ S) × KeepsMany t p S)
+        → Firstly t (Hears p d) S (cond b (given_back t p (replies m.mid v.reply) (hears_nothing t p d S)) (takes_by t p d m v n v.news S))
+        ⊎ ((cond b (given_back t p (replies m.mid v.reply) (hears_nothing t p d S)) (takes_by t p d m v n v.news S) ≡ S) × KeepsMany t p S)
     message m v crowded true = inl (nothing (replies m.mid v.reply))
     message m v crowded false = taken m v crowded v.news refl
 
-    read : (r : Result Content CodecFault) → Firstly t (Hears p d) S (reads_so t p d r S) ⊎ ((reads_so t p d r S ≡ S) × KeepsMany t p S)
+    read : (r : Result Content CodecFault) → Firstly t (Hears p d) S (reads_so t p d n r S) ⊎ ((reads_so t p d n r S ≡ S) × KeepsMany t p S)
     read (Ok m) = message m (verdict_of t (link_of S.links p) m) (lost-crowded t (link_of S.links p) m) (repeats t (link_of S.links p) m)
     read (Err e) = inl (nothing (resets (reset_for d)))
 
@@ -340,49 +340,49 @@ none-said : (o : Option ℕ) → is_some o ≡ false → o ≡ None
 none-said None e = refl
 none-said (Some n) e = absurd cc
 
-heard-first : (t : ℕ) (p : Peer) (d : List ℕ) (S : State)
-    → Firstly t (Hears p d) S (heard t p d S) ⊎ ((heard t p d S ≡ S)
+heard-first : (t : ℕ) (p : Peer) (d : List ℕ) (n : Numbers) (S : State)
+    → Firstly t (Hears p d) S (heard t p d n S) ⊎ ((heard t p d n S ≡ S)
     × WhyLost t p d S)
-heard-first t p d S = known (is_some (link_of S.links p).last_mid) refl
+heard-first t p d n S = known (is_some (link_of S.links p).last_mid) refl
   where
-    lost : Firstly t (Hears p d) S (reads_so t p d (message_at d) S) ⊎ ((reads_so t p d (message_at d) S ≡ S) × KeepsMany t p S)
-        → Firstly t (Hears p d) S (reads_so t p d (message_at d) S) ⊎ ((reads_so t p d (message_at d) S ≡ S)
+    lost : Firstly t (Hears p d) S (reads_so t p d n (message_at d) S) ⊎ ((reads_so t p d n (message_at d) S ≡ S) × KeepsMany t p S)
+        → Firstly t (Hears p d) S (reads_so t p d n (message_at d) S) ⊎ ((reads_so t p d n (message_at d) S ≡ S)
         × WhyLost t p d S)
     lost (inl f) = inl f
     lost (inr k) = inr (k.0, inr (inr k.1))
 
     short : (b : Bool) → nat_le (length d) 2048 ≡ b
-        → Firstly t (Hears p d) S (cond b (reads_so t p d (message_at d) S) S)
-        ⊎ ((cond b (reads_so t p d (message_at d) S) S ≡ S)
+        → Firstly t (Hears p d) S (cond b (reads_so t p d n (message_at d) S) S)
+        ⊎ ((cond b (reads_so t p d n (message_at d) S) S ≡ S)
         × WhyLost t p d S)
-    short true e = lost (reads-first t p d S)
+    short true e = lost (reads-first t p d n S)
     short false e = inr (refl, inr (inl (leb-false (length d) 2048 e)))
 
     known : (b : Bool) → is_some (link_of S.links p).last_mid ≡ b
-        → Firstly t (Hears p d) S (cond (b && nat_le (length d) 2048) (reads_so t p d (message_at d) S) S)
-        ⊎ ((cond (b && nat_le (length d) 2048) (reads_so t p d (message_at d) S) S ≡ S)
+        → Firstly t (Hears p d) S (cond (b && nat_le (length d) 2048) (reads_so t p d n (message_at d) S) S)
+        ⊎ ((cond (b && nat_le (length d) 2048) (reads_so t p d n (message_at d) S) S ≡ S)
         × WhyLost t p d S)
     known true e = short (nat_le (length d) 2048) refl
     known false e = inr (refl, inl (none-said (link_of S.links p).last_mid e))
 
-pub hears-first : (t : ℕ) (p : Peer) (d : List ℕ) (S : State)
-    → Firstly t (Hears p d) S (hears_in_room t p d S)
-    ⊎ (Unheard S (hears_in_room t p d S) × IsLost t p d S (hears_in_room t p d S))
-hears-first t p d S = by S.sealed refl
+pub hears-first : (t : ℕ) (p : Peer) (d : List ℕ) (n : Numbers) (S : State)
+    → Firstly t (Hears p d) S (hears_in_room t p d n S)
+    ⊎ (Unheard S (hears_in_room t p d n S) × IsLost t p d S (hears_in_room t p d n S))
+hears-first t p d n S = by S.sealed refl
   where
-    came : Firstly t (Hears p d) S (heard t p d S) ⊎ ((heard t p d S ≡ S)
+    came : Firstly t (Hears p d) S (heard t p d n S) ⊎ ((heard t p d n S ≡ S)
         × WhyLost t p d S)
-        → Firstly t (Hears p d) S (heard t p d S) ⊎ (Unheard S (heard t p d S) × IsLost t p d S (heard t p d S))
+        → Firstly t (Hears p d) S (heard t p d n S) ⊎ (Unheard S (heard t p d n S) × IsLost t p d S (heard t p d n S))
     came (inl f) = inl f
     came (inr k) = inr (subst (λ (S1 : State). Unheard S S1) (sym k.0) (none S), inr k.1)
 
-    fit : (b : Bool) → Firstly t (Hears p d) S (cond b (heard t p d S) (seals t S))
-        ⊎ (Unheard S (cond b (heard t p d S) (seals t S)) × IsLost t p d S (cond b (heard t p d S) (seals t S)))
-    fit true = came (heard-first t p d S)
+    fit : (b : Bool) → Firstly t (Hears p d) S (cond b (heard t p d n S) (seals t S))
+        ⊎ (Unheard S (cond b (heard t p d n S) (seals t S)) × IsLost t p d S (cond b (heard t p d n S) (seals t S)))
+    fit true = came (heard-first t p d n S)
     fit false = inr (seals-unheard t S, inl refl)
 
-    by : (b : Bool) → S.sealed ≡ b → Firstly t (Hears p d) S (cond b S (cond (fits (heard t p d S)) (heard t p d S) (seals t S)))
-        ⊎ (Unheard S (cond b S (cond (fits (heard t p d S)) (heard t p d S) (seals t S)))
-        × IsLost t p d S (cond b S (cond (fits (heard t p d S)) (heard t p d S) (seals t S))))
+    by : (b : Bool) → S.sealed ≡ b → Firstly t (Hears p d) S (cond b S (cond (fits (heard t p d n S)) (heard t p d n S) (seals t S)))
+        ⊎ (Unheard S (cond b S (cond (fits (heard t p d n S)) (heard t p d n S) (seals t S)))
+        × IsLost t p d S (cond b S (cond (fits (heard t p d n S)) (heard t p d n S) (seals t S))))
     by true e = inr (none S, inl e)
-    by false e = fit (fits (heard t p d S))
+    by false e = fit (fits (heard t p d n S))

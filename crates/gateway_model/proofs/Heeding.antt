@@ -346,11 +346,11 @@ plain-effect M w c TurnsAway old out new p h = same-effect M.IsMeaning c old new
         (turns-away (at w old) old.core.state (sym (ap (λ (v : CoreValue). v.state.sealed) sealed.0) ∙ sealed.1)))
 plain-effect M w c (Takes d bytes) old out new p h = absurd p
 plain-effect M w c (Hears q bytes) old out new p h =
-    let S : State = hears_in_room (at w old) q bytes old.core.state in
+    let S : State = hears_in_room (at w old) q bytes h.0.numbers old.core.state in
     same-effect M.IsMeaning c old new
-    (silent-as c old.core.state S new.core.state (ap (λ (s : Served). s.core.state) h.0)
-    (silent-moves c old.core.state S (hears-move (at w old) q bytes old.core.state h.3)))
-    (ap (λ (s : Served). unasked_at c s.unasked) h.0)
+    (silent-as c old.core.state S new.core.state (ap state-of h.0.is)
+    (silent-moves c old.core.state S (hears-move (at w old) q bytes h.0.numbers old.core.state h.4)))
+    (ap (unasked_at c) h.1)
 plain-effect M w c Passes old out new p h =
     let S : State = ticks_in_room (at w old) old.core.state in
     same-effect M.IsMeaning c old new

@@ -22,8 +22,8 @@ use Rattle.ask_model.specs.Views.{Ask}
 use Rattle.ask_model.specs.declared.cause.Cause.TheVariants as C
 use Rattle.journal_book.specs.Entries.{Kept, Fault, Deed, Asks, Sends, Hears, Passes, Answers, Seals, Written}
 use Rattle.history_laws.proofs.CallerLemmas.{all-more}
-use Rattle.exchange_model.specs.Steps.{recalls, opens, asks, seals, begins, hears, hears_nothing, sends_first, sends_copy, is_past, joins, timed_out, passes}
-use Rattle.exchange_model.specs.Calls.{asked_for, served_in, serves, Numbers, next_by, next, refused, has_place, asked_by, asked, given_back, Telling, tells, told_for, told_late, joined, asked_with, takes_new, takes_by, repeats, resets, reads_so, heard, is_due, moves_by, moves, move_all, peer_of, something_due, ticked, ended_by, grounds_of}
+use Rattle.exchange_model.specs.Steps.{recalls, opens, asks, seals, begins, Numbers, Matter, matter_of, hears, hears_nothing, sends_first, sends_copy, is_past, joins, timed_out, passes}
+use Rattle.exchange_model.specs.Calls.{asked_for, served_in, serves, next_by, next, refused, has_place, asked_by, asked, given_back, Telling, tells, told_for, told_late, joined, asked_with, takes_new, takes_by, repeats, resets, reads_so, heard, is_due, moves_by, moves, move_all, peer_of, something_due, ticked}
 use Rattle.exchange_model.specs.declared.kept.Conn.{Conn}
 use Rattle.exchange_model.specs.declared.kept.Exchange.{Exchange}
 use Rattle.exchange_model.specs.declared.kept.Reader.{Reader}
@@ -169,10 +169,10 @@ late-told t es rs S waits apart =
 
 -- a datagram
 
-heard-moves : (t : ℕ) (p : Peer) (d : List ℕ) (S : State) → Served S → Moves S (heard t p d S)
-heard-moves t p d S served =
+heard-moves : (t : ℕ) (p : Peer) (d : List ℕ) (n : Numbers) (S : State) → Served S → Moves S (heard t p d n S)
+heard-moves t p d n S served =
     either (is_some (link_of S.links p).last_mid && nat_le (length d) 2048) S
-    (reads_so t p d (message_at d) S) S (read (message_at d)) (none S)
+    (reads_so t p d n (message_at d) S) S (read (message_at d)) (none S)
   where
     nothing : (bs : List (List ℕ)) → Moves S (given_back t p bs (hears_nothing t p d S))
     nothing bs =
@@ -180,23 +180,26 @@ heard-moves t p d S served =
         (one t (Hears p d) S (hears_nothing t p d S) refl refl refl refl tt)
         (given-moves t p bs (hears_nothing t p d S))
 
-    new : (m : Content) (v : Verdict) → Moves S (takes_new t p d m v S)
+    new : (m : Content) (v : Verdict) → Moves S (takes_new t p d m v n S)
     new m v =
-        let S1 = hears t p d m S in
+        let S1 = hears t p d m n S in
         let S2 = given_back t p (replies m.mid v.reply) S1 in
         let S3 = next t p S2 in
-        both S S3 (takes_new t p d m v S)
+        both S S3 (takes_new t p d m v n S)
         (both S S2 S3
         (both S S1 S2 (one t (Hears p d) S S1 refl refl refl refl tt)
         (given-moves t p (replies m.mid v.reply) S1))
         (next-moves t p S2))
-        (told-move t (told_for (ended_by v m S) (grounds_of v m S) S.readers) S3
+        (told-move t (told_for (length S.entries) x S.readers) S3
         (rw (next-conns t p S2, given-conns t p (replies m.mid v.reply) S1) told.0) told.1)
       where
-        told : AreWaiting (readers_in (told_for (ended_by v m S) (grounds_of v m S) S.readers)) S.conns × Apart (readers_in (told_for (ended_by v m S) (grounds_of v m S) S.readers))
-        told = for-served (ended_by v m S) (grounds_of v m S) S.readers S.conns served.waits served.apart
+        x : Matter
+        x = matter_of t p m v S
 
-    taken : (m : Content) (v : Verdict) (news : News) → Moves S (takes_by t p d m v news S)
+        told : AreWaiting (readers_in (told_for (length S.entries) x S.readers)) S.conns × Apart (readers_in (told_for (length S.entries) x S.readers))
+        told = for-served (length S.entries) x S.readers S.conns served.waits served.apart
+
+    taken : (m : Content) (v : Verdict) (news : News) → Moves S (takes_by t p d m v n news S)
     taken m v N.Lost = none S
     taken m v N.Quiet = new m v
     taken m v N.Response = new m v
@@ -206,21 +209,21 @@ heard-moves t p d S served =
         → Moves S
         (cond (repeats t (link_of S.links p) m)
         (given_back t p (replies m.mid v.reply) (hears_nothing t p d S))
-        (takes_by t p d m v v.news S))
+        (takes_by t p d m v n v.news S))
     message m v = either (repeats t (link_of S.links p) m) S _ _
         (nothing (replies m.mid v.reply)) (taken m v v.news)
 
-    read : (r : Result Content CodecFault) → Moves S (reads_so t p d r S)
+    read : (r : Result Content CodecFault) → Moves S (reads_so t p d n r S)
     read (Ok m) = message m (verdict_of t (link_of S.links p) m)
     read (Err e) = nothing (resets (reset_for d))
 
 in-room : (t : ℕ) (S S1 : State) → Moves S S1 → Moves S (in_room t S1 S)
 in-room t S S1 x = either (fits S1) S S1 (seals t S) x (seals-move t S)
 
-pub hears-move : (t : ℕ) (p : Peer) (d : List ℕ) (S : State) → KeptInRoom S → Moves S (hears_in_room t p d S)
-hears-move t p d S kept =
-    either S.sealed S S (in_room t (heard t p d S) S) (none S)
-    (in-room t S (heard t p d S) (heard-moves t p d S (kept-served kept.kept.reading S kept.kept.rests.reads)))
+pub hears-move : (t : ℕ) (p : Peer) (d : List ℕ) (n : Numbers) (S : State) → KeptInRoom S → Moves S (hears_in_room t p d n S)
+hears-move t p d n S kept =
+    either S.sealed S S (in_room t (heard t p d n S) S) (none S)
+    (in-room t S (heard t p d n S) (heard-moves t p d n S (kept-served kept.kept.reading S kept.kept.rests.reads)))
 
 -- a tick
 

@@ -247,10 +247,11 @@ numbered M w (Takes c bytes) old out new h n =
     (ap (λ (s : Served). map number_of s.unasked) h.0 ∙ changed-numbers c (extended bytes) old.unasked (λ x e. extended-number bytes x))
     (ap (λ (s : Served). map conn_id s.core.state.conns) h.0) n
 numbered M w (Hears p bytes) old out new h n =
-    let x : Adds (at w old) old.core.state (hears_in_room (at w old) p bytes old.core.state) = hears-add (at w old) p bytes old.core.state in
-    numbers-kept old new (ap (λ (s : Served). map number_of s.unasked) h.0)
-    (ids-step (at w old) (hears_in_room (at w old) p bytes old.core.state) old.core new.core x (ap (λ (s : Served). s.core) h.0)
-    (all-clients x.more (hears-answer (at w old) p bytes old.core.state x))) n
+    let S : State = hears_in_room (at w old) p bytes h.0.numbers old.core.state in
+    let x : Adds (at w old) old.core.state S = hears-add (at w old) p bytes h.0.numbers old.core.state in
+    numbers-kept old new (ap (map number_of) h.1)
+    (ids-step (at w old) S old.core new.core x h.0.is
+    (all-clients x.more (hears-answer (at w old) p bytes h.0.numbers old.core.state x))) n
 numbered M w Passes old out new h n =
     let x : Adds (at w old) old.core.state (ticks_in_room (at w old) old.core.state) = ticks-add (at w old) old.core.state in
     numbers-kept old new (ap (λ (s : Served). map number_of s.unasked) h.0)

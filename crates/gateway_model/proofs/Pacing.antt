@@ -150,7 +150,7 @@ told-on M w c (Takes d bytes) old out new h q =
         → (cond b x (record x { text = x.text ++ bytes; unread = x.unread + length bytes })).told ≡ true
     kept x true t = t
     kept x false t = t
-told-on M w c (Hears p bytes) old out new h q = told-same c old new (ap (λ (s : Served). s.unasked) h.0) q
+told-on M w c (Hears p bytes) old out new h q = told-same c old new h.1 q
 told-on M w c Passes old out new h q = told-same c old new (ap (λ (s : Served). s.unasked) h.0) q
 told-on M w c (Asks d) old out new h q = by (which c d)
   where

@@ -193,10 +193,10 @@ hears-serve : (M : Terms) (w : When) (p : Peer) (d : List ℕ) (old : Served) (o
     → Does M w (Hears p d) old out new → AllServed old → AllServed new
 hears-serve M w p d old out new h k =
     let t : ℕ = at w old in
-    let s : StepsTo old.core new.core = steps-by (hears_in_room t p d old.core.state) old.core new.core
-    (ap (λ (x : Served). x.core) h.0) (hears-move t p d old.core.state h.3) in
+    let s : StepsTo old.core new.core = steps-by (hears_in_room t p d h.0.numbers old.core.state) old.core new.core
+    h.0.is (hears-move t p d h.0.numbers old.core.state h.4) in
     all-kept old new (base-steps old new (numbered M w (Hears p d) old out new h k.base.numbered) s k.base)
-    (λ c. keeps-steps c old new (ap (λ (x : Served). x.unasked) h.0) s k.base.once) k
+    (λ c. keeps-steps c old new h.1 s k.base.once) k
 
 passes-serve : (M : Terms) (w : When) (old : Served) (out : List Emission) (new : Served)
     → Does M w Passes old out new → AllServed old → AllServed new

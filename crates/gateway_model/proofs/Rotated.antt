@@ -157,7 +157,7 @@ module _ (M : Terms) (w : When) where
   gives-none (Opens c) old out new h = none-said out h.2
   gives-none TurnsAway old out new h = one-said _ out h.2 tt
   gives-none (Takes c bytes) old out new h = none-said out h.1
-  gives-none (Hears p bytes) old out new h = none-said out h.1
+  gives-none (Hears p bytes) old out new h = none-said out h.2
   gives-none Passes old out new h = none-said out h.1
   gives-none (Asks c) old out new h = none-said out h.1
   gives-none (Denies c) old out new h = one-said (Closed c) out h.3 tt

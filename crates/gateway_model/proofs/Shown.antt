@@ -1,16 +1,19 @@
 -- What a connection is told of an answer is what the entries say of it.
-use Rattle.std.proofs.Common.{◌≡◌, ℕ, zero, suc, ◌-◌, List, [], ◌∷◌, ◌++◌, length, Some, refl, sym, ap, subst, ◌∙◌, append-nil}
+use Rattle.std.proofs.Common.{◌≡◌, ℕ, zero, suc, ◌-◌, cond, eqb, List, [], ◌∷◌, ◌++◌, length, Option, Some, refl, sym, ap, subst, ◌∙◌, append-nil}
 use Rattle.std.specs.List.{AllByRecursion, flat_map, slice_get}
+use Rattle.coap_codec.specs.declared.block.Block.{Block}
 use Rattle.coap_codec.specs.Spelling.{Content, Spells}
 use Rattle.coap_codec.proofs.Unique.{spells_one}
 use Rattle.media_map.specs.declared.form.Form.{Form}
 use Rattle.uri_map.specs.declared.peer.Peer.{Peer}
 use Rattle.http_edge.specs.declared.answer.HttpAnswer.{HttpAnswer}
-use Rattle.ask_model.specs.Requests.{CoapRequest, Sense, Requests, Refuses}
+use Rattle.ask_model.specs.Requests.{CoapRequest, Sense, Requests, Refuses, request_message}
 use Rattle.ask_model.specs.Views.{Ask, Rules}
 use Rattle.journal_book.specs.Entries.{Grounds, Live, Kept, Fault, Asks, Hears, Answers, Written}
 use Rattle.journal_book.specs.Views.{ask_of}
-use Rattle.history_laws.specs.Responses.{Response, whole_in, whole_of}
+use Rattle.blockwise.specs.Uploads.{begun as begun_as}
+use Rattle.history_laws.specs.Responses.{Response, whole_fetched, whole_given, whole_of}
+use Rattle.history_laws.specs.Progress.{Point, first_point, block_for, point_after}
 use Rattle.history_laws.specs.Justified.{Stands}
 use Rattle.history_laws.proofs.CallerLemmas.{some-is}
 use Rattle.history_claims.specs.Headline.{IsEntry, IsHeardFirst, IsHeardFor, AreHeardFor, IsServed, RestsOn}
@@ -53,29 +56,30 @@ request-same q r e = cc
 
 -- the messages that entries spell are one list
 
-message-same : (h : List Written) (k j t : ℕ) (q : CoapRequest) (m n : Content) → IsHeardFor h k q j m → HeardAs h j t n → m ≡ n
-message-same h k j t q m n a b =
+message-same : (h : List Written) (k j t : ℕ) (q : CoapRequest) (block : Option Block) (m n : Content) → IsHeardFor h k q block j m
+    → HeardAs h j t n → m ≡ n
+message-same h k j t q block m n a b =
     let heard = a.response.heard in
     let same : heard.bytes ≡ b.bytes =
     hears-same a.response.moment t q.peer b.peer heard.bytes b.bytes (sym heard.stands ∙ b.stands) in
     spells_one m n b.bytes (subst (Spells m) same heard.spelled) b.spelled
 
-messages-same : (h : List Written) (k : ℕ) (q : CoapRequest) (js : List ℕ) (ms ns : List Content)
-    → AreHeardFor h k q js ms → AreHeard h js ns → ms ≡ ns
-messages-same h k q [] [] [] a b = refl
-messages-same h k q [] [] (n ∷ ns) a b = absurd b
-messages-same h k q [] (m ∷ ms) ns a b = absurd a
-messages-same h k q (j ∷ js) [] ns a b = absurd a
-messages-same h k q (j ∷ js) (m ∷ ms) [] a b = absurd b
-messages-same h k q (j ∷ js) (m ∷ ms) (n ∷ ns) a b =
-    ap (λ (x : Content). x ∷ ms) (message-same h k j b.0.0 q m n a.0 b.0.1)
-    ∙ ap (λ (xs : List Content). n ∷ xs) (messages-same h k q js ms ns a.1 b.1)
+messages-same : (h : List Written) (k : ℕ) (q : CoapRequest) (point : Point) (js : List ℕ) (ms ns : List Content)
+    → AreHeardFor h k q point js ms → AreHeard h js ns → ms ≡ ns
+messages-same h k q point [] [] [] a b = refl
+messages-same h k q point [] [] (n ∷ ns) a b = absurd b
+messages-same h k q point [] (m ∷ ms) ns a b = absurd a
+messages-same h k q point (j ∷ js) [] ns a b = absurd a
+messages-same h k q point (j ∷ js) (m ∷ ms) [] a b = absurd b
+messages-same h k q point (j ∷ js) (m ∷ ms) (n ∷ ns) a b =
+    ap (λ (x : Content). x ∷ ms) (message-same h k j b.0.0 q (block_for point) m n a.0 b.0.1)
+    ∙ ap (λ (xs : List Content). n ∷ xs) (messages-same h j q (point_after point m) js ms ns a.1 b.1)
 
--- What replies are as a whole goes by the method that was asked with.
-by-method : (q r : CoapRequest) (ms : List Content) → q.method ≡ r.method → whole_of q ms ≡ whole_of r ms
-by-method q r [] e = refl
-by-method q r (m ∷ []) e = ap (λ (k : ℕ). whole_in k m) e
-by-method q r (m ∷ n ∷ ms) e = refl
+-- What replies are as a whole is the same for requests that are alike.
+by-message : (q r : CoapRequest) (ms : List Content) → request_message q 0 [] ≡ request_message r 0 [] → whole_of q ms ≡ whole_of r ms
+by-message q r [] e = refl
+by-message q r (m ∷ ms) e =
+    ap (λ (n : Content). cond (eqb n.code 1) (whole_fetched m ms) (whole_given (begun_as (length n.payload) 6) (m ∷ ms))) e
 
 -- each ask of the entries is meant so
 meant-at : (M : Terms) (h : List Written) (k t c : ℕ) (a : Ask) → AreMeant M h → slice_get h k ≡ Some (written t (Asks c a)) → M.IsMeaning a
@@ -113,7 +117,7 @@ module _ (holds : Form → Form → List ℕ → List ℕ → Type 0) (takes : F
       let rests : RestsOn h n c g.ask js = rests-on-replies h n g.moment c g.ask js stands answered in
       let one = asks-same rests.shared.moment asked c c _ _ (sym rests.shared.asked.stands ∙ ask) in
       let request : rests.request ≡ q = request-same rests.request q (ap (λ (a : Ask). a.sense) one ∙ sense) in
-      let messages : rests.messages ≡ ms = messages-same h rests.opening rests.request js rests.messages ms rests.heard heard in
+      let messages : rests.messages ≡ ms = messages-same h rests.opening rests.request (first_point rests.request) js rests.messages ms rests.heard heard in
       let response : rests.response ≡ w =
       some-is rests.response w
       (sym rests.whole
@@ -147,12 +151,12 @@ module _ (holds : Form → Form → List ℕ → List ℕ → Type 0) (takes : F
       let served : IsServed h g.moment c g.ask js = rests-on-stored h n g.moment c g.ask js stands answered in
       let one = asks-same g.moment asked c c _ _ (sym served.asked.stands ∙ ask) in
       let request : served.request ≡ q = request-same served.request q (ap (λ (a : Ask). a.sense) one ∙ sense) in
-      let messages : served.messages ≡ ms = messages-same h served.opening served.other js served.messages ms served.heard heard in
-      let method : served.other.method ≡ q.method = sym (ap (λ (m : Content). m.code) (served.same.2 0 [])) ∙ ap (λ (k : CoapRequest). k.method) request in
+      let messages : served.messages ≡ ms = messages-same h served.opening served.other (first_point served.other) js served.messages ms served.heard heard in
+      let message : request_message served.other 0 [] ≡ request_message q 0 [] = sym (served.same.2 0 []) ∙ ap (λ (k : CoapRequest). request_message k 0 []) request in
       let response : served.response ≡ w =
       some-is served.response w
       (sym served.whole
-      ∙ (by-method served.other q served.messages method
+      ∙ (by-message served.other q served.messages message
       ∙ (ap (whole_of q) messages ∙ whole))) in
       let since : served.since ≡ g.heard = first-same js served.since g.heard served.first (first-heard js g.moment g.heard q ms w heard whole counts) in
       record {

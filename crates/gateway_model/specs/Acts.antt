@@ -11,11 +11,11 @@ use Rattle.http_mapping.specs.Limits.{limited}
 use Rattle.http_mapping.specs.Means.{closes}
 use Rattle.exchange_model.specs.Resting.{HasConn}
 use Rattle.exchange_model.specs.Room.{KeptInRoom}
-use Rattle.exchange_model.specs.Sealing.{hears_in_room, ticks_in_room}
+use Rattle.exchange_model.specs.Sealing.{ticks_in_room}
 use Rattle.exchange_core.specs.declared.fault.OpenFault.TheVariants as Open
 use Rattle.exchange_core.specs.declared.fault.AskFault.TheVariants as AskFault
 use Rattle.exchange_core.specs.Answering.{Given}
-use Rattle.exchange_core.specs.Calls.{now, IsOpened, IsAsked, IsClosed, IsUnknown}
+use Rattle.exchange_core.specs.Calls.{now, IsOpened, IsAsked, IsClosed, IsUnknown, HearsSo}
 use Rattle.exchange_core.specs.Taking.{IsTaken, IsSent}
 use Rattle.exchange_core.specs.Values.{CoreValue, Outgoing, Untaken, stepped}
 use Rattle.gateway_model.specs.declared.input.When.{When}
@@ -150,7 +150,7 @@ Does M w TurnsAway old out new =
 Does M w (Takes c bytes) old out new =
     (new ≡ record old { unasked = taken c bytes old.unasked }) × (out ≡ [])
 Does M w (Hears p bytes) old out new =
-    (new ≡ record old { core = stepped (hears_in_room (at w old) p bytes old.core.state) old.core })
+    HearsSo (at w old) w.word p bytes old.core new.core × (new.unasked ≡ old.unasked)
     × (out ≡ []) × (old.core.untaken ≡ []) × KeptInRoom old.core.state
 Does M w Passes old out new =
     (new ≡ record old { core = stepped (ticks_in_room (at w old) old.core.state) old.core })

@@ -3,7 +3,7 @@ use Rattle.std.specs.Prelude.{◌≡◌, ⊤, ℕ, List}
 use Rattle.std.specs.List.{Contains}
 use Rattle.media_map.specs.declared.form.Form.{Form}
 use Rattle.media_map.specs.declared.form.Form.TheVariants.{Format}
-use Rattle.ask_model.specs.Maps.{Typing as BodyTyping, Untyped, Typed, Routed, Untypable, Fails, IsLong}
+use Rattle.ask_model.specs.Maps.{Typing as BodyTyping, Untyped, Typed, Routed, Untypable, Fails}
 use Rattle.http_mapping.specs.declared.typing.Typing.{Typing}
 use Rattle.http_mapping.specs.declared.typing.Typing.TheVariants as T
 use Rattle.http_mapping.specs.declared.sending.Unsent.{Unsent}
@@ -24,5 +24,4 @@ IsAlong routes _ = ⊤
 abbrev pub HasFault : (Form → Form → List ℕ → List ℕ → Type 0) → (Form → Form → List ℕ → Type 0) → BodyTyping → List ℕ → Unsent → Type 0
 HasFault holds takes typing body U.Type = typing ≡ Untypable
 HasFault holds takes typing body U.Content = Fails holds takes typing body
-HasFault holds takes typing body U.Long = IsLong holds takes typing body
 HasFault holds takes typing body U.Memory = ⊤

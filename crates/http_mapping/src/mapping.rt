@@ -16,12 +16,12 @@ ghost use Rattle.ask_model.specs.Views.{came_of, body_of, sense_of, rules_of};
 ghost use Rattle.ask_model.specs.Maps.{Maps, MapsMethod, MapsTarget, MapsPeer, MapsBody, wanted_of, has_field, is_conditional as conditional, is_refused_write as refused_write, carried, fault_status};
 ghost use Rattle.http_mapping.specs.Limits.{limited};
 
-use crate::sending::{ONE_MESSAGE, Unsent, sending_of};
+use crate::sending::{Unsent, sending_of};
 use crate::typing::{typing_of, wanted_by};
 use ask_model::{Cause, Mapped, Meaning, Settings, incoming_size};
 use code_map::{Method, Status, method_of};
 use http_edge::{BadKind, Incoming, Memory, Request};
-use limits::MAX_REQUEST_SIZE;
+use limits::{MAX_BODY_LEN, MAX_REQUEST_SIZE};
 use media_map::{MediaFault, Wanted};
 use std::alloc::Global;
 use std::sync::Arc;
@@ -202,7 +202,6 @@ fn body_meant<R: Relation>(
         Ok(sending) => sending,
         Err(Unsent::Type) => return Ok(refused(Cause::Media, Status::UnsupportedMediaType)),
         Err(Unsent::Content) => return Ok(refused(Cause::Media, Status::BadRequest)),
-        Err(Unsent::Long) => return Ok(refused(Cause::Method, Status::NotImplemented)),
         Err(Unsent::Memory) => return Err(Memory),
     };
     let wanted = match wanted_by(alloc, request, settings) {
@@ -240,13 +239,13 @@ fn carried_body(request: &Request, method: Method) -> &[u8]
     }
 }
 
-/// Whether what is asked beside the method isn't mapped: a condition of a write, or a body that needs
-/// more than one message.
+/// Whether what is asked beside the method isn't mapped: a condition of a write, or a body that is longer
+/// than any that goes to a server.
 fn is_refused_write(request: &Request, method: Method) -> bool
     ensures { result ≡ refused_write method (content request.now) }
 {
     (method.is_write() && is_conditional(request))
-        || carried_body(request, method).len() > ONE_MESSAGE
+        || carried_body(request, method).len() > MAX_BODY_LEN
 }
 
 /// Whether the request is to be carried out only under a condition (RFC 9110, section 13.1).

@@ -2,6 +2,7 @@
 
 ghost use Rattle.std.specs.Prelude.{◌≡◌, ◌≤◌, ℕ, List, map, length, IfOk, IfErr};
 ghost use Rattle.std.specs.List.{Contains};
+ghost use Rattle.limits.specs.declared.TheConstants.{MAX_BODY_LEN};
 ghost use Rattle.media_map.specs.declared.form.Form.TheVariants.{Format};
 ghost use Rattle.transformers.specs.Keeps.{AllKeep, pair_of};
 ghost use Rattle.ask_model.specs.Views.{payload_of as payload_in};
@@ -17,9 +18,6 @@ use http_edge::Memory;
 use media_map::Form;
 use transformers::{Bank, Relation};
 
-/// The most bytes of a body that goes out in one message.
-pub const ONE_MESSAGE: usize = 1024;
-
 /// A payload in its format.
 #[derive(Drop)]
 pub struct Sending {
@@ -34,8 +32,6 @@ pub enum Unsent {
     Type,
     /// It can't be transformed.
     Content,
-    /// It needs more than one message.
-    Long,
     /// Memory ran out.
     Memory,
 }
@@ -60,16 +56,11 @@ fn transformed<R: Relation>(
     requires keep { AllKeep R.holds R.takes bank.now.stored.items }
     requires along { Contains (map pair_of bank.now.stored.items) (from.now, Format format) }
     ensures holds { IfOk result (λ b. R.holds from.now (Format format) body.now b) }
-    ensures short { IfOk result (λ b. length b ≤ 1024) }
+    ensures short { IfOk result (λ b. length b ≤ MAX_BODY_LEN) }
     ensures fault { IfErr result (λ e. HasFault R.holds R.takes (Routed from.now format) body.now e) }
 {
     match applied(bank, from, &Form::Format(format), body) {
-        Ok(Made::Bytes(bytes)) => {
-            if bytes.len() > ONE_MESSAGE {
-                return Err(Unsent::Long);
-            }
-            Ok(Bytes::of(bytes))
-        }
+        Ok(Made::Bytes(bytes)) => Ok(Bytes::of(bytes)),
         Ok(Made::Failed) => Err(Unsent::Content),
         Ok(Made::Nothing) => unreachable!(),
         Err(Memory) => Err(Unsent::Memory),

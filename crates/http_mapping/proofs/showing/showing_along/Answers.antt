@@ -14,7 +14,7 @@ returns-in-Bytes g c =
     let made = made_bytes _ g.R.Relation.holds g.R.Relation.takes _ _ _ _ c.in-Bytes.body c.in-Bytes.is c.in_ok-applied.ensures in
     shows_other _ c.args.mapped.now c.args.response.now c.args.format c.args.wanted.now c.requires.has_format c.requires.wanted
     g.R.Relation.holds g.R.Relation.takes c.in_ok-copy.field-0 c.as_slice.result.now c.in_ok-copy.ensures c.as_slice.ensures c.requires.filled
-    c.in-Bytes.body.items made
+    c.in-Bytes.body.items (made.0, made.1)
 
 pub returns : goal.returns
 returns g c =
