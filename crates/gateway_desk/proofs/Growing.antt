@@ -15,9 +15,9 @@ use Rattle.journal_book.specs.Entries.{Deed, Opens, Asks, Sends, Hears, Passes, 
 use Rattle.message_layer.specs.declared.state.Outstanding.{Outstanding}
 use Rattle.message_layer.specs.declared.state.Waiting.{Waiting}
 use Rattle.exchange_model.specs.State.{State, link_of}
-use Rattle.exchange_model.specs.Steps.{asks, begins, recalls, seals}
+use Rattle.exchange_model.specs.Steps.{asks, begins, recalls, seals, Numbers}
 use Rattle.exchange_model.specs.declared.kept.Exchange.{Exchange}
-use Rattle.exchange_model.specs.Calls.{Numbers, next_by, next, refused, has_place, asked_by, asked, asked_for, asked_with, joined, served_in, serves}
+use Rattle.exchange_model.specs.Calls.{next_by, next, refused, has_place, asked_by, asked, asked_for, asked_with, joined, served_in, serves}
 use Rattle.exchange_model.specs.Growing.{HasNoClient, by_client, at_moment}
 use Rattle.exchange_model.specs.Room.{fits}
 use Rattle.exchange_model.specs.Sealing.{opens_in_room, asks_in_room, hears_in_room, ticks_in_room}
@@ -25,7 +25,7 @@ use Rattle.exchange_model.proofs.CallerLemmas.{hears-add, hears-answer, opens-ad
 use Rattle.exchange_core.specs.declared.fault.OpenFault.{OpenFault}
 use Rattle.exchange_core.specs.declared.fault.OpenFault.TheVariants as Open
 use Rattle.exchange_core.specs.declared.fault.AskFault.{AskFault}
-use Rattle.exchange_core.specs.Calls.{IsOpened, IsAsked, IsClosed, IsUnknown, AsksSo}
+use Rattle.exchange_core.specs.Calls.{IsOpened, IsAsked, IsClosed, IsUnknown, AsksSo, HearsSo}
 use Rattle.exchange_core.specs.Answering.{Given}
 use Rattle.exchange_core.specs.Taking.{IsSent, IsTaken}
 use Rattle.exchange_core.specs.Values.{CoreValue, Outgoing, sent_in, stepped}
@@ -105,12 +105,12 @@ unsent-on n old new h u = record {
 
 -- A datagram, and a tick.
 
-pub heard-step : (t : ℕ) (p : Peer) (d : List ℕ) (old new : CoreValue)
-    → new ≡ stepped (hears_in_room t p d old.state) old → IsStep 0 old new
-heard-step t p d old new e =
-    let x = hears-add t p d old.state in
-    step-by 0 old new (hears_in_room t p d old.state) x.more e x.entries
-    (no-asks x.more (hears-answer t p d old.state x))
+pub heard-step : (t word : ℕ) (p : Peer) (d : List ℕ) (old new : CoreValue)
+    → HearsSo t word p d old new → IsStep 0 old new
+heard-step t word p d old new h =
+    let x = hears-add t p d h.numbers old.state in
+    step-by 0 old new (hears_in_room t p d h.numbers old.state) x.more h.is x.entries
+    (no-asks x.more (hears-answer t p d h.numbers old.state x))
 
 pub ticked-step : (t : ℕ) (old new : CoreValue) → new ≡ stepped (ticks_in_room t old.state) old → IsStep 0 old new
 ticked-step t old new e =

@@ -1,169 +1,154 @@
 -- What a journal's entries show of what an ask came to.
-use Rattle.std.proofs.Common.{◌≡◌, ◌↔◌, ◌≤◌, ◌<◌, ℕ, Bool, IsTrue, List, [], ◌∷◌, length, get_or, Option, Some, None, Result, Ok, Err, IfOk, refl, sym, ap, subst, ◌∙◌, arith}
-use Rattle.coap_codec.specs.Spelling.{Content, Spells}
+use Rattle.std.proofs.Common.{◌≡◌, ◌↔◌, ℕ, zero, suc, ◌+◌, ◌<◌, Bool, IsTrue, List, [], ◌∷◌, ◌++◌, length, map, take, get_or, Option, Some, None, MatchOption, Result, Ok, Err, IfOk, refl, sym, ap, subst, ◌∙◌, arith}
+use Rattle.std.specs.Prelude.{slice_get}
+use Rattle.std.proofs.lemmas.List.{map_push, take_more}
+use Rattle.coap_codec.specs.Spelling.{Content, Spells, content}
+use Rattle.coap_codec.specs.declared.message.Message.{Message}
+use Rattle.coap_codec.proofs.Unique.{spells_one}
 use Rattle.uri_map.specs.declared.peer.Peer.{Peer}
-use Rattle.ask_model.specs.declared.cause.Cause.{Cause}
 use Rattle.ask_model.specs.Requests.{CoapRequest, Sense, Requests}
 use Rattle.journal_book.specs.Entries.{Grounds, Hears, Written, Live, Kept}
-use Rattle.history_laws.specs.Responses.{Response, whole_in, whole_of}
-use Rattle.reply_reading.specs.Findings.{Told, Tells, Fails, found_by}
+use Rattle.history_laws.specs.Responses.{Response, whole_of}
+use Rattle.reply_reading.specs.Findings.{Told, Tells}
 use Rattle.exchange_core.specs.Values.{written}
 use Rattle.exchange_core.specs.Answering.{HeardAs, AreHeard, IsFound, CountsFrom}
-use Rattle.gateway_desk.specs.Shown.{HearsAt, HearsNone, Says, IsSaidAt, RestsOnOne}
+use Rattle.gateway_desk.specs.Shown.{HearsAt, HearsNone, SpellsNone, IsHeardAt, IsUnheard, AreUnheard, IsFirstAt, RestsOn, whole_by}
+use Rattle.gateway_desk.proofs.Whole.{whole-by}
 
 some-same : {X : Type 0} (x y : X) → Some x ≡ Some y → x ≡ y
 some-same x y e = cc
 
-tells-same : (v w : Response) → Tells v ≡ Tells w → v ≡ w
-tells-same v w e = cc
-
 hears-same : (p o : Peer) (a b : List ℕ) → Hears p a ≡ Hears o b → a ≡ b
 hears-same p o a b e = cc
 
--- a finding tells a response just where the message is one
+-- one entry bears one moment, the same bytes and one message
 
-pub found-tells : (n : ℕ) (o : Option Response) (w : Response) → (found_by n o).told ≡ Tells w → o ≡ Some w
-found-tells n (Some v) w e = ap Some (tells-same v w e)
-found-tells n None w e = absurd cc
+entry-bytes : (h : List Written) (n t u : ℕ) (p o : Peer) (a b : List ℕ) → slice_get h n ≡ Some (written t (Hears p a))
+    → slice_get h n ≡ Some (written u (Hears o b)) → a ≡ b
+entry-bytes h n t u p o a b x y =
+    hears-same p o a b (ap (λ (w : Written). w.deed) (some-same (written t (Hears p a)) (written u (Hears o b)) (sym x ∙ y)))
 
-pub found-said : (n : ℕ) (o : Option Response) (v w : Response)
-    → (found_by n o).told ≡ Tells v → (v ≡ w) ↔ (o ≡ Some w)
-found-said n o v w e =
-    let is = found-tells n o v e in
-    ((λ same. is ∙ ap Some same), (λ said. some-same v w (sym is ∙ said)))
+message-one : (h : List Written) (n : ℕ) (m k : Content) → IsHeardAt h n m → IsHeardAt h n k → m ≡ k
+message-one h n m k a b =
+    spells_one m k b.1.bytes
+    (subst (Spells m) (entry-bytes h n a.0 b.0 a.1.peer b.1.peer a.1.bytes b.1.bytes a.1.stands b.1.stands) a.1.spelled) b.1.spelled
 
-pub found-fails : (n : ℕ) (o : Option Response) (cause : Cause) (w : Response)
-    → (found_by n o).told ≡ Fails cause → o ≡ Some w → ⊥
-found-fails n (Some v) cause w e same = absurd cc
-found-fails n None cause w e same = absurd cc
+messages-one : (h : List Written) (js : List ℕ) (ms ns : List Content) → AreHeard h js ms → AreHeard h js ns → ms ≡ ns
+messages-one h [] [] [] a b = refl
+messages-one h [] [] (n ∷ ns) a b = absurd b
+messages-one h [] (m ∷ ms) ns a b = absurd a
+messages-one h (j ∷ js) [] ns a b = absurd a
+messages-one h (j ∷ js) (m ∷ ms) [] a b = absurd b
+messages-one h (j ∷ js) (m ∷ ms) (n ∷ ns) a b =
+    ap (λ (x : Content). x ∷ ms) (message-one h j m n a.0 b.0) ∙ ap (λ (xs : List Content). n ∷ xs) (messages-one h js ms ns a.1 b.1)
 
--- one entry bears one moment and the same bytes
+-- what its bytes spell was heard in it, and without bytes nothing was
 
-heard-moment : (h : List Written) (n t u : ℕ) (m k : Content) → HeardAs h n t m → HeardAs h n u k → t ≡ u
-heard-moment h n t u m k a b =
-    ap (λ (w : Written). w.moment) (some-same (written t (Hears a.peer a.bytes))
-    (written u (Hears b.peer b.bytes)) (sym a.stands ∙ b.stands))
+heard-as : (h : List Written) (n : ℕ) (bytes : List ℕ) (m : Content) → HearsAt h n bytes → Spells m bytes → IsHeardAt h n m
+heard-as h n bytes m x s = (x.0, record { peer = x.1; bytes = bytes; stands = x.2; spelled = s })
 
-heard-bytes : (h : List Written) (n t : ℕ) (m : Content) (bytes : List ℕ) → HearsAt h n t bytes
-    → (a : HeardAs h n t m) → a.bytes ≡ bytes
-heard-bytes h n t m bytes x a =
-    hears-same a.peer x.0 a.bytes bytes (ap (λ (w : Written). w.deed)
-    (some-same (written t (Hears a.peer a.bytes)) (written t (Hears x.0 bytes)) (sym a.stands ∙ x.1)))
+heard-not : (h : List Written) (n : ℕ) (bytes : List ℕ) → HearsAt h n bytes → SpellsNone bytes → IsUnheard h n
+heard-not h n bytes x none m a =
+    none m (subst (Spells m) (entry-bytes h n a.0 x.0 a.1.peer x.1 a.1.bytes bytes a.1.stands x.2) a.1.spelled)
 
--- what its bytes say it says, and without bytes nothing
+pub unheard-not : (h : List Written) (n : ℕ) → HearsNone h n → IsUnheard h n
+unheard-not h n none m a = none a.1.bytes (a.0, a.1.peer, a.1.stands)
 
-pub heard-says : (h : List Written) (n t k : ℕ) (w : Response) (bytes : List ℕ)
-    → HearsAt h n t bytes → Says k bytes w ↔ IsSaidAt h n t k w
-heard-says h n t k w bytes x = (to, from)
-  where
-    to : Says k bytes w → IsSaidAt h n t k w
-    to s = (s.0, record { peer = x.0; bytes = bytes; stands = x.1; spelled = s.1 }, s.2)
+-- one entry more
 
-    from : IsSaidAt h n t k w → Says k bytes w
-    from s = (s.0, subst (Spells s.0) (heard-bytes h n t s.0 bytes x s.1) s.1.spelled, s.2)
+heard-push : (h : List Written) (js : List ℕ) (ms : List Content) (j : ℕ) (m : Content) → AreHeard h js ms → IsHeardAt h j m
+    → AreHeard h (js ++ j ∷ []) (ms ++ m ∷ [])
+heard-push h [] [] j m a b = (b, tt)
+heard-push h [] (n ∷ ms) j m a b = absurd a
+heard-push h (k ∷ js) [] j m a b = absurd a
+heard-push h (k ∷ js) (n ∷ ms) j m a b = (a.0, heard-push h js ms j m a.1 b)
 
-pub unheard-says : (h : List Written) (n t k : ℕ) (w : Response)
-    → HearsNone h n t → IsSaidAt h n t k w → ⊥
-unheard-says h n t k w none s = none s.1.bytes (s.1.peer, s.1.stands)
+heard-in : (h : List Written) (js : List ℕ) (ms : List Content) (i d : ℕ) → i < length js → AreHeard h js ms
+    → (m : Content) × IsHeardAt h (get_or js i d) m
+heard-in h [] ms i d lt a = absurd (omega (arith, lt))
+heard-in h (j ∷ js) [] i d lt a = absurd a
+heard-in h (j ∷ js) (m ∷ ms) zero d lt a = (m, a.0)
+heard-in h (j ∷ js) (m ∷ ms) (suc i) d lt a = heard-in h js ms i d (omega (arith, lt)) a.1
 
--- A response that rests on one entry is shown just where that says it, at the moment from which it counts.
+-- the messages of some of them, and one more
+pub heard-next : (h : List Written) (js : List ℕ) (old new : List Message) (i d : ℕ) (m : Message) → i < length js → new ≡ old ++ m ∷ []
+    → AreHeard h (take i js) (map content old) → IsHeardAt h (get_or js i d) (content m) → AreHeard h (take (i + 1) js) (map content new)
+heard-next h js old new i d m lt e a b =
+    subst (λ (ns : List Content). AreHeard h (take (i + 1) js) ns) (sym (ap (map content) e ∙ map_push content old m))
+    (subst (λ (xs : List ℕ). AreHeard h xs (map content old ++ content m ∷ [])) (sym (take_more js i d lt))
+    (heard-push h (take i js) (map content old) (get_or js i d) (content m) a b))
 
-pub said-shown : (h : List Written) (n t heard : ℕ) (q : CoapRequest) (w : Response)
-    → IsSaidAt h n heard q.method w
-    ↔ (IsFound h (Tells w) (Live (n ∷ [])) (Requests q) × CountsFrom h (Live (n ∷ [])) t heard)
-said-shown h n t heard q w = (to, λ f. from f.0.0 f.0.1 f.0.2 f.1.0 f.1.1)
-  where
-    to : IsSaidAt h n heard q.method w
-        → IsFound h (Tells w) (Live (n ∷ [])) (Requests q) × CountsFrom h (Live (n ∷ [])) t heard
-    to s = ((s.0 ∷ [], ((heard, s.1), tt), s.2), (s.0, s.1))
+pub heard-none : (h : List Written) (js : List ℕ) (i d : ℕ) → i < length js → IsUnheard h (get_or js i d) → AreUnheard h js
+heard-none h js i d lt none ms a = let x = heard-in h js ms i d lt a in none x.0 x.1
 
-    from : (ms : List Content) → AreHeard h (n ∷ []) ms → whole_of q ms ≡ Some w
-        → (k : Content) → HeardAs h n heard k → IsSaidAt h n heard q.method w
-    from [] a e k b = absurd a
-    from (m ∷ []) a e k b =
-        (m, subst (λ i. HeardAs h n i m) (heard-moment h n a.0.0 heard m k a.0.1 b) a.0.1, e)
-    from (m ∷ l ∷ ms) a e k b = absurd a.1
+-- what a look at bytes tells of their entry
 
--- a list of one
-pub one-of : (xs : List ℕ) (d : ℕ) → 1 ≤ length xs → length xs < 2 → xs ≡ get_or xs 0 d ∷ []
-one-of [] d least most = absurd (omega arith)
-one-of (x ∷ []) d least most = refl
-one-of (x ∷ y ∷ xs) d least most = absurd (omega arith)
+pub message-so : {E : Type 0} (r : Result (Option Message) E) (h : List Written) (n : ℕ) (bytes : List ℕ) → HearsAt h n bytes
+    → IfOk r (λ o. MatchOption o (SpellsNone bytes) (λ m. Spells (content m) bytes))
+    → IfOk r (λ o. MatchOption o (IsUnheard h n) (λ m. IsHeardAt h n (content m)))
+message-so (Ok (Some m)) h n bytes x p = heard-as h n bytes (content m) x p
+message-so (Ok None) h n bytes x p = heard-not h n bytes x p
+message-so (Err e) h n bytes x p = p
 
--- none rests on another number of entries
-pub not-one : (h : List Written) (js : List ℕ) (q : CoapRequest) (w : Response)
-    → ((n : ℕ) → js ≡ n ∷ [] → ⊥) → IsFound h (Tells w) (Live js) (Requests q) → ⊥
-not-one h js q w other f = by js other f.0 f.1 f.2
-  where
-    by : (js : List ℕ) → ((n : ℕ) → js ≡ n ∷ [] → ⊥) → (ms : List Content) → AreHeard h js ms
-        → whole_of q ms ≡ Some w → ⊥
-    by [] other [] a e = absurd cc
-    by [] other (m ∷ ms) a e = absurd a
-    by (n ∷ []) other ms a e = other n refl
-    by (n ∷ k ∷ js) other [] a e = absurd a
-    by (n ∷ k ∷ js) other (m ∷ []) a e = absurd a.1
-    by (n ∷ k ∷ js) other (m ∷ l ∷ ms) a e = absurd cc
-
--- what a look at bytes, at an entry, at a list of entries and at an answer tells
+-- What rests on these entries does so by the messages that were heard in them.
 
 if-same : {E : Type 0} (r : Result Bool E) (A B : Type 0) → A ↔ B → IfOk r (λ is. IsTrue is ↔ A)
     → IfOk r (λ is. IsTrue is ↔ B)
 if-same (Ok b) A B same p = ((λ is. same.0 (p.0 is)), (λ s. p.1 (same.1 s)))
 if-same (Err e) A B same p = p
 
-pub says-so : {E : Type 0} (r : Result Bool E) (i : ℕ) (bytes : List ℕ) (w : Response) (m : Content)
-    → Spells m bytes → ((k : Content) → Spells k bytes → m ≡ k)
-    → IfOk r (λ is. IsTrue is ↔ (whole_in i m ≡ Some w))
-    → IfOk r (λ is. IsTrue is ↔ Says i bytes w)
-says-so (Ok b) i bytes w m s only p = (
-  λ is. (m, s, p.0 is),
-  λ x. p.1 (subst (λ k. whole_in i k ≡ Some w) (sym (only x.0 x.1)) x.2),
-)
-says-so (Err e) i bytes w m s only p = p
-
-pub is-said : {E : Type 0} (r : Result Bool E) (h : List Written) (n t k : ℕ) (w : Response)
-    (bytes : List ℕ) → HearsAt h n t bytes → IfOk r (λ is. IsTrue is ↔ Says k bytes w)
-    → IfOk r (λ is. IsTrue is ↔ IsSaidAt h n t k w)
-is-said r h n t k w bytes x = if-same r _ _ (heard-says h n t k w bytes x)
-
-pub rests-so : {E : Type 0} (r : Result Bool E) (h : List Written) (js : List ℕ) (n t k : ℕ) (w : Response)
-    → js ≡ n ∷ [] → IfOk r (λ is. IsTrue is ↔ IsSaidAt h n t k w)
-    → IfOk r (λ is. IsTrue is ↔ RestsOnOne h js t k w)
-rests-so r h js n t k w e = if-same r _ _ ((λ s. (n, e, s)), from)
+pub rests-so : {E : Type 0} (r : Result Bool E) (h : List Written) (js : List ℕ) (t k len : ℕ) (w : Response) (ms : List Content)
+    → IsFirstAt h t js → AreHeard h js ms → IfOk r (λ is. IsTrue is ↔ (whole_by k len ms ≡ Some w))
+    → IfOk r (λ is. IsTrue is ↔ RestsOn h js t k len w)
+rests-so r h js t k len w ms first heard = if-same r _ _ (to, from)
   where
-    from : RestsOnOne h js t k w → IsSaidAt h n t k w
-    from x =
-        subst (λ (i : ℕ). IsSaidAt h i t k w) (ap (λ (is : List ℕ). get_or is 0 0) (sym x.1 ∙ e)) x.2
+    to : whole_by k len ms ≡ Some w → RestsOn h js t k len w
+    to e = (ms, heard, first, e)
+
+    from : RestsOn h js t k len w → whole_by k len ms ≡ Some w
+    from x = ap (whole_by k len) (messages-one h js ms x.0 heard x.1) ∙ x.3
+
+-- Entries bear a response just where that is what rests on them, live or kept.
 
 abbrev Shows : List Written → Told → Grounds → Sense → ℕ → ℕ → Type 0
 Shows h told grounds sense t heard = IsFound h told grounds sense × CountsFrom h grounds t heard
 
--- One entry alone bears a response just where that is what rests on it, live or kept.
+heard-first : (h : List Written) (j t : ℕ) (m : Content) → IsHeardAt h j m → (w : Written) → slice_get h j ≡ Some w → w.moment ≡ t
+    → HeardAs h j t m
+heard-first h j t m a w is now =
+    let moment : a.0 ≡ t = ap (λ (v : Written). v.moment) (some-same (written a.0 (Hears a.1.peer a.1.bytes)) w (sym a.1.stands ∙ is)) ∙ now in
+    subst (λ (s : ℕ). HeardAs h j s m) moment a.1
 
 live-shown : (h : List Written) (js : List ℕ) (t heard : ℕ) (q : CoapRequest) (w : Response)
-    → RestsOnOne h js heard q.method w ↔ Shows h (Tells w) (Live js) (Requests q) t heard
-live-shown h js t heard q w = (to, from js)
+    → RestsOn h js heard q.method (length q.body) w ↔ Shows h (Tells w) (Live js) (Requests q) t heard
+live-shown h [] t heard q w = (
+  (λ r. absurd r.2),
+  (λ s. absurd (by s.0.0 s.0.1 s.0.2)),
+)
   where
-    to : RestsOnOne h js heard q.method w → Shows h (Tells w) (Live js) (Requests q) t heard
-    to r =
-        subst (λ (x : List ℕ). Shows h (Tells w) (Live x) (Requests q) t heard) (sym r.1)
-        ((said-shown h r.0 t heard q w).0 r.2)
-
-    from : (js : List ℕ) → Shows h (Tells w) (Live js) (Requests q) t heard → RestsOnOne h js heard q.method w
-    from [] f = absurd (not-one h [] q w (λ n e. absurd cc) f.0)
-    from (n ∷ []) f = (n, refl, (said-shown h n t heard q w).1 f)
-    from (n ∷ k ∷ js) f = absurd (not-one h (n ∷ k ∷ js) q w (λ m e. absurd cc) f.0)
+    by : (ms : List Content) → AreHeard h [] ms → whole_of q ms ≡ Some w → ⊥
+    by [] a e = absurd cc
+    by (m ∷ ms) a e = a
+live-shown h (j ∷ js) t heard q w = (
+  (λ r. to r.0 r.1 r.2 r.3),
+  (λ s. (s.0.0, s.0.1, (written heard (Hears s.1.1.peer s.1.1.bytes), s.1.1.stands, refl), sym (whole-by q s.0.0) ∙ s.0.2)),
+)
+  where
+    to : (ms : List Content) → AreHeard h (j ∷ js) ms → IsFirstAt h heard (j ∷ js) → whole_by q.method (length q.body) ms ≡ Some w
+        → Shows h (Tells w) (Live (j ∷ js)) (Requests q) t heard
+    to [] a f e = absurd a
+    to (m ∷ ms) a f e = ((m ∷ ms, a, whole-by q (m ∷ ms) ∙ e), (m, heard-first h j heard m a.0 f.0 f.1 f.2))
 
 kept-shown : (h : List Written) (js : List ℕ) (t heard : ℕ) (q : CoapRequest) (w : Response)
-    → RestsOnOne h js heard q.method w ↔ Shows h (Tells w) (Kept js) (Requests q) t heard
+    → RestsOn h js heard q.method (length q.body) w ↔ Shows h (Tells w) (Kept js) (Requests q) t heard
 kept-shown h [] t heard q w = live-shown h [] t heard q w
 kept-shown h (j ∷ js) t heard q w = live-shown h (j ∷ js) t heard q w
 
 shows-by : {E : Type 0} (r : Result Bool E) (h : List Written) (js : List ℕ) (t heard : ℕ) (q : CoapRequest)
     (w : Response) (told : Told) (from grounds : Grounds) (sense : Sense)
-    → RestsOnOne h js heard q.method w ↔ Shows h (Tells w) from (Requests q) t heard
+    → RestsOn h js heard q.method (length q.body) w ↔ Shows h (Tells w) from (Requests q) t heard
     → Tells w ≡ told → from ≡ grounds → Requests q ≡ sense
-    → IfOk r (λ is. IsTrue is ↔ RestsOnOne h js heard q.method w)
+    → IfOk r (λ is. IsTrue is ↔ RestsOn h js heard q.method (length q.body) w)
     → IfOk r (λ is. IsTrue is ↔ (IsFound h told grounds sense × CountsFrom h grounds t heard))
 shows-by r h js t heard q w told from grounds sense same a b c p =
     subst (λ x. IfOk r (λ is. IsTrue is ↔ Shows h x grounds sense t heard)) a
@@ -173,7 +158,7 @@ shows-by r h js t heard q w told from grounds sense same a b c p =
 pub live-so : {E : Type 0} (r : Result Bool E) (h : List Written) (js : List ℕ) (t heard : ℕ) (q : CoapRequest)
     (w : Response) (told : Told) (grounds : Grounds) (sense : Sense)
     → Tells w ≡ told → Live js ≡ grounds → Requests q ≡ sense
-    → IfOk r (λ is. IsTrue is ↔ RestsOnOne h js heard q.method w)
+    → IfOk r (λ is. IsTrue is ↔ RestsOn h js heard q.method (length q.body) w)
     → IfOk r (λ is. IsTrue is ↔ (IsFound h told grounds sense × CountsFrom h grounds t heard))
 live-so r h js t heard q w told grounds sense =
     shows-by r h js t heard q w told (Live js) grounds sense (live-shown h js t heard q w)
@@ -181,7 +166,7 @@ live-so r h js t heard q w told grounds sense =
 pub kept-so : {E : Type 0} (r : Result Bool E) (h : List Written) (js : List ℕ) (t heard : ℕ) (q : CoapRequest)
     (w : Response) (told : Told) (grounds : Grounds) (sense : Sense)
     → Tells w ≡ told → Kept js ≡ grounds → Requests q ≡ sense
-    → IfOk r (λ is. IsTrue is ↔ RestsOnOne h js heard q.method w)
+    → IfOk r (λ is. IsTrue is ↔ RestsOn h js heard q.method (length q.body) w)
     → IfOk r (λ is. IsTrue is ↔ (IsFound h told grounds sense × CountsFrom h grounds t heard))
 kept-so r h js t heard q w told grounds sense =
     shows-by r h js t heard q w told (Kept js) grounds sense (kept-shown h js t heard q w)

@@ -11,4 +11,5 @@ pub record AreOf (f : Figures) (S : State) : Type 0 where
   pub asking : f.asking ≡ count_by has_asked S.conns
   pub entries : f.entries ≡ length S.entries
   pub bytes : f.bytes ≡ sum_by entry_size S.entries
+  pub stored : f.stored ≡ length S.store
   pub exchanges : f.exchanges.items ≡ S.exchanges

@@ -1,6 +1,6 @@
 -- What a journal that is turned over leaves, and why it isn't turned over.
-use Rattle.std.specs.Prelude.{◌≡◌, ◌≢◌, ◌⊎◌, ⊤, ℕ, zero, suc, Bool, ◌||◌, nat_le, List, length, sum_by, None, Ok, Err}
-use Rattle.journal_book.specs.Entries.{Written, entry_size}
+use Rattle.std.specs.Prelude.{◌≡◌, ◌≢◌, ◌⊎◌, ⊤, ℕ, zero, suc, List, sum_by, None, Ok, Err}
+use Rattle.journal_book.specs.Entries.{Written}
 use Rattle.exchange_model.specs.Rotating.{fault_of}
 use Rattle.exchange_core.specs.declared.fault.OpenFault.TheVariants as Open
 use Rattle.exchange_core.specs.Calls.{now, IsOpened, IsClosed, IsUnknown}
@@ -13,11 +13,6 @@ use Rattle.gateway_desk.specs.declared.report.SettleFault.{SettleFault}
 use Rattle.gateway_desk.specs.declared.report.SettleFault.TheVariants.{Stranger, Repeated, Count, Memory}
 use Rattle.gateway_desk.specs.declared.turning.TurnReason.{TurnReason}
 use Rattle.gateway_desk.specs.declared.turning.TurnReason.TheVariants.{Rotate, Settle}
-
--- The journal is nearly full: the last tenth of its entries is begun, or the last quarter of its
--- bytes.
-abbrev pub is_nearly_full : List Written → Bool
-is_nearly_full h = nat_le 58982 (length h) || nat_le 201326592 (sum_by entry_size h)
 
 -- Settling refuses the passes for this.
 abbrev pub IsUnsettled : List Written → List Held → SettleFault → Type 0

@@ -5,9 +5,10 @@ ghost use Rattle.std.specs.Arc.{arc_value};
 ghost use Rattle.std.specs.List.{All};
 ghost use Rattle.journal_book.specs.Views.{ask_of};
 ghost use Rattle.history_laws.specs.Justified.{Stands};
-ghost use Rattle.exchange_model.specs.Sealing.{hears_in_room, ticks_in_room};
+ghost use Rattle.exchange_model.specs.Rotating.{is_nearly_full};
+ghost use Rattle.exchange_model.specs.Sealing.{ticks_in_room};
 ghost use Rattle.exchange_core.specs.Answering.{given_of};
-ghost use Rattle.exchange_core.specs.Calls.{now, IsOpened, IsAsked, IsClosed, IsUnknown};
+ghost use Rattle.exchange_core.specs.Calls.{now, IsOpened, IsAsked, IsClosed, IsUnknown, HearsSo};
 ghost use Rattle.exchange_core.specs.Due.{next_tick, IsNextTick};
 ghost use Rattle.exchange_core.specs.Rotating.{IsTurned};
 ghost use Rattle.exchange_core.specs.Taking.{IsTaken, IsSent};
@@ -18,7 +19,7 @@ ghost use Rattle.gateway_desk.specs.Lines.{made};
 ghost use Rattle.gateway_desk.specs.Resting.{rest_time, rest_until, is_sooner};
 ghost use Rattle.gateway_desk.specs.Sending.{AreUnsent};
 ghost use Rattle.gateway_desk.specs.Settled.{IsJustified, AreApart, answered};
-ghost use Rattle.gateway_desk.specs.Turning.{is_nearly_full, FillsUp, IsUnturned};
+ghost use Rattle.gateway_desk.specs.Turning.{FillsUp, IsUnturned};
 
 use crate::clock::Clock;
 use crate::figures::Figures;
@@ -206,14 +207,16 @@ impl<R: Relation, C: Clock, L: Ledger> DeskState<R, C, L> {
         requires { inbound.count ≤ length buffer.now }
         ensures is { IfOk result (λ h. (h.peer ≡ inbound.peer)
             × (h.bytes.now ≡ take inbound.count buffer.now)) }
-        ensures heard { OnOk result (self.new.shop.core ≡ stepped (hears_in_room
-            (now self.old.shop.core.state.moment (C.time self.new.clock)) inbound.peer
-            (take inbound.count buffer.now) self.old.shop.core.state) self.old.shop.core) }
+        ensures heard { OnOk result (HearsSo
+            (now self.old.shop.core.state.moment (C.time self.new.clock))
+            (C.drawn self.new.clock) inbound.peer (take inbound.count buffer.now)
+            self.old.shop.core self.new.shop.core) }
         ensures memory { OnErr result (self.new.shop ≡ self.old.shop) }
     {
         let (peer, bytes) = inbound.open(buffer);
         let moment = self.clock.moment();
-        self.shop.heard(moment, peer, bytes)?;
+        let word = self.clock.word();
+        self.shop.heard(moment, word, peer, bytes)?;
         Ok(Heard {
             peer,
             bytes,

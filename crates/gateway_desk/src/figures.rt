@@ -20,6 +20,8 @@ pub struct Figures {
     pub entries: usize,
     /// how many bytes they count
     pub bytes: u64,
+    /// responses that are stored
+    pub stored: usize,
     /// the exchanges that are open, in the order in which they were opened
     pub exchanges: Vec<Exchange>,
 }
@@ -47,6 +49,7 @@ pub fn figures_of<R: Relation>(
         asking: asking_count(conns),
         entries: core.journal().len(),
         bytes: core.bytes(),
+        stored: core.stored_count(),
         exchanges,
     })
 }

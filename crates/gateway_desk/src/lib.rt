@@ -14,6 +14,7 @@ mod desk_state;
 mod figures;
 mod pass;
 mod receipt;
+mod replies;
 mod report;
 mod same;
 mod settling;

@@ -5,11 +5,12 @@ ghost use Rattle.std.specs.List.{All};
 ghost use Rattle.std.specs.Arc.{arc_value};
 ghost use Rattle.journal_book.specs.Views.{ask_of};
 ghost use Rattle.history_laws.specs.Justified.{Stands};
+ghost use Rattle.exchange_model.specs.Rotating.{is_nearly_full};
 ghost use Rattle.exchange_model.specs.Keeping.{start};
 ghost use Rattle.exchange_model.specs.Room.{KeptInRoom};
-ghost use Rattle.exchange_model.specs.Sealing.{hears_in_room, ticks_in_room};
+ghost use Rattle.exchange_model.specs.Sealing.{ticks_in_room};
 ghost use Rattle.exchange_core.specs.Answering.{given_of};
-ghost use Rattle.exchange_core.specs.Calls.{now, IsOpened, IsAsked, IsClosed, IsUnknown};
+ghost use Rattle.exchange_core.specs.Calls.{now, IsOpened, IsAsked, IsClosed, IsUnknown, HearsSo};
 ghost use Rattle.exchange_core.specs.Due.{next_tick, IsNextTick};
 ghost use Rattle.exchange_core.specs.Rotating.{IsTurned};
 ghost use Rattle.exchange_core.specs.Serving.{AreBelow, AreOlder};
@@ -21,7 +22,7 @@ ghost use Rattle.gateway_desk.specs.Ledgers.{asks_of};
 ghost use Rattle.gateway_desk.specs.Lines.{made};
 ghost use Rattle.gateway_desk.specs.Sending.{AreUnsent};
 ghost use Rattle.gateway_desk.specs.Settled.{IsJustified, AreApart, answered};
-ghost use Rattle.gateway_desk.specs.Turning.{is_nearly_full, PassesBy, FillsUp, IsUnturned};
+ghost use Rattle.gateway_desk.specs.Turning.{PassesBy, FillsUp, IsUnturned};
 
 use crate::figures::{Figures, figures_of};
 use crate::pass::Pass;
@@ -33,18 +34,13 @@ use exchange_core::{Answer, AskFault, Core, Datagram, OpenFault, Ticket};
 use exchange_model::Exchange;
 use http_edge::Memory;
 use journal_book::Journal;
+use limits::{NEARLY_ALL_ENTRIES, NEARLY_ALL_LEN};
 use std::alloc::{AllocError, Global};
 use std::marker::Model;
 use std::sync::Arc;
 use std::sync::ledger::{Blank, Book, Ledger, Share};
 use transformers::Relation;
 use uri_map::Peer;
-
-/// From how many entries on a journal is nearly full: the last tenth is left.
-const NEARLY_ALL: u64 = 58_982;
-
-/// From how many bytes on it is: the last quarter is left.
-const NEARLY_ALL_BYTES: u64 = 201_326_592;
 
 /// How many connections a journal has at most.
 const MOST_OPENED: u64 = 65_536;
@@ -163,16 +159,15 @@ impl<R: Relation, L: Ledger> Shop<R, L> {
         Ok(ticket)
     }
 
-    /// Takes a datagram that came from this peer.
-    pub fn heard(&mut self, moment: u64, peer: Peer, bytes: &[u8]) -> Result<(), Memory>
-        ensures heard { OnOk result (self.new.core
-            ≡ stepped (hears_in_room (now self.old.core.state.moment moment) peer bytes.now
-            self.old.core.state) self.old.core) }
+    /// Takes a datagram that came from this peer. The word is for the next message of an exchange that
+    /// goes on by it.
+    pub fn heard(&mut self, moment: u64, word: u64, peer: Peer, bytes: &[u8]) -> Result<(), Memory>
+        ensures heard { OnOk result (HearsSo (now self.old.core.state.moment moment) word peer
+            bytes.now self.old.core self.new.core) }
         ensures memory { OnErr result (self.new ≡ self.old) }
         ensures left { self.new.left ≡ self.old.left }
     {
-        // the core makes nothing of the word
-        self.core.heard(moment, 0, peer, bytes)?;
+        self.core.heard(moment, word, peer, bytes)?;
         Ok(())
     }
 
@@ -232,7 +227,7 @@ impl<R: Relation, L: Ledger> Shop<R, L> {
         ensures { result ≡ is_nearly_full self.now.core.state.entries }
     {
         let entries = self.core.journal().len() as u64;
-        entries >= NEARLY_ALL || self.core.bytes() >= NEARLY_ALL_BYTES
+        entries >= NEARLY_ALL_ENTRIES || self.core.bytes() >= NEARLY_ALL_LEN
     }
 
     /// How much there is of everything. The exchanges come into this list.

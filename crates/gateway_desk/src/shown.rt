@@ -1,104 +1,120 @@
 //! Whether a journal shows what asks came to.
 
-ghost use Rattle.std.specs.Prelude.{◌≡◌, ◌↔◌, Some, IfOk, IsTrue, MatchOption};
-ghost use Rattle.coap_codec.specs.Spelling.{content};
-ghost use Rattle.history_laws.specs.Responses.{whole_in};
-ghost use Rattle.exchange_core.specs.Answering.{given_of};
+ghost use Rattle.std.specs.Prelude.{◌≡◌, ◌↔◌, ◌≤◌, length, map, IfOk, IsTrue, MatchOption};
+ghost use Rattle.limits.specs.declared.TheConstants.{MAX_BODY_LEN};
+ghost use Rattle.coap_codec.specs.Spelling.{Spells, content};
+ghost use Rattle.exchange_core.specs.Answering.{AreHeard, given_of};
 ghost use Rattle.gateway_desk.specs.Settled.{IsShown};
-ghost use Rattle.gateway_desk.specs.Shown.{HearsAt, HearsNone, Says, IsSaidAt, RestsOnOne};
+ghost use Rattle.gateway_desk.specs.Shown.{AreUnheard, HearsAt, HearsNone, IsFirstAt, IsHeardAt, IsUnheard, RestsOn, SpellsNone};
 
-use crate::same::is_same_response;
+use crate::replies::are_response;
 use ask_model::Meaning;
 use coap_codec::{Bytes, CodecFault, Message, decode};
 use exchange_core::Answer;
 use journal_book::{Event, Grounds, Journal};
-use reply_reading::{Outcome, Response, finding_of};
+use reply_reading::{Outcome, Response};
 use std::alloc::{AllocError, Global};
 use transformers::Relation;
 
-/// Whether the message, as the only reply to a request with this method, is the response.
-fn is_response(
-    alloc: Global,
-    method: u8,
-    message: Message,
-    response: &Response,
-) -> Result<bool, AllocError>
-    ensures { IfOk result (λ is. IsTrue is
-        ↔ (whole_in method (content message) ≡ Some response.now)) }
-{
-    let finding = finding_of(alloc, method, 0, message)?;
-    match finding.outcome() {
-        Outcome::Whole(said) => Ok(is_same_response(said, response)),
-        Outcome::Fault(_) => Ok(false),
-    }
-}
-
-/// Whether the bytes spell a message that is the response.
-fn says(alloc: Global, method: u8, bytes: &[u8], response: &Response) -> Result<bool, AllocError>
-    ensures { IfOk result (λ is. IsTrue is
-        ↔ Says method bytes.now response.now) }
+/// The message that the bytes spell.
+fn spelled(alloc: Global, bytes: &[u8]) -> Result<Option<Message>, AllocError>
+    ensures { IfOk result (λ o. MatchOption o (SpellsNone bytes.now)
+        (λ m. Spells (content m) bytes.now)) }
 {
     match decode(alloc, bytes) {
-        Ok(message) => is_response(alloc, method, message, response),
+        Ok(message) => Ok(Some(message)),
         Err(fault) => {
             if fault == CodecFault::Memory {
                 Err(AllocError)
             } else {
-                Ok(false)
+                Ok(None)
             }
         }
     }
 }
 
-/// The bytes that were heard in the entry with this number, at this moment.
-fn heard_at<R: Relation>(journal: &Journal<R>, number: u32, moment: u64) -> Option<&Bytes>
-    ensures { MatchOption result (HearsNone journal.now.entries number moment)
-        (λ bytes. HearsAt journal.now.entries number moment bytes.now) }
+/// The bytes that were heard in the entry with this number.
+fn heard_at<R: Relation>(journal: &Journal<R>, number: u32) -> Option<&Bytes>
+    ensures { MatchOption result (HearsNone journal.now.entries number)
+        (λ bytes. HearsAt journal.now.entries number bytes.now) }
 {
     match journal.get(number as usize) {
-        Some(entry) if entry.moment == moment => match &entry.event {
+        Some(entry) => match &entry.event {
             Event::Heard { bytes, .. } => Some(bytes),
             _ => None,
         },
-        _ => None,
+        None => None,
     }
 }
 
-/// Whether the entry with this number was heard at this moment, and says the response to a request with
-/// this method.
-fn is_said_at<R: Relation>(
+/// The message that was heard in the entry with this number.
+fn message_at<R: Relation>(
     alloc: Global,
     journal: &Journal<R>,
     number: u32,
-    moment: u64,
-    method: u8,
-    response: &Response,
-) -> Result<bool, AllocError>
-    ensures { IfOk result (λ is. IsTrue is
-        ↔ IsSaidAt journal.now.entries number moment method response.now) }
+) -> Result<Option<Message>, AllocError>
+    ensures { IfOk result (λ o. MatchOption o (IsUnheard journal.now.entries number)
+        (λ m. IsHeardAt journal.now.entries number (content m))) }
 {
-    match heard_at(journal, number, moment) {
-        Some(bytes) => says(alloc, method, bytes.as_slice(), response),
-        None => Ok(false),
+    match heard_at(journal, number) {
+        Some(bytes) => spelled(alloc, bytes.as_slice()),
+        None => Ok(None),
     }
 }
 
-/// Whether one entry alone bears the response: it was heard at this moment, and says the response to a
-/// request with this method.
-fn rests_on_one<R: Relation>(
+/// The messages that were heard in the entries with these numbers, if one was in each.
+fn messages_at<R: Relation>(
+    alloc: Global,
+    journal: &Journal<R>,
+    numbers: &[u32],
+) -> Result<Option<Vec<Message>>, AllocError>
+    ensures { IfOk result (λ o. MatchOption o (AreUnheard journal.now.entries numbers.now)
+        (λ ms. AreHeard journal.now.entries numbers.now (map content ms.items))) }
+{
+    let mut messages = Vec::new(alloc);
+    'each: for number in numbers {
+        match message_at(alloc, journal, *number)? {
+            Some(message) => messages.push(message)?,
+            None => return Ok(None),
+        }
+    }
+    Ok(Some(messages))
+}
+
+/// Whether the first of these entries was made at this moment.
+fn is_first_at<R: Relation>(journal: &Journal<R>, numbers: &[u32], moment: u64) -> bool
+    ensures { IsTrue result ↔ IsFirstAt journal.now.entries moment numbers.now }
+{
+    let Some(number) = numbers.first() else {
+        return false;
+    };
+    match journal.get(*number as usize) {
+        Some(entry) => entry.moment == moment,
+        None => false,
+    }
+}
+
+/// Whether these entries bear the response: they heard all replies to a request with this method and body,
+/// the first at this moment, and those are it.
+fn rests_on<R: Relation>(
     alloc: Global,
     journal: &Journal<R>,
     numbers: &[u32],
     moment: u64,
     method: u8,
+    body: &[u8],
     response: &Response,
 ) -> Result<bool, AllocError>
+    requires { length body.now ≤ MAX_BODY_LEN }
     ensures { IfOk result (λ is. IsTrue is
-        ↔ RestsOnOne journal.now.entries numbers.now moment method response.now) }
+        ↔ RestsOn journal.now.entries numbers.now moment method (length body.now) response.now) }
 {
-    match numbers {
-        [number] => is_said_at(alloc, journal, *number, moment, method, response),
-        _ => Ok(false),
+    if !is_first_at(journal, numbers, moment) {
+        return Ok(false);
+    }
+    match messages_at(alloc, journal, numbers)? {
+        Some(messages) => are_response(alloc, method, body, messages, response),
+        None => Ok(false),
     }
 }
 
@@ -115,23 +131,25 @@ pub fn is_shown<R: Relation>(
     match (outcome, grounds, answer.mapped.meaning()) {
         (Outcome::Whole(response), Grounds::Live(numbers), Meaning::Ask { method, .. }) => {
             let heard = answer.heard;
-            rests_on_one(
+            rests_on(
                 alloc,
                 journal,
                 numbers.as_slice(),
                 heard,
                 method.code(),
+                answer.mapped.body(),
                 response,
             )
         }
         (Outcome::Whole(response), Grounds::Kept(numbers), Meaning::Ask { method, .. }) => {
             let heard = answer.heard;
-            rests_on_one(
+            rests_on(
                 alloc,
                 journal,
                 numbers.as_slice(),
                 heard,
                 method.code(),
+                answer.mapped.body(),
                 response,
             )
         }

@@ -217,6 +217,7 @@ pub fn status_of<W: Clock + RandomSource + Drop, L: Ledger, V: Wait + Clock>(
         at: watch.now(rt),
         connections: watch.connections(&figures),
         exchanges: figures.exchanges.len() as u64,
+        stored: figures.stored as u64,
         responses: responses_of(alloc, &tally)?,
         sent: shared.devices.sent(),
         heard: shared.devices.heard(),

@@ -11,6 +11,7 @@ use Rattle.exchange_model.specs.State.{State}
 use Rattle.exchange_model.specs.Keeping.{Kept}
 use Rattle.exchange_model.specs.Sealing.{hears_in_room, ticks_in_room}
 use Rattle.exchange_model.proofs.CallerLemmas.{hears-add, hears-answer, ticks-add, ticks-answer}
+use Rattle.exchange_core.specs.Calls.{HearsSo}
 use Rattle.exchange_core.specs.Values.{CoreValue, Untaken, stepped}
 use Rattle.gateway_model.proofs.CallerLemmas.{all-as, keeps-for, keeps-out, keeps-then, KeepsOpen, no-turns, served-after, told-for, turns-on}
 use Rattle.gateway_connections.specs.Inlets.{Inlet, TableValue}
@@ -138,11 +139,12 @@ sent-served old new out h = record {
 }
 
 -- after a datagram, and a tick
-pub heard-served : (t : ℕ) (p : Peer) (d : List ℕ) (old new : CoreValue) → old.untaken ≡ []
-    → new ≡ stepped (hears_in_room t p d old.state) old → Kept new.state → AreServed new
-heard-served t p d old new none e kept =
-    let x : Adds t old.state (hears_in_room t p d old.state) = hears-add t p d old.state in
-    served-after t old new (hears_in_room t p d old.state) none e x (hears-answer t p d old.state x) kept
+pub heard-served : (t word : ℕ) (p : Peer) (d : List ℕ) (old new : CoreValue) → old.untaken ≡ []
+    → HearsSo t word p d old new → Kept new.state → AreServed new
+heard-served t word p d old new none h kept =
+    let S : State = hears_in_room t p d h.numbers old.state in
+    let x : Adds t old.state S = hears-add t p d h.numbers old.state in
+    served-after t old new S none h.is x (hears-answer t p d h.numbers old.state x) kept
 
 pub ticked-served : (t : ℕ) (old new : CoreValue) → old.untaken ≡ []
     → new ≡ stepped (ticks_in_room t old.state) old → Kept new.state → AreServed new

@@ -6,11 +6,11 @@ use Rattle.journal_book.specs.Entries.{Written}
 use Rattle.uri_map.specs.declared.peer.Peer.{Peer}
 use Rattle.exchange_model.specs.State.{State}
 use Rattle.exchange_model.specs.Growing.{Adds}
-use Rattle.exchange_model.specs.Sealing.{hears_in_room, ticks_in_room}
+use Rattle.exchange_model.specs.Sealing.{ticks_in_room}
 use Rattle.exchange_model.proofs.CallerLemmas.{asks-add, hears-add, ticks-add}
 use Rattle.exchange_core.specs.declared.fault.AskFault.{AskFault}
 use Rattle.exchange_core.specs.declared.fault.AskFault.TheVariants as Fault
-use Rattle.exchange_core.specs.Calls.{IsAsked, AsksSo}
+use Rattle.exchange_core.specs.Calls.{IsAsked, AsksSo, HearsSo}
 use Rattle.exchange_core.specs.Snapshots.{Grows}
 use Rattle.exchange_core.specs.Values.{CoreValue, stepped}
 use Rattle.gateway_world.specs.declared.engine.Engine.{Engine}
@@ -47,9 +47,9 @@ asks-grows (Err Fault.Unknown) t word c a old new h = grows-same old new h.0
 asks-grows (Err Fault.Pending) t word c a old new h = grows-same old new h.0
 asks-grows (Err Fault.Memory) t word c a old new h = grows-same old new h.0
 
-pub heard-grows : (t : ℕ) (p : Peer) (d : List ℕ) (old new : CoreValue) → new ≡ stepped (hears_in_room t p d old.state) old
+pub heard-grows : (t word : ℕ) (p : Peer) (d : List ℕ) (old new : CoreValue) → HearsSo t word p d old new
     → Grows old.state.entries new.state.entries
-heard-grows t p d old new h = grows-to t old new _ h (hears-add t p d old.state)
+heard-grows t word p d old new h = grows-to t old new _ h.is (hears-add t p d h.numbers old.state)
 
 pub ticked-grows : (t : ℕ) (old new : CoreValue) → new ≡ stepped (ticks_in_room t old.state) old
     → Grows old.state.entries new.state.entries

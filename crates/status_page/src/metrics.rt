@@ -2,7 +2,7 @@
 
 use crate::samples::{Kind, Text};
 use crate::status::{Device, Phase, Responses, Status};
-use limits::{MAX_CONNECTIONS, MAX_ENTRIES, MAX_EXCHANGES, MAX_JOURNAL_LEN};
+use limits::{MAX_CONNECTIONS, MAX_ENTRIES, MAX_EXCHANGES, MAX_JOURNAL_LEN, MAX_STORED};
 use std::alloc::{AllocError, Global};
 
 impl Text {
@@ -49,6 +49,16 @@ impl Text {
             "hcproxy_ready",
             "1 while requests are taken, 0 while the journal is turned over.",
             u64::from(status.phase == Phase::Serving),
+        )?;
+        self.gauge(
+            "hcproxy_stored_responses",
+            "Responses of devices that are stored.",
+            status.stored,
+        )?;
+        self.gauge(
+            "hcproxy_stored_responses_max",
+            "How many may be stored.",
+            MAX_STORED as u64,
         )?;
         self.counter(
             "hcproxy_datagrams_sent_total",

@@ -3,7 +3,7 @@
 use crate::status::{Device, Last, Phase, Responses, Status};
 use httpdate::HttpDate;
 use journal_picture::Page;
-use limits::{MAX_CONNECTIONS, MAX_ENTRIES, MAX_EXCHANGES, MAX_JOURNAL_LEN};
+use limits::{MAX_CONNECTIONS, MAX_ENTRIES, MAX_EXCHANGES, MAX_JOURNAL_LEN, MAX_STORED};
 use std::alloc::{AllocError, Global};
 use std::fmt::Display;
 
@@ -154,6 +154,9 @@ impl Sheet {
         self.count("requests that wait for their answer", connections.asking)?;
         self.row("exchanges with devices")?;
         self.part(status.exchanges, MAX_EXCHANGES as u64)?;
+        self.end_row()?;
+        self.row("stored responses")?;
+        self.part(status.stored, MAX_STORED as u64)?;
         self.end_row()?;
         self.count("datagrams sent", status.sent)?;
         self.count("datagrams heard", status.heard)?;

@@ -26,6 +26,8 @@ pub struct Status {
     pub connections: Connections,
     /// exchanges with devices that are open
     pub exchanges: u64,
+    /// responses of devices that are stored
+    pub stored: u64,
     pub responses: Responses,
     /// datagrams that were sent and heard
     pub sent: u64,
@@ -45,6 +47,7 @@ impl Status {
             at,
             connections: Connections::default(),
             exchanges: 0,
+            stored: 0,
             responses: Responses {
                 classes: Classes::default(),
                 kept: 0,
