@@ -1,6 +1,7 @@
 //! What a gateway does so that its journal is turned over.
 
 ghost use Rattle.std.specs.Prelude.{◌≡◌, true, length, option_to_list, IfOk};
+ghost use Rattle.exchange_model.specs.Rotating.{is_nearly_full};
 ghost use Rattle.gateway_loop.specs.Gateways.{MayAsk, TurnsOver};
 ghost use Rattle.transformers.specs.Suits.{Suits};
 
@@ -10,13 +11,8 @@ use crate::sockets::{Stream, Wire};
 use crate::waits::Bearing;
 use gateway_world::{Advanced, Happening, Input, Output, When};
 use http_edge::Memory;
+use limits::{NEARLY_ALL_ENTRIES, NEARLY_ALL_LEN};
 use transformers::{Bank, Relation};
-
-/// From how many entries on a journal is nearly full: the last tenth is left.
-const NEARLY_ALL: u64 = 58_982;
-
-/// From how many bytes on it is: the last quarter is left.
-const NEARLY_ALL_BYTES: u64 = 201_326_592;
 
 /// A gateway at which a connection was opened for nobody, or wasn't.
 #[derive(Drop)]
@@ -37,9 +33,11 @@ pub struct Rotated<R: Relation, S: Stream, W: Wire> {
 impl<R: Relation, S: Stream + Drop, W: Wire + Drop> Gateway<R, S, W> {
     /// Whether the journal is nearly full. What is left then takes two more requests of each of 256
     /// connections, with all copies of their messages.
-    pub fn is_nearly_full(&self) -> bool {
+    pub fn is_nearly_full(&self) -> bool
+        ensures { result ≡ is_nearly_full self.now.world.core.state.entries }
+    {
         let entries = self.world.journal().len() as u64;
-        entries >= NEARLY_ALL || self.world.bytes() >= NEARLY_ALL_BYTES
+        entries >= NEARLY_ALL_ENTRIES || self.world.bytes() >= NEARLY_ALL_LEN
     }
 
     /// Whether the connection is open between two requests, and may be closed there: it waits for no
