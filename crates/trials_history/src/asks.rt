@@ -23,7 +23,7 @@ fn is_sent_as(
     token: &[u8; 8],
     want: &[u8],
 ) -> Result<bool, AllocError> {
-    match mapped.request(alloc, 0, &Token::new(token))? {
+    match mapped.request(alloc, None, 0, &Token::new(token))? {
         Some(sent) => Ok(sent.as_slice() == want),
         None => Ok(false),
     }
@@ -68,7 +68,7 @@ fn wants_nothing(mapped: &Mapped<Nothing>) -> bool {
 }
 
 fn is_sent(alloc: Global, mapped: &Mapped<Nothing>) -> Result<bool, AllocError> {
-    Ok(mapped.request(alloc, 0, &Token::new(&[]))?.is_some())
+    Ok(mapped.request(alloc, None, 0, &Token::new(&[]))?.is_some())
 }
 
 /// The request is refused for its size, and goes nowhere.

@@ -1,9 +1,10 @@
-//! What the only reply to an exchange makes known (RFC 7252 sections 5.2, 5.4 and 5.9, RFC 7959 section 2).
+//! What the replies to an exchange make known (RFC 7252 sections 5.2, 5.4 and 5.9, RFC 7959 section 2).
 
 use ask_model::Cause;
-use coap_codec::decode;
-use journal_book::Grounds;
-use reply_reading::{Finding, Outcome, Response, finding_of};
+use blockwise::{Answered, LARGEST_SZX, Upload, is_only_piece};
+use coap_codec::{Message, decode, is_forwardable};
+use journal_book::{Grounds, Numbers};
+use reply_reading::{Finding, Outcome, Response, answer_of, fetched_of, is_tellable};
 use std::alloc::Global;
 use std::sync::Arc;
 
@@ -12,10 +13,34 @@ const GET: u8 = 1;
 
 const PUT: u8 = 3;
 
+/// What the message makes known as the only piece of a representation, which the entry 4 bears.
+fn piece_in(alloc: Global, message: Message) -> Option<Finding> {
+    if !(is_tellable(&message) && is_only_piece(&message)) {
+        return Some(Finding::fault(Cause::NotUnderstood, 4));
+    }
+    let replies = Numbers::from_slice(alloc, &[4]).ok()?;
+    fetched_of(alloc, replies, Vec::new(alloc), message).ok()
+}
+
+/// What the message makes known as the answer to a request whose body went whole, which the entry 4
+/// bears.
+fn answer_in(alloc: Global, message: Message) -> Option<Finding> {
+    let answered = Upload::new(&[], LARGEST_SZX).judge(&message);
+    if !is_forwardable(&message.options) || answered != Answered::Last {
+        return Some(Finding::fault(Cause::NotUnderstood, 4));
+    }
+    let replies = Numbers::from_slice(alloc, &[4]).ok()?;
+    answer_of(alloc, replies, message).ok()
+}
+
 /// What the datagram makes known as the only reply, which the entry with the number 4 bears.
 fn finding_in(alloc: Global, method: u8, bytes: &[u8]) -> Option<Finding> {
     let message = decode(alloc, bytes).ok()?;
-    finding_of(alloc, method, 4, message).ok()
+    if method == GET {
+        piece_in(alloc, message)
+    } else {
+        answer_in(alloc, message)
+    }
 }
 
 /// It is a response, which rests on the entry 4.
@@ -156,4 +181,29 @@ fn what_options_say(rt: HostRuntime) {
     let bare = b"\x42\x45\x12\x99te\x40\xffon";
     let said = response_in(rt.alloc(), bare).expect(&rt, "a response");
     assert!(rt; said.etag.is_none() && said.format.is_none() && said.max_age.is_none());
+}
+
+/// The response that these three datagrams are together.
+fn response_of_three(alloc: Global, pieces: [&[u8]; 3]) -> Option<Arc<Response>> {
+    let [first, second, last] = pieces;
+    let mut earlier = Vec::new(alloc);
+    earlier.push(decode(alloc, first).ok()?).ok()?;
+    earlier.push(decode(alloc, second).ok()?).ok()?;
+    let replies = Numbers::from_slice(alloc, &[4, 6, 8]).ok()?;
+    let finding = fetched_of(alloc, replies, earlier, decode(alloc, last).ok()?).ok()?;
+    response_of(&finding)
+}
+
+#[test]
+fn what_pieces_say_together(rt: HostRuntime) {
+    // 16, 16 and 2 bytes, with a Max-Age of 60, none and 30
+    let pieces: [&[u8]; 3] = [
+        b"\x42\x45\x12\x99te\xd1\x01\x3c\x91\x08\xff0123456789abcdef",
+        b"\x42\x45\x12\x9ate\xd1\x0a\x18\xffghijklmnopqrstuv",
+        b"\x42\x45\x12\x9bte\xd1\x01\x1e\x91\x20\xffwx",
+    ];
+    let said = response_of_three(rt.alloc(), pieces).expect(&rt, "a response");
+    assert!(rt; said.code == 0x45 && said.max_age == Some(60));
+    let whole = b"0123456789abcdefghijklmnopqrstuvwx";
+    assert!(rt; said.body.as_slice() == whole.as_slice());
 }

@@ -172,6 +172,7 @@ fn turning(alloc: Global) -> Result<Status, AllocError> {
             refused: 0,
         },
         exchanges: 2,
+        stored: 3,
         responses: Responses {
             classes: Classes::default(),
             kept: 5,
