@@ -6,7 +6,7 @@ ghost use Rattle.ask_model.specs.Views.{rules_of};
 ghost use Rattle.transformers.specs.Suits.{Suits};
 
 use crate::rows::{
-    BOTH_LATE, COPIED, DOWNLOAD, EXPECT, JSON, LARGEST, LAST, LIGHT, PIPELINED, PUT, Row,
+    BOTH_LATE, COPIED, DOWNLOAD, EXPECT, JSON, LARGEST, LAST, LIGHT, PIECES, PIPELINED, PUT, Row,
 };
 use ask_model::Settings;
 use command_line::{Line, LineFault, ReplayFault, demonstration, line_of};
@@ -135,8 +135,8 @@ fn holds(alloc: Global, row: Row) -> bool {
     is_right && first != End::Wrong && second != End::Wrong
 }
 
-static ROWS: [Row; 10] = [
-    LIGHT, PUT, LARGEST, DOWNLOAD, JSON, PIPELINED, BOTH_LATE, EXPECT, LAST, COPIED,
+static ROWS: [Row; 11] = [
+    LIGHT, PUT, LARGEST, DOWNLOAD, JSON, PIPELINED, BOTH_LATE, EXPECT, LAST, COPIED, PIECES,
 ];
 
 /// Whether the row at that place holds.
@@ -195,4 +195,9 @@ fn memory_refused_to_the_last_request(rt: HostRuntime) {
 #[test]
 fn memory_refused_to_copies(rt: HostRuntime) {
     assert!(rt; holds_at(rt.alloc(), 9));
+}
+
+#[test]
+fn memory_refused_to_pieces(rt: HostRuntime) {
+    assert!(rt; holds_at(rt.alloc(), 10));
 }
