@@ -20,3 +20,6 @@ pub mod Keeping
 pub mod Responding
 pub mod Remembering
 pub mod Making
+pub mod Acting
+pub mod Stating
+pub mod Asking

@@ -11,7 +11,8 @@ use Rattle.demo_origin.specs.Values.{Device, Relation}
 use Rattle.demo_origin.specs.Answers.{answer_to, noted, sent}
 use Rattle.demo_origin.specs.Arrivals.{is_live, is_request, arrival}
 use Rattle.demo_origin.specs.Hearing.{asker, rst, undecoded, Takes, HearsRead, HearsBy}
-use Rattle.demo_origin.specs.Made.{Call, Follow, left_by, Says, ShowsId, Makes, IsMade, AnswersAreMade}
+use Rattle.demo_origin.specs.Calls.{Call, Follow, left_by}
+use Rattle.demo_origin.specs.Made.{Says, ShowsId, Makes, IsMade, AnswersAreMade}
 use Rattle.demo_origin.specs.Notifying.{talk_of, without_lost}
 use Rattle.demo_origin.specs.Observing.{is_sent_as, is_not_sent_as, relieved, acknowledged, rejected}
 use Rattle.demo_origin.specs.Once.{Event, heard, looked, gave, Steps}

@@ -1,5 +1,5 @@
 -- What a message makes the device give out was made by it.
-use Rattle.std.proofs.Common.{◌≡◌, ◌⊎◌, inl, inr, ℕ, ◌/◌, List, [], length, slice_get, Option, Some, None, true, refl, sym, ap, subst, ◌∙◌}
+use Rattle.std.proofs.Common.{◌≡◌, ◌⊎◌, inl, inr, ℕ, ◌/◌, List, [], length, slice_get, Option, Some, None, refl, sym, ap, subst}
 use Rattle.std.specs.List.{AllByRecursion}
 use Rattle.uri_map.specs.declared.peer.Peer.{Peer}
 use Rattle.coap_codec.specs.Spelling.{Content, Entry, Spells}
@@ -13,7 +13,7 @@ use Rattle.demo_origin.specs.Hearing.{stated, is_change, with_resource, asker, p
 use Rattle.demo_origin.specs.Made.{Says}
 use Rattle.demo_origin.specs.Observing.{wish_of, is_granted, enlisted, left_by as left_over}
 use Rattle.demo_origin.specs.Pieces.{holding, GivesUp}
-use Rattle.demo_origin.specs.Requests.{is_at, asked}
+use Rattle.demo_origin.specs.Requests.{IsAt, asked}
 use Rattle.demo_origin.specs.Uploads.{upload_of, body_at, before_piece, with_piece, with_body, without as dropped}
 use Rattle.demo_origin.specs.declared.execution.Taken.{Taken}
 use Rattle.demo_origin.specs.declared.request.Method.{Method}
@@ -28,7 +28,7 @@ use Rattle.demo_origin.specs.declared.blocks.Part.TheVariants.{Whole, Piece, Pas
 use Rattle.demo_origin.specs.declared.uploads.Joined.{Joined}
 use Rattle.demo_origin.specs.declared.uploads.Joined.TheVariants.{Gap, TooLarge, Next, Last}
 use Rattle.demo_origin.proofs.Ending.{is_next}
-use Rattle.demo_origin.proofs.Judging.{Gets, IsRight}
+use Rattle.demo_origin.proofs.Judging.{Gets, AsksFor, IsRight}
 use Rattle.demo_origin.proofs.Talking.{Stems, stems_itself, Announced}
 use Rattle.demo_origin.proofs.Keeping.{AllMade, same_made, notes, answers, enlists, leaves, settles}
 
@@ -59,17 +59,15 @@ module _ (R : Relation) (M : Datagram → Type 0) (t : ℕ) (p : Peer) (m : Cont
       })
 
   shows : (i : ℕ) (wish : Wish) (held : Held) (b : Option Block) (new : Device)
-      → m.code ≡ 1 → slice_get start.resources i ≡ Some held
-      → is_at (values 11 m.options) held ≡ true
+      → m.code ≡ 1 → IsAt (values 11 m.options) start.resources i held
       → Shows (asker t p m) i wish held b start new → AllMade M start → AllMade M new
-  shows i wish held b new get at path s g =
+  shows i wish held b new get at s g =
       let says : Says R start m taken 69 s.options (shown_part b held.state) = inl (record {
         get = get;
         content = refl;
         place = i;
         held = held;
         stands = at;
-        path = path;
         observed = is_granted wish p i m.token start.observers;
         part = b;
         describes = s.describes;
@@ -92,13 +90,11 @@ module _ (R : Relation) (M : Datagram → Type 0) (t : ℕ) (p : Peer) (m : Cont
       })
 
   parts : (i : ℕ) (wish : Wish) (held : Held) (part : Part) (new : Device)
-      → m.code ≡ 1 → slice_get start.resources i ≡ Some held
-      → is_at (values 11 m.options) held ≡ true
+      → m.code ≡ 1 → IsAt (values 11 m.options) start.resources i held
       → ReadsPart (asker t p m) i wish held part start new → AllMade M start → AllMade M new
-  parts i wish held Whole new get at path h g = shows i wish held None new get at path h g
-  parts i wish held (Piece b) new get at path h g =
-      shows i wish held (Some b) new get at path h g
-  parts i wish held Past new get at path h g =
+  parts i wish held Whole new get at h g = shows i wish held None new get at h g
+  parts i wish held (Piece b) new get at h g = shows i wish held (Some b) new get at h g
+  parts i wish held Past new get at h g =
       declines i wish 128 start new (inl refl) h g
 
   reads : (i : ℕ) (wish : Wish) (named : Option Block) (o : Option Held) (new : Device)
@@ -106,17 +102,14 @@ module _ (R : Relation) (M : Datagram → Type 0) (t : ℕ) (p : Peer) (m : Cont
       → Reads (asker t p m) i wish named o start new → AllMade M start → AllMade M new
   reads i wish named None new at gets h g = absurd h
   reads i wish named (Some held) new at gets h g =
-      let same : Some gets.held ≡ Some held = sym gets.stands ∙ at in
-      let is : gets.held ≡ held = cc in
-      let P : Held → Type 0 = λ x.
-      is_at (values 11 m.options) x ≡ true in
-      parts i wish held (part_of named start.block (length held.state)) new gets.get at
-      (subst P is gets.path) h g
+      parts i wish held (part_of named start.block (length held.state)) new gets.get
+      (record { first = gets.stands.first; stands = at }) h g
 
   executes : (body : List ℕ) (i : ℕ) (method : Method) (new : Device) (done : Taken)
-      → taken ≡ Some done → Executes R (asker t p m) (with_body body m) i method start new done
+      → taken ≡ Some done → AsksFor m start.resources i method
+      → Executes R (asker t p m) (with_body body m) i method start new done
       → Announced M start.observers new.resources new.block → AllMade M start → AllMade M new
-  executes body i method new done is h a g =
+  executes body i method new done is right h a g =
       let x = h.changes in
       let changed = with_resource i
       (stated h.held (is_change h.held.state h.after h.reply) h.after) start in
@@ -129,8 +122,9 @@ module _ (R : Relation) (M : Datagram → Type 0) (t : ℕ) (p : Peer) (m : Cont
         executed = is;
         place = i;
         held = h.held;
-        stands = h.there;
+        stands = record { first = right.stands.first; stands = h.there };
         method = method;
+        method_is = right.code;
         body = body;
         reply = h.reply;
         comes = subst C (sym after) h.comes;
@@ -157,11 +151,12 @@ module _ (R : Relation) (M : Datagram → Type 0) (t : ℕ) (p : Peer) (m : Cont
 
   pieces : (i : ℕ) (method : Method) (b : Block) (j : Joined) (new : Device)
       → named_by (values 27 m.options) ≡ Some b → piece_after p i b m start ≡ j
+      → AsksFor m start.resources i method
       → TakesPiece R (asker t p m) m i method b j start new taken
       → Announced M start.observers new.resources new.block → AllMade M start → AllMade M new
-  pieces i method b Gap new named e h a g = gives_up i 136 new (inl refl) h.0 g
-  pieces i method b TooLarge new named e h a g = gives_up i 141 new (inl refl) h.0 g
-  pieces i method b Next new named e h a g =
+  pieces i method b Gap new named e right h a g = gives_up i 136 new (inl refl) h.0 g
+  pieces i method b TooLarge new named e right h a g = gives_up i 141 new (inl refl) h.0 g
+  pieces i method b Next new named e right h a g =
       let k = h.0 in
       let says : Says R start m taken 95 k.options [] = inr (inr (inl (record {
         continue = refl;
@@ -177,7 +172,7 @@ module _ (R : Relation) (M : Datagram → Type 0) (t : ℕ) (p : Peer) (m : Cont
       k.answers
       (responds (own_mid p start.clients) 95 k.options [] k.answers.bytes k.answers.spelled says)
       (record { out = g.out; kept = g.kept; told = g.told })
-  pieces i method b Last new named e h a g =
+  pieces i method b Last new named e right h a g =
       let x = h.2 in
       let body = with_piece p i b m.payload start in
       let D : List Held → Type 0 = λ rs. Announced M start.observers rs new.block in
@@ -185,17 +180,18 @@ module _ (R : Relation) (M : Datagram → Type 0) (t : ℕ) (p : Peer) (m : Cont
       let made : Announced M start.observers x.0.resources x.0.block =
       subst B (ap (λ (d : Device). d.block) x.2)
       (subst D (ap (λ (d : Device). d.resources) x.2) a) in
-      let mid = executes body i method x.0 h.0 h.1 x.1 made g in
+      let mid = executes body i method x.0 h.0 h.1 right x.1 made g in
       same_made M (dropped p i x.0) new x.2
       (record { out = mid.out; kept = mid.kept; told = mid.told })
 
   asks : (i : ℕ) (method : Method) (named : Option Block) (new : Device)
-      → named_by (values 27 m.options) ≡ named
+      → named_by (values 27 m.options) ≡ named → AsksFor m start.resources i method
       → Asks R (asker t p m) m i method named start new taken
       → Announced M start.observers new.resources new.block → AllMade M start → AllMade M new
-  asks i method None new e h a g = executes m.payload i method new h.0 h.1 h.2 a g
-  asks i method (Some b) new e h a g =
-      pieces i method b (piece_after p i b m start) new e refl h a g
+  asks i method None new e right h a g =
+      executes m.payload i method new h.0 h.1 right h.2 a g
+  asks i method (Some b) new e right h a g =
+      pieces i method b (piece_after p i b m start) new e refl right h a g
 
   pub processes : (j : Judged) (new : Device) → IsRight m start.resources j
       → Processes R (asker t p m) m j start new taken
@@ -210,4 +206,4 @@ module _ (R : Relation) (M : Datagram → Type 0) (t : ℕ) (p : Peer) (m : Cont
       reads i (wish_of (values 6 m.options)) (named_by (values 23 m.options))
       (slice_get start.resources i) new refl right h.0 g
   processes (Asked i method) new right h a g =
-      asks i method (named_by (values 27 m.options)) new refl h a g
+      asks i method (named_by (values 27 m.options)) new refl right h a g

@@ -17,4 +17,7 @@ pub mod Once
 pub mod Kinds
 pub mod LastPiece
 pub mod Versions
+pub mod Calls
+pub mod Done
+pub mod Asked
 pub mod Made

@@ -1,6 +1,6 @@
 -- Where what a device gives out comes from: each datagram was first made by a call, of the state as
 -- it stood at that moment.
-use Rattle.std.specs.Prelude.{◌≡◌, ◌⊎◌, ℕ, ◌/◌, List, [], ◌∷◌, slice_get, Contains, Option, Some, Bool, true, Ok}
+use Rattle.std.specs.Prelude.{◌≡◌, ◌⊎◌, ℕ, ◌/◌, List, [], slice_get, Contains, Option, Some, Bool, true, Ok}
 use Rattle.std.specs.List.{AllByRecursion}
 use Rattle.coap_codec.specs.Spelling.{Content, Entry, Spells}
 use Rattle.coap_codec.specs.Reading.{message_at}
@@ -11,35 +11,18 @@ use Rattle.demo_origin.specs.Values.{Device, Relation, Replied}
 use Rattle.demo_origin.specs.Arrivals.{is_request}
 use Rattle.demo_origin.specs.Answers.{answer_to, Describes, shown_part}
 use Rattle.demo_origin.specs.Blocks.{named_by}
+use Rattle.demo_origin.specs.Calls.{Call, Follow, left_by}
 use Rattle.demo_origin.specs.Hearing.{asker, rst, Comes}
 use Rattle.demo_origin.specs.Notifying.{Notifies}
-use Rattle.demo_origin.specs.Once.{Event, heard, Steps}
+use Rattle.demo_origin.specs.Once.{Event, heard}
 use Rattle.demo_origin.specs.Origins.{fresh}
-use Rattle.demo_origin.specs.Requests.{asked, is_at}
+use Rattle.demo_origin.specs.Requests.{asked, IsAt, method_code}
 use Rattle.demo_origin.specs.Uploads.{AsksForMore, with_body}
 use Rattle.demo_origin.specs.declared.execution.Taken.{Taken}
 use Rattle.demo_origin.specs.declared.request.Method.{Method}
 use Rattle.demo_origin.specs.declared.state.Datagram.{Datagram}
 use Rattle.demo_origin.specs.declared.state.Held.{Held}
 use Rattle.demo_origin.specs.declared.state.Observer.{Observer}
-
--- ---- runs with their devices
-
--- a call, with the device before it and after it
-pub record Call : Type 0 where
-  pub event : Event
-  pub before : Device
-  pub after : Device
-
--- calls one after another, from that device on
-abbrev pub Follow : Relation → Device → List Call → Type 0
-Follow R s [] = Unit {0}
-Follow R s (c ∷ cs) = (c.before ≡ s) × Steps R c.event c.before c.after × Follow R c.after cs
-
--- the device after them
-abbrev pub left_by : Device → List Call → Device
-left_by s [] = s
-left_by s (c ∷ cs) = left_by c.after cs
 
 -- ---- what an answer says
 
@@ -50,22 +33,22 @@ pub record ShowsState (before : Device) (m : Content) (code : ℕ) (options : Li
   pub content : code ≡ 69
   pub place : ℕ
   pub held : Held
-  pub stands : slice_get before.resources place ≡ Some held
-  pub path : is_at (values 11 m.options) held ≡ true
+  pub stands : IsAt (values 11 m.options) before.resources place held
   pub observed : Bool
   pub part : Option Block
   pub describes : Describes held observed part options
   pub shown : payload ≡ shown_part part held.state
 
--- what came of a request that was executed, on the state as it stood
+-- what came of a request that was executed, on the state of its resource as it stood
 pub record ShowsReply (R : Relation) (before : Device) (m : Content) (taken : Option Taken)
     (code : ℕ) (options : List Entry) (payload : List ℕ) : Type 0 where
   pub done : Taken
   pub executed : taken ≡ Some done
   pub place : ℕ
   pub held : Held
-  pub stands : slice_get before.resources place ≡ Some held
+  pub stands : IsAt (values 11 m.options) before.resources place held
   pub method : Method
+  pub method_is : method_code method ≡ m.code
   pub body : List ℕ
   pub reply : Replied
   pub comes : Comes R held.state (asked method (with_body body m)) done.after reply

@@ -50,6 +50,12 @@ number_in (v ∷ vs) = if nat_le (length v) 2 then Some (uint v) else None
 abbrev pub is_at : List (List ℕ) → Held → Bool
 is_at path r = pointwise (pointwise ◌==◌) r.path path
 
+-- The resource of a path, and its number: of equal paths the first counts.
+pub record IsAt (path : List (List ℕ)) (resources : List Held) (i : ℕ) (held : Held) : Type 0
+  where
+    pub first : position (is_at path) resources ≡ Some i
+    pub stands : slice_get resources i ≡ Some held
+
 -- no Accept, or that of the resource
 abbrev pub suits : Option ℕ → ℕ → Bool
 suits None format = true
@@ -65,6 +71,12 @@ confirms Rst = false
 abbrev pub HasVersion : List Held → ℕ → ℕ → Type 0
 HasVersion resources i version =
     (i < length resources) × IfSome (slice_get resources i) (λ (h : Held). h.version ≡ version)
+
+-- the code of a request for which a handler is asked
+abbrev pub method_code : Method → ℕ
+method_code Post = 2
+method_code Put = 3
+method_code Delete = 4
 
 -- a resource at its last version changes no more
 abbrev pub asked_for : ℕ → ℕ → Method → Judged

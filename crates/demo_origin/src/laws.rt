@@ -1,6 +1,8 @@
 //! Laws of whole runs.
 
 ghost use Rattle.demo_origin.specs.Once.{AnsweredAlike, ExecutedOnce};
+ghost use Rattle.demo_origin.specs.Asked.{RegistrationsAreAsked};
+ghost use Rattle.demo_origin.specs.Done.{ExecutionsTell, StatesAreTold};
 ghost use Rattle.demo_origin.specs.LastPiece.{LastPieceExecutes};
 ghost use Rattle.demo_origin.specs.Made.{AnswersAreMade};
 ghost use Rattle.demo_origin.specs.Versions.{VersionsTell};
@@ -48,4 +50,21 @@ pub fn versions_tell<H: Behaviour>()
 /// it was executed, save for 2.31, which asks for more after a piece that isn't the last.
 pub fn answers_are_made<H: Behaviour>()
     ensures { AnswersAreMade H.relation }
+{}
+
+/// What is told of an execution is what the message asked for, and what the resource of its path
+/// held before and after.
+pub fn executions_tell<H: Behaviour>()
+    ensures { ExecutionsTell H.relation }
+{}
+
+/// Over a run a resource holds what the executions told that they left it with, in their order.
+pub fn states_are_told<H: Behaviour>()
+    ensures { StatesAreTold H.relation }
+{}
+
+/// Whoever is told of changes asked for it: each registration that stands was made by a GET with
+/// Observe 0 of its resource, which its peer sent with its token.
+pub fn registrations_are_asked<H: Behaviour>()
+    ensures { RegistrationsAreAsked H.relation }
 {}

@@ -43,8 +43,8 @@ pub use handler::{Boxed, Call, Handler};
 pub use judge::Judged;
 pub use kinds::{cell, counter};
 pub use laws::{
-    answered_alike, answers_are_made, executed_once, last_piece_executes, observers_told,
-    only_observers_told, versions_tell,
+    answered_alike, answers_are_made, executed_once, executions_tell, last_piece_executes,
+    observers_told, only_observers_told, registrations_are_asked, states_are_told, versions_tell,
 };
 pub use observers::Wish;
 pub use origin::Origin;

@@ -1,8 +1,10 @@
 -- Rows, one after another.
-use Rattle.std.proofs.Common.{◌≡◌, zero, suc, ℕ, ◌+◌, ◌<◌, List, [], ◌∷◌, ◌++◌, append_assoc, length, take, get_or, sym, ap, subst, ◌∙◌, arith}
+use Rattle.std.proofs.Common.{◌≡◌, zero, suc, ℕ, ◌+◌, ◌<◌, List, [], ◌∷◌, ◌++◌, append_assoc, length, map, take, get_or, refl, sym, ap, subst, ◌∙◌, arith}
 use Rattle.demo_origin.specs.declared.resource.Resource.{Resource}
 use Rattle.proxy_settings.specs.declared.resource.Resource.{Resource as Row}
-use Rattle.device_server.specs.Rows.{segments_of, IsRow, AreRows}
+use Rattle.demo_origin.specs.Origins.{held_of}
+use Rattle.demo_origin.specs.declared.state.Held.{Held}
+use Rattle.device_server.specs.Rows.{segments_of, held_by, IsRow, AreRows}
 
 pub rows_more : {H X : Type 0} {F : X → Type 0} {g : _} (rows : List Row)
     (all : List (Resource H X F g)) (i : ℕ) (d : Row) (r : Resource H X F g) → i < length rows
@@ -24,6 +26,20 @@ rows_next {H} {X} {F} {g} rows all ys i n d r e f lt h k =
     let Q : ℕ → Type 0 = λ m. AreRows (take m rows) (all ++ r ∷ []) in
     let one : suc i ≡ n = omega (arith, e) in
     subst P (sym f) (subst Q one (rows_more rows all i d r lt h k))
+
+-- the resources of the rows hold at first what the rows say
+held_alike : {H X : Type 0} {F : X → Type 0} {g : _} (row : Row) (r : Resource H X F g)
+    → IsRow row r → held_of r ≡ held_by row
+held_alike row r h = rw (h.path, h.format, h.max_age, h.state) refl
+
+pub all_held : {H X : Type 0} {F : X → Type 0} {g : _} (rows : List Row)
+    (all : List (Resource H X F g)) → AreRows rows all → map held_of all ≡ map held_by rows
+all_held [] [] h = refl
+all_held [] (r ∷ rs) h = absurd h
+all_held (row ∷ rows) [] h = absurd h
+all_held (row ∷ rows) (r ∷ rs) h =
+    ap (λ (x : Held). x ∷ map held_of rs) (held_alike row r h.0)
+    ∙ ap (λ (xs : List Held). held_by row ∷ xs) (all_held rows rs h.1)
 
 -- the segments that are taken off go before those of the rest
 pub path_goes_on : (all : List (List ℕ)) (segment rest more path : List ℕ)

@@ -1,8 +1,12 @@
 -- What a row of settings stands for.
-use Rattle.std.specs.Prelude.{◌≡◌, ℕ, List, [], ◌∷◌, ◌==◌}
+use Rattle.std.specs.Prelude.{◌≡◌, ℕ, List, [], ◌∷◌, ◌==◌, map, min}
 use Rattle.std.specs.List.{slice_split}
 use Rattle.demo_origin.specs.Keeps.{KeepsRelation}
+use Rattle.demo_origin.specs.Origins.{fresh}
+use Rattle.demo_origin.specs.Values.{Device}
+use Rattle.demo_origin.specs.declared.state.Held.{Held}
 use Rattle.demo_origin.specs.declared.resource.Resource.{Resource}
+use Rattle.proxy_settings.specs.declared.device.Device.{Device as Settings}
 use Rattle.proxy_settings.specs.declared.resource.Resource.{Resource as Row}
 use Rattle.device_server.specs.Kinds.{relation_of}
 
@@ -26,3 +30,17 @@ AreRows [] [] = Unit {0}
 AreRows [] (r ∷ rs) = ⊥
 AreRows (row ∷ rows) [] = ⊥
 AreRows (row ∷ rows) (r ∷ rs) = IsRow row r × AreRows rows rs
+
+-- what the resource of a row holds at first
+abbrev pub held_by : Row → Held
+held_by row = record {
+  path = segments_of row.path;
+  format = row.format;
+  max_age = row.max_age;
+  state = row.state;
+  version = 0;
+}
+
+-- The device of the settings, before it hears anything: its blocks have 1,024 bytes at most.
+abbrev pub device_by : Settings → Device
+device_by s = fresh (min s.block 6) (map held_by s.resources)

@@ -1,5 +1,5 @@
 -- What a device on a wire goes through.
-use Rattle.std.specs.Prelude.{◌≡◌, ◌≤◌, ℕ, List, [], ◌∷◌, ◌++◌, length, take, sum_by, flat_map, Option, Some, None, Bool, true, false, ◌&&◌, if◌then◌else◌}
+use Rattle.std.specs.Prelude.{◌≡◌, ◌⊎◌, ◌≤◌, ℕ, List, [], ◌∷◌, ◌++◌, length, take, sum_by, flat_map, Option, Some, None, Bool, true, false, ◌&&◌, if◌then◌else◌}
 use Rattle.uri_map.specs.declared.peer.Peer.{Peer}
 use Rattle.demo_origin.specs.Values.{Device, Relation}
 use Rattle.demo_origin.specs.Hearing.{Hears}
@@ -64,6 +64,10 @@ pub record Takes (R : Relation) (u : Turn) (old new : Device) : Type 0 where
   pub looks : LooksAt u.moment u.turned.looks heard looked
   pub sends : u.sent ≡ looked.out
   pub is : new ≡ emptied looked
+
+-- the clock failed, or the wire
+abbrev pub Fails : Bool → Bool → Type 0
+Fails clock wire = (clock ≡ true) ⊎ (wire ≡ true)
 
 -- turns, one after another
 abbrev pub TakesAll : Relation → List Turn → Device → Device → Type 0

@@ -15,7 +15,7 @@ mod wire;
 
 pub use clock::{Clock, SystemClock};
 pub use kinds::{Kinds, answer};
-pub use server::run;
+pub use server::{run, serve_rows};
 pub use server_faults::DeviceFault;
 pub use turns::{Served, Turned, serve, turn};
 pub use wire::{DevicePort, Failed, Wire};

@@ -3,14 +3,18 @@
 ghost use Rattle.std.specs.Prelude.{◌≡◌, ◌≤◌, ◌<◌, ◌∷◌, [], ◌==◌, length, IfOk, IfSome, IfNone};
 ghost use Rattle.std.specs.List.{position_or_len};
 ghost use Rattle.demo_origin.specs.Keeps.{Keeps, KeepsRelation};
+ghost use Rattle.demo_origin.specs.Origins.{Sound, EachKeeps, device};
 ghost use Rattle.device_server.specs.Kinds.{kinds, relation_of};
-ghost use Rattle.device_server.specs.Rows.{segments_of, IsRow};
+ghost use Rattle.device_server.specs.Rows.{segments_of, IsRow, AreRows, device_by};
 
 use crate::kinds::Kinds;
-use demo_origin::{Call, Handler, Resource, Segments};
+use demo_origin::{Call, Handler, Memory, Origin, Resource, Segments};
 use message_layer::Bytes;
-use proxy_settings::{Kind, Resource as Row};
+use proxy_settings::{Device as Settings, Kind, Resource as Row};
 use std::alloc::{AllocError, Global};
+
+/// The greatest size exponent of a block (RFC 7959, section 2.2).
+const MAX_SZX: u8 = 6;
 
 /// How long the first segment of a path is.
 fn segment_len(path: &[u8]) -> usize
@@ -88,4 +92,19 @@ pub(crate) fn resource_of(
         state: state_of(alloc, row.state.as_bytes())?,
         handler: handler_of(row.kind, call),
     })
+}
+
+/// The device that the settings say, by the resources of their rows.
+#[tactic(auto, using(crate::proofs::Listed::all_held))]
+pub(crate) fn origin_of(
+    alloc: Global,
+    settings: &Settings,
+    all: Vec<Resource<Kinds>>,
+) -> Result<Origin<Kinds>, Memory>
+    requires rows { AreRows settings.now.resources all.items }
+    requires keep { EachKeeps kinds all.items }
+    ensures sound { IfOk result (λ o. Sound kinds o) }
+    ensures says { IfOk result (λ o. device o ≡ device_by settings.now) }
+{
+    Origin::new(alloc, settings.block.min(MAX_SZX), all)
 }

@@ -1,8 +1,8 @@
 //! The turns of a device: it waits, hears, looks at its timers, and sends.
 
-ghost use Rattle.std.specs.Prelude.{◌≡◌, ◌≤◌, ◌-◌, ◌<◌, ◌+◌, min, length, Some, IfOk, IfSome, OnErr};
+ghost use Rattle.std.specs.Prelude.{◌≡◌, ◌⊎◌, ◌≤◌, ◌-◌, ◌<◌, ◌+◌, min, length, Some, IfOk, IfSome, OnErr};
 ghost use Rattle.demo_origin.specs.Origins.{Sound, device};
-ghost use Rattle.device_server.specs.Turns.{Grown, GrownByOne, HearsCame, LooksAt, received, missed, GoesOn, GoesThrough};
+ghost use Rattle.device_server.specs.Turns.{Grown, GrownByOne, HearsCame, LooksAt, received, missed, Fails, GoesOn, GoesThrough};
 ghost use Rattle.device_server.specs.Sending.{emptied};
 
 use crate::clock::Clock;
@@ -51,6 +51,7 @@ fn send_all<H: Behaviour, L: Wire>(origin: &mut Origin<H>, wire: &mut L)
     ensures gives { device origin.new ≡ emptied (device origin.old) }
     ensures sends { Grown (L.sent wire.old) (L.sent wire.new) (device origin.old).out }
     ensures quiet { L.came wire.new ≡ L.came wire.old }
+    ensures working { L.failed wire.new ≡ L.failed wire.old }
 {
     'each: while let Some(datagram) = origin.take_send() {
         wire.send(datagram.peer, datagram.bytes.as_slice());
@@ -109,6 +110,7 @@ pub fn turn<H: Behaviour, L: Wire, C: Clock>(
     ensures quiet { OnErr result (L.sent wire.new ≡ L.sent wire.old) }
     ensures late { OnErr result (GrownByOne (C.told clock.old) (C.told clock.new)) }
     ensures lost { OnErr result (GrownByOne (L.came wire.old) (L.came wire.new)) }
+    ensures fails { OnErr result (Fails (C.failed clock.new) (L.failed wire.new)) }
 {
     let begun = clock.moment()?;
     let wait = wait_until(origin.next_due(), begun);
@@ -141,6 +143,7 @@ pub fn serve<H: Behaviour, L: Wire, C: Clock>(
     requires { Sound H.relation origin.old }
     ensures sound { Sound H.relation origin.new }
     ensures turns { result.turns ≤ turns }
+    ensures ends { (result.turns ≡ turns) ⊎ Fails (C.failed clock.new) (L.failed wire.new) }
     ensures goes { GoesThrough H.relation turns result
         (device origin.old) (device origin.new) (C.told clock.old) (C.told clock.new)
         (L.came wire.old) (L.came wire.new) (L.sent wire.old) (L.sent wire.new) }

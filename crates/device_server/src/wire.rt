@@ -1,6 +1,6 @@
 //! The socket of a device.
 
-ghost use Rattle.std.specs.Prelude.{◌≤◌, ◌≡◌, [], ◌∷◌, length, IfOk, OnErr, IfSome};
+ghost use Rattle.std.specs.Prelude.{◌≤◌, ◌≡◌, [], ◌∷◌, length, true, IfOk, OnOk, OnErr, IfSome};
 ghost use Rattle.device_server.specs.Turns.{Grown, datagram, listed, received};
 
 use server_faults::DeviceFault;
@@ -15,7 +15,7 @@ pub struct Failed;
 
 /// What datagrams go out by and come in by.
 pub trait Wire {
-    ghost use Rattle.std.specs.Prelude.{List, Option};
+    ghost use Rattle.std.specs.Prelude.{List, Option, Bool};
     ghost use Rattle.demo_origin.specs.declared.state.Datagram.{Datagram};
 
     /// the datagrams that came, each with its sender, in order, where that can be known
@@ -24,10 +24,14 @@ pub trait Wire {
     /// the datagrams that were handed in, each with its receiver, in order, where that can be known
     ghost sent: { Self → Option (List Datagram) };
 
+    /// whether it failed
+    ghost failed: { Self → Bool };
+
     /// Sends a datagram. One that can't be sent is lost.
     fn send(&mut self, peer: Peer, bytes: &[u8])
         ensures sends { Grown (sent self.old) (sent self.new) (datagram peer bytes.now ∷ []) }
-        ensures quiet { came self.new ≡ came self.old };
+        ensures quiet { came self.new ≡ came self.old }
+        ensures sound { failed self.new ≡ failed self.old };
 
     /// Puts the datagram that comes within so many milliseconds into the buffer, and answers how
     /// long it is and who sent it.
@@ -37,20 +41,26 @@ pub trait Wire {
         ensures brings { IfOk result (λ o.
             Grown (came self.old) (came self.new) (listed (received buffer.new o))) }
         ensures none { OnErr result (came self.new ≡ came self.old) }
-        ensures same { sent self.new ≡ sent self.old };
+        ensures same { sent self.new ≡ sent self.old }
+        ensures sound { OnOk result (failed self.new ≡ failed self.old) }
+        ensures fails { OnErr result (failed self.new ≡ true) };
 }
 
 /// The UDP socket of a device.
 #[derive(Drop)]
 pub struct DevicePort {
     socket: UdpSocket,
+    failed: bool,
 }
 
 impl DevicePort {
     /// Takes the address. A port of 0 is one that the system chooses.
     pub fn bind<W: Net>(rt: &W, at: SocketAddr) -> Result<DevicePort, DeviceFault> {
         match UdpSocket::bind(rt, at) {
-            Ok(socket) => Ok(DevicePort { socket }),
+            Ok(socket) => Ok(DevicePort {
+                socket,
+                failed: false,
+            }),
             Err(error) => Err(DeviceFault::Listen(at, error)),
         }
     }
@@ -77,6 +87,8 @@ impl Wire for DevicePort {
 
     ghost sent = { λ p. None };
 
+    ghost failed = { λ p. p.failed };
+
     fn send(&mut self, peer: Peer, bytes: &[u8]) {
         let _ = self
             .socket
@@ -93,7 +105,10 @@ impl Wire for DevicePort {
                 },
             ))),
             Err(error) if is_passing(error.kind()) => Ok(None),
-            Err(_) => Err(Failed),
+            Err(_) => {
+                self.failed = true;
+                Err(Failed)
+            }
         }
     }
 }

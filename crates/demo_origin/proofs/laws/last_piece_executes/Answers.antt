@@ -1,4 +1,4 @@
-use Rattle.demo_origin.proofs.Ending.{last_piece_executes}
+use Rattle.demo_origin.proofs.Acting.{last_piece_executes}
 use Rattle.demo_origin.proofs.laws.last_piece_executes.Goals as goal
 
 pub returns : goal.returns

@@ -20,4 +20,5 @@ each-preserved g c =
       gives_more start old new first before after c.in-Some.datagram c.each.invariant.1 given
           (subst P c.as_slice.ensures c.send.ensures.sends),
       c.send.ensures.quiet ∙ c.each.invariant.2,
+      c.send.ensures.sound ∙ c.each.invariant.3,
     )

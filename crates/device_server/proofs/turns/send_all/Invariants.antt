@@ -9,6 +9,7 @@ invariant-each g l =
     × Giving (device l.initial.origin) (device l.origin) (g.L.Wire.sent l.initial.wire)
     (g.L.Wire.sent l.wire)
     × (g.L.Wire.came l.wire ≡ g.L.Wire.came l.initial.wire)
+    × (g.L.Wire.failed l.wire ≡ g.L.Wire.failed l.initial.wire)
 
 abbrev pub decreases-each : goal.decreases-each
 decreases-each g l = length (device l.origin).out
