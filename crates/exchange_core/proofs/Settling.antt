@@ -22,7 +22,7 @@ use Rattle.exchange_model.specs.Steps.{Matter, Numbers, asked_in, content_by, ex
 use Rattle.exchange_model.specs.Calls.{grounds_for}
 use Rattle.exchange_table.specs.Tables.{went_on}
 use Rattle.exchange_table.proofs.CallerLemmas.{went-so}
-use Rattle.exchange_progress.specs.Coming.{IsEnded, is_empty, told_as}
+use Rattle.exchange_progress.specs.Coming.{IsEnded, first_got, told_as}
 use Rattle.exchange_progress.specs.declared.coming.Ended.{Ended}
 use Rattle.exchange_progress.specs.declared.coming.Ended.TheVariants as How
 use Rattle.exchange_core.specs.declared.matter.Going.{Going}
@@ -151,7 +151,7 @@ exchanges-go n ws new g x es i =
 
 -- the pieces after it
 
-pieces-got : (e : Exchange) (n : ℕ) (got : List Reply) (b : Option Block) (xs : List Piece) → is_none b ≡ is_none (is_empty got)
+pieces-got : (e : Exchange) (n : ℕ) (got : List Reply) (b : Option Block) (xs : List Piece) → is_none b ≡ is_none (first_got got)
     → (is_none b ≡ true → filter (is_of_other e) xs ≡ pieces_with e n got xs)
     × (is_none b ≡ false → xs ++ record { opening = e.opening; number = n } ∷ [] ≡ pieces_with e n got xs)
 pieces-got e n [] b xs same = (λ none. refl, λ some. absurd (clash (sym some ∙ same)))

@@ -26,7 +26,7 @@ use Rattle.exchange_model.specs.declared.kept.Work.TheVariants as W
 use Rattle.exchange_model.specs.declared.kept.Piece.{Piece}
 use Rattle.exchange_model.specs.declared.kept.Reader.{Reader}
 use Rattle.exchange_model.specs.Steps.{fetched_in, heard_in, reply_at}
-use Rattle.exchange_progress.specs.Coming.{IsOnward, found_for, is_empty}
+use Rattle.exchange_progress.specs.Coming.{IsOnward, found_for, first_got}
 
 -- one piece after another
 
@@ -151,7 +151,7 @@ next-block p m b e = by (fault_of p m) refl e
     by (Some fault) is h = absurd (cc (h))
     by None is h = stepped (block_in 23 m) refl is (step-inner (step_of (block_in 23 m)) (Next b) h)
 
-named : (rs : List Reply) (r : Reply) → false ≡ is_none (is_empty (rs ++ r ∷ []))
+named : (rs : List Reply) (r : Reply) → false ≡ is_none (first_got (rs ++ r ∷ []))
 named [] r = refl
 named (x ∷ rs) r = refl
 

@@ -44,25 +44,28 @@ abbrev pub IsEnded : ℕ → Ended → Ending → Type 0
 IsEnded n (How.Found f) how = (sending : Option ℕ) (r : Reader) → f ≡ found_for how n sending r
 IsEnded n How.Turned how = how ≡ Turned
 
--- It goes on, having come so far: its next message is for the block after those before, and names one
--- unless it begins anew, as a GET alone does.
+-- what a GET asks for, and it alone, may be begun anew
 abbrev pub is_fetched : Work → Bool
 is_fetched (W.Fetches restarts pieces) = true
 is_fetched (W.Gives upload) = false
 
+-- the block after those before
 abbrev pub block_in : Work → Option Block
 block_in (W.Fetches restarts pieces) = block_after pieces
 block_in (W.Gives upload) = next_block upload
 
-abbrev pub is_empty : List Reply → Option Reply
-is_empty [] = None
-is_empty (r ∷ rs) = Some r
+-- the first of the replies that came since it was begun
+abbrev pub first_got : List Reply → Option Reply
+first_got [] = None
+first_got (r ∷ rs) = Some r
 
+-- It goes on, having come so far: its next message is for the block after those before, and names one
+-- unless it begins anew, as a GET alone does.
 pub record IsOnward (o : Onward) (progress : Progress) : Type 0 where
   pub got : List Reply
   pub is : progress ≡ progress_with o.work got
   pub block : o.block ≡ block_in o.work
-  pub anew : is_none o.block ≡ is_none (is_empty got)
+  pub anew : is_none o.block ≡ is_none (first_got got)
   pub fetches : is_none o.block ≡ true → is_fetched o.work ≡ true
 
 -- The block that its next message names can be asked for.

@@ -1,4 +1,5 @@
 pub mod CallerLemmas
 mod Standing
+mod Searching
 mod Indexed
 mod Outrun
