@@ -1,0 +1,120 @@
+-- A POST that was answered by success was executed exactly once.
+use Rattle.std.proofs.Common.{◌≡◌, ℕ, ◌+◌, ◌<◌, ◌≤◌, ◌/◌, Bool, true, false, cond, eqb, inl, inr, List, [], ◌∷◌, length, Option, Some, None, refl, sym, ap, subst, ◌∙◌, arith}
+use Rattle.std.specs.Prelude.{slice_get}
+use Rattle.coap_codec.specs.Spelling.{Content, Spells}
+use Rattle.coap_codec.specs.declared.block.Block.{Block}
+use Rattle.coap_codec.proofs.Unique.{spells_one}
+use Rattle.uri_map.specs.declared.peer.Peer.{Peer}
+use Rattle.blockwise.specs.Uploads.{begun}
+use Rattle.ask_model.specs.Requests.{CoapRequest, block_message}
+use Rattle.journal_book.specs.Entries.{Deed, Sends, Hears, Live, Answers, Written}
+use Rattle.history_laws.specs.Justified.{Follows, Legal, Stands}
+use Rattle.history_laws.specs.Laws.{IsFirst}
+use Rattle.history_laws.specs.Progress.{Fetched, Given, first_point}
+use Rattle.blockwise.specs.Downloads.{no_pieces}
+use Rattle.history_laws.specs.Readings.{Noted, Note, First, Copies, Confirms, Plain, Begins, Joins, Serves, Says, Repeats, Garbled, Bygone, Recalls, noted, at, before, entries}
+use Rattle.history_laws.specs.Responses.{Response, whole_given, whole_of}
+use Rattle.history_laws.proofs.CallerLemmas.{follows-at, none-some, some-is}
+use Rattle.history_claims.specs.Headline.{AreHeardFor, IsEntry, IsFirstSending, RestsOn}
+use Rattle.history_claims.proofs.CallerLemmas.{entries-at}
+use Rattle.demo_origin.specs.Calls.{Call}
+use Rattle.demo_origin.specs.Origins.{fresh}
+use Rattle.demo_origin.specs.Values.{Relation}
+use Rattle.demo_origin.specs.declared.state.Held.{Held}
+use Rattle.story_laws.specs.Executions.{Executes}
+use Rattle.story_laws.specs.Networks.{Networks, AreGiven}
+use Rattle.story_laws.specs.Posts.{IsDoneOnce}
+use Rattle.story_laws.proofs.Executing.{messages-once}
+use Rattle.story_laws.proofs.Originating.{answered-executed}
+use Rattle.story_laws.proofs.Replying.{IsLastReply, last-reply}
+
+-- ---- entries and their notes
+
+-- only a first sending bears a timeout
+first-by : (l : List Noted) (i t : ℕ) (p : Peer) (b : List ℕ) (w : ℕ) (note : Note) (m : Content)
+    → at l i ≡ Some (noted t (Sends p b (Some w)) note) → Spells m b → Follows (before l i) t (Sends p b (Some w)) note
+    → (o : ℕ) × IsFirst l t o i p m
+first-by l i t p b w (First o k) m e spelled may =
+    let same : k ≡ m = spells_one k m b may.1.1.spelled spelled in
+    (o, subst (λ (c : Content). IsFirst l t o i p c) same (record { bytes = b; timeout = Some w; stands = e }))
+first-by l i t p b w (Copies j) m e spelled may = absurd (none-some w (sym may.1.1))
+first-by l i t p b w Confirms m e spelled may = absurd (none-some w (sym may.1.0))
+first-by l i t p b w Plain m e spelled may = absurd may.1
+first-by l i t p b w (Begins q) m e spelled may = absurd may.1
+first-by l i t p b w (Joins q) m e spelled may = absurd may.1
+first-by l i t p b w (Serves js) m e spelled may = absurd may.1
+first-by l i t p b w (Says k to notice) m e spelled may = absurd may.1
+first-by l i t p b w (Repeats k j) m e spelled may = absurd may.1
+first-by l i t p b w Garbled m e spelled may = absurd may.1
+first-by l i t p b w (Bygone k) m e spelled may = absurd may.1
+first-by l i t p b w (Recalls k answer) m e spelled may = absurd may.1
+
+-- an entry with its note
+pub record IsNoted (l : List Noted) (n t : ℕ) (d : Deed) : Type 0 where
+  pub note : Note
+  pub stands : at l n ≡ Some (noted t d note)
+
+pub noted-at : (l : List Noted) (h : List Written) (n t : ℕ) (d : Deed) → entries l ≡ h → IsEntry h n t d → IsNoted l n t d
+noted-at l h n t d e stands =
+    let it = entries-at l n _ (subst (λ (h : List Written). IsEntry h n t d) (sym e) stands) in
+    record { note = it.0; stands = it.1 }
+
+pub first-sent : (l : List Noted) (h : List Written) (i t : ℕ) (p : Peer) (m : Content) → Legal l → entries l ≡ h → IsFirstSending h i t p m
+    → (o : ℕ) × IsFirst l t o i p m
+first-sent l h i t p m legal e f =
+    let it = noted-at l h i t _ e f.stands in
+    first-by l i t p f.bytes f.timeout it.note m it.stands f.spelled (follows-at l i _ legal it.stands)
+
+-- ---- a POST's replies
+
+whole-post : (q : CoapRequest) (ms : List Content) (w : Response) → q.method ≡ 2 → whole_of q ms ≡ Some w
+    → whole_given (begun (length q.body) 6) ms ≡ Some w
+whole-post q [] w post e = absurd (none-some w e)
+whole-post q (m ∷ ms) w post e =
+    let no : eqb q.method 1 ≡ false = subst (λ (k : ℕ). eqb k 1 ≡ false) (sym post) refl in rw no at e
+
+heard-post : (h : List Written) (k : ℕ) (q : CoapRequest) (js : List ℕ) (ms : List Content) → q.method ≡ 2
+    → AreHeardFor h k q (first_point q) js ms → AreHeardFor h k q (Given (begun (length q.body) 6)) js ms
+heard-post h k q js ms post a =
+    let no : eqb q.method 1 ≡ false = subst (λ (k : ℕ). eqb k 1 ≡ false) (sym post) refl in
+    subst (λ (b : Bool). AreHeardFor h k q (cond b (Fetched no_pieces) (Given (begun (length q.body) 6))) js ms) no a
+
+pub code-of : (q : CoapRequest) (b : Option Block) (mid : ℕ) (token : List ℕ) → (block_message q b mid token).code ≡ q.method
+code-of q None mid token = refl
+code-of q (Some b) mid token = refl
+
+pub posts-once : (R : Relation) (h : List Written) (device proxy : Peer) (block : ℕ) (resources : List Held) (cs : List Call)
+    (n t c k : ℕ) (js : List ℕ) (s : Stands h)
+    → Networks R s.reading device proxy (fresh block resources) cs
+    → AreGiven s.reading device proxy (fresh block resources) cs
+    → IsEntry h n t (Answers c k (Live js)) → (r : RestsOn h n c k js)
+    → r.request.method ≡ 2 → r.request.peer ≡ device → r.response.code / 32 ≡ 2
+    → IsDoneOnce h r.opening r.request proxy cs
+posts-once R h device proxy block resources cs n t c k js s net given answered r post to class =
+    let q = r.request in
+    let last = last-reply h r.opening q (begun (length q.body) 6) js r.messages r.response
+    (heard-post h r.opening q js r.messages post r.heard) (whole-post q r.messages r.response post r.whole) in
+    let for_it = last.heard.sent_for in
+    let sent = last.heard.sent in
+    let first = first-sent s.reading h last.heard.sending for_it.moment q.peer sent s.legal s.entries_are for_it.first in
+    let code : sent.code ≡ 2 = ap (λ (m : Content). m.code) for_it.asks ∙ (code-of q last.block sent.mid sent.token ∙ post) in
+    let heard = last.heard.response.heard in
+    let entry = noted-at s.reading h last.number last.heard.response.moment _ s.entries_are heard.stands in
+    let gave = given last.number last.heard.response.moment heard.bytes entry.note
+    (subst (λ (p : Peer). at s.reading last.number ≡ Some (noted last.heard.response.moment (Hears p heard.bytes) entry.note)) to entry.stands) in
+    let done = answered-executed R s.reading device proxy block resources cs for_it.moment first.0 last.heard.sending q.peer sent last.message heard.bytes
+    net gave first.1 code heard.spelled last.heard.response.token (subst (λ (c : ℕ). c / 32 ≡ 2) last.is class) last.ends in
+    record {
+      since = last.since;
+      not_before = last.not_before;
+      block = last.block;
+      sending = last.heard.sending;
+      message = sent;
+      sent = for_it;
+      place = done.place;
+      call = done.call;
+      stands = done.stands;
+      executes = done.executes;
+      once = λ b y e x. messages-once R s.reading device proxy q.peer (fresh block resources) cs for_it.moment first.0 last.heard.sending b done.place sent y done.call
+          net first.1 e done.stands x done.executes;
+    }

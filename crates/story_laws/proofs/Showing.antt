@@ -1,0 +1,194 @@
+-- A reply to a GET shows a state that the resource held.
+use Rattle.std.proofs.Common.{◌≡◌, ℕ, zero, suc, ◌+◌, ◌<◌, ◌≤◌, ◌/◌, Bool, true, false, inl, inr, List, [], ◌∷◌, ◌++◌, length, take, drop, Option, Some, None, refl, sym, ap, subst, ◌∙◌, arith}
+use Rattle.std.specs.Prelude.{slice_get, Ok}
+use Rattle.std.specs.List.{AllByRecursion, Contains}
+use Rattle.std.specs.Int.{w64, to_be_bytes}
+use Rattle.coap_codec.specs.Spelling.{Content, Entry, Spells}
+use Rattle.coap_codec.specs.Values.{values}
+use Rattle.coap_codec.specs.declared.block.Block.{Block}
+use Rattle.coap_codec.proofs.Unique.{spells_one}
+use Rattle.uri_map.specs.declared.peer.Peer.{Peer}
+use Rattle.ask_model.specs.Requests.{CoapRequest, block_message}
+use Rattle.journal_book.specs.Entries.{Hears, Written}
+use Rattle.history_laws.specs.Justified.{Stands}
+use Rattle.history_laws.specs.Laws.{IsFirst}
+use Rattle.history_laws.specs.Readings.{Noted, noted, at}
+use Rattle.history_laws.proofs.CallerLemmas.{all-of, none-some, some-is}
+use Rattle.history_claims.specs.Headline.{IsHeardFor}
+use Rattle.demo_origin.specs.Answers.{with_observe, shown_part, Describes}
+use Rattle.demo_origin.specs.Arrivals.{is_request}
+use Rattle.demo_origin.specs.Asked.{IsAskedFor}
+use Rattle.demo_origin.specs.Blocks.{IsBlockOption}
+use Rattle.demo_origin.specs.Calls.{Call, Follow, left_by}
+use Rattle.demo_origin.specs.Done.{HoldsLeft, left_with, told_in}
+use Rattle.demo_origin.specs.Made.{Says, ShowsState, ShowsReply, WantsMore, Declined, Resets, Responds, Announces, Makes, IsMade}
+use Rattle.demo_origin.specs.Observing.{wish_of}
+use Rattle.demo_origin.specs.Once.{Event, heard}
+use Rattle.demo_origin.specs.Origins.{fresh}
+use Rattle.demo_origin.specs.Requests.{IsAt, method_code}
+use Rattle.demo_origin.specs.Values.{Device, Relation}
+use Rattle.demo_origin.specs.declared.execution.Taken.{Taken}
+use Rattle.demo_origin.specs.declared.observers.Wish.{Wish}
+use Rattle.demo_origin.specs.declared.observers.Wish.TheVariants as W
+use Rattle.demo_origin.specs.declared.request.Method.{Method}
+use Rattle.demo_origin.specs.declared.request.Method.TheVariants as M
+use Rattle.demo_origin.specs.declared.state.Datagram.{Datagram}
+use Rattle.demo_origin.specs.declared.state.Held.{Held}
+use Rattle.demo_origin.proofs.Asking.{registrations_are_asked}
+use Rattle.demo_origin.proofs.Making.{answers_are_made}
+use Rattle.demo_origin.proofs.Stating.{states_are_told}
+use Rattle.story_laws.specs.Networks.{IsGiven, Networks, AreGiven}
+use Rattle.story_laws.specs.Reads.{ShowsHeld}
+use Rattle.story_laws.proofs.Executing.{arrives}
+use Rattle.story_laws.proofs.Originating.{at-contained, at-take, follow-take, heard-it, rst-code}
+use Rattle.story_laws.proofs.Posting.{code-of, first-sent, noted-at}
+
+-- ---- what the resource held
+
+same-place : (path : List (List ℕ)) (rs : List Held) (i j : ℕ) (a b : Held) → IsAt path rs i a → IsAt path rs j b → a ≡ b
+same-place path rs i j a b x y =
+    let place : i ≡ j = some-is i j (sym x.first ∙ y.first) in
+    some-is a b (sym x.stands ∙ (ap (slice_get rs) place ∙ y.stands))
+
+first-call : (R : Relation) (cs : List Call) (s : Device) (a : ℕ) (c : Call) → Follow R s cs → slice_get cs a ≡ Some c
+    → (x : Call) × (slice_get cs 0 ≡ Some x) × (x.before ≡ s)
+first-call R [] s a c f e = absurd (none-some c e)
+first-call R (x ∷ cs) s a c f e = (x, refl, f.0)
+
+held-left : (R : Relation) (cs : List Call) (s : Device) (a : ℕ) (c : Call) (path : List (List ℕ)) (number i : ℕ) (held first : Held)
+    → Follow R s cs → slice_get cs a ≡ Some c → IsAt path c.before.resources number held → IsAt path s.resources i first
+    → held.state ≡ left_with path first.state (told_in (take a cs))
+held-left R cs s a c path number i held first f e now before =
+    let begin = first-call R cs s a c f e in
+    let it : HoldsLeft path i first (told_in (take a cs)) c.before =
+    states_are_told R s cs 0 a begin.0 c path i first f begin.1 e (omega arith)
+    (subst (λ (d : Device). IsAt path d.resources i first) (sym begin.2) before) in
+    ap (λ (h : Held). h.state) (same-place path c.before.resources number i held it.held now it.stands) ∙ it.state
+
+-- ---- what the device says
+
+abbrev shown_options : List ℕ → Bool → List ℕ → List ℕ → List ℕ → List Entry → List Entry
+shown_options version observed observe format max_age block =
+    record { number = 4; value = version } ∷ with_observe observed observe (record { number = 12; value = format } ∷ record { number = 14; value = max_age } ∷ block)
+
+names-block : (version : List ℕ) (observed : Bool) (observe format max_age value : List ℕ)
+    → values 23 (shown_options version observed observe format max_age (record { number = 23; value = value } ∷ [])) ≡ [] → ⊥
+names-block version true observe format max_age value f = cc
+names-block version false observe format max_age value f = cc
+
+described-whole : (h : Held) (observed : Bool) (b : Option Block) (options : List Entry) → Describes h observed b options
+    → values 23 options ≡ [] → b ≡ None
+described-whole h observed None options d e = refl
+described-whole h observed (Some b) options d e =
+    let all : options ≡ shown_options (to_be_bytes w64 h.version) observed d.observe d.format d.max_age (record { number = 23; value = d.block_is.0 } ∷ []) =
+    d.options_are ∙ ap (shown_options (to_be_bytes w64 h.version) observed d.observe d.format d.max_age) d.block_is.1 in
+    absurd (names-block (to_be_bytes w64 h.version) observed d.observe d.format d.max_age d.block_is.0
+    (subst (λ (os : List Entry). values 23 os ≡ []) all e))
+
+not-get : (method : Method) → method_code method ≡ 1 → ⊥
+not-get M.Post e = absurd (omega (arith, e))
+not-get M.Put e = absurd (omega (arith, e))
+not-get M.Delete e = absurd (omega (arith, e))
+
+-- what it says of a GET, if that is a 2.05 that names no block
+pub record SaysHeld (before : Device) (m : Content) (payload : List ℕ) : Type 0 where
+  pub number : ℕ
+  pub held : Held
+  pub there : IsAt (values 11 m.options) before.resources number held
+  pub shown : payload ≡ held.state
+
+said-held : (R : Relation) (before : Device) (m : Content) (taken : Option Taken) (code : ℕ) (options : List Entry) (payload : List ℕ)
+    → m.code ≡ 1 → code ≡ 69 → values 23 options ≡ [] → Says R before m taken code options payload → SaysHeld before m payload
+said-held R before m taken code options payload get content whole (inl s) =
+    let none = described-whole s.held s.observed s.part options s.describes whole in
+    record {
+      number = s.place;
+      held = s.held;
+      there = s.stands;
+      shown = s.shown ∙ ap (λ (b : Option Block). shown_part b s.held.state) none;
+    }
+said-held R before m taken code options payload get content whole (inr (inl s)) = absurd (not-get s.method (s.method_is ∙ get))
+said-held R before m taken code options payload get content whole (inr (inr (inl s))) = let more = s.continue in absurd (omega (arith, content, more))
+said-held R before m taken code options payload get content whole (inr (inr (inr s))) =
+    elim s.class [ inl w ↦ absurd (omega (arith, content, w)) | inr w ↦ absurd (omega (arith, content, w)) ]
+
+no-wish : (vs : List (List ℕ)) → vs ≡ [] → wish_of vs ≡ W.Register → ⊥
+no-wish [] e f = cc
+no-wish (v ∷ vs) e f = cc
+
+by-making : (R : Relation) (l : List Noted) (device proxy : Peer) (block : ℕ) (resources : List Held) (cs : List Call) (count t o i a : ℕ)
+    (p : Peer) (m answer : Content) (c : Call) (d : Datagram)
+    → Networks R l device proxy (fresh block resources) cs → IsFirst l t o i p m → m.code ≡ 1 → values 6 m.options ≡ []
+    → slice_get (take count cs) a ≡ Some c → d.peer ≡ proxy → Spells answer d.bytes → answer.token ≡ m.token
+    → answer.code ≡ 69 → values 23 answer.options ≡ [] → Makes R c d → ShowsHeld t proxy (fresh block resources) cs m answer.payload
+by-making R l device proxy block resources cs count t o i a p m answer c d n f get quiet e to spelled token content whole (inl r) =
+    let none = rst-code answer r.mid (subst (λ (b : List ℕ). Spells answer b) r.is spelled) in
+    absurd (omega (arith, none, content))
+by-making R l device proxy block resources cs count t o i a p m answer c d n f get quiet e to spelled token content whole (inr (inl r)) =
+    let e' = at-take cs count a c e in
+    let first = fresh block resources in
+    let comes : c.event ≡ heard r.moment proxy r.datagram r.taken = r.comes ∙ ap (λ (q : Peer). heard r.moment q r.datagram r.taken) to in
+    let said_so = spells_one answer _ d.bytes spelled r.spelled in
+    let its : answer.token ≡ r.message.token = ap (λ (c : Content). c.token) said_so in
+    let code : answer.code ≡ r.code = ap (λ (c : Content). c.code) said_so in
+    let options : answer.options ≡ r.options = ap (λ (c : Content). c.options) said_so in
+    let payload : answer.payload ≡ r.payload = ap (λ (c : Content). c.payload) said_so in
+    let it = heard-it l device proxy cs a t o i r.moment p m r.message c r.datagram r.taken n.legal n.brought f e' comes r.reads r.request (sym its ∙ token) in
+    let gets : r.message.code ≡ 1 = ap (λ (c : Content). c.code) it.0 ∙ get in
+    let says = said-held R c.before r.message r.taken r.code r.options r.payload gets (sym code ∙ content)
+    (subst (λ (os : List Entry). values 23 os ≡ []) options whole) r.says in
+    let there = subst (λ (k : Content). IsAt (values 11 k.options) c.before.resources says.number says.held) it.0 says.there in
+    record {
+      place = a;
+      call = c;
+      stands = e';
+      moment = r.moment;
+      datagram = r.datagram;
+      taken = r.taken;
+      comes = comes;
+      spelled = it.1;
+      not_before = (arrives R l device proxy p first cs t o i a r.moment m c r.datagram r.taken n f e' comes it.1).0;
+      number = says.number;
+      held = says.held;
+      there = there;
+      shown = payload ∙ says.shown;
+      left = λ i first_held before. (payload ∙ says.shown)
+          ∙ held-left R cs first a c (values 11 m.options) says.number i says.held first_held n.follow e' there before;
+    }
+by-making R l device proxy block resources cs count t o i a p m answer c d n f get quiet e to spelled token content whole (inr (inr r)) =
+    let first = fresh block resources in
+    let asked = all-of (IsAskedFor (take a (take count cs))) c.before.observers r.observer
+    (registrations_are_asked R block resources (take count cs) a c (follow-take R cs first count n.follow) e) r.registered in
+    let by = asked.asks in
+    let e' = at-take cs count asked.number asked.call (at-take (take count cs) a asked.number asked.call asked.among) in
+    let from : r.observer.peer ≡ proxy = sym r.to ∙ to in
+    let comes : asked.call.event ≡ heard by.moment proxy by.datagram by.taken = by.comes ∙ ap (λ (q : Peer). heard by.moment q by.datagram by.taken) from in
+    let said_so = spells_one answer _ d.bytes spelled r.notifies.spelled in
+    let its : answer.token ≡ r.observer.token = ap (λ (c : Content). c.token) said_so in
+    let asks : is_request by.message.code ≡ true = subst (λ (k : ℕ). is_request k ≡ true) (sym by.get) refl in
+    let it = heard-it l device proxy cs asked.number t o i by.moment p m by.message asked.call by.datagram by.taken n.legal n.brought f e' comes by.reads asks
+    (sym by.token ∙ (sym its ∙ token)) in
+    absurd (no-wish (values 6 by.message.options) (subst (λ (k : Content). values 6 k.options ≡ []) (sym it.0) quiet) by.wish)
+
+pub replies-show : (R : Relation) (h : List Written) (device proxy : Peer) (block : ℕ) (resources : List Held) (cs : List Call)
+    (k : ℕ) (q : CoapRequest) (b : Option Block) (j : ℕ) (m : Content) (s : Stands h)
+    → Networks R s.reading device proxy (fresh block resources) cs
+    → AreGiven s.reading device proxy (fresh block resources) cs
+    → (x : IsHeardFor h k q b j m) → q.method ≡ 1 → q.peer ≡ device
+    → m.code ≡ 69 → values 23 m.options ≡ [] → values 6 x.sent.options ≡ []
+    → ShowsHeld x.sent_for.moment proxy (fresh block resources) cs x.sent m.payload
+replies-show R h device proxy block resources cs k q b j m s net given x get to content whole quiet =
+    let l = s.reading in
+    let for_it = x.sent_for in
+    let first = first-sent l h x.sending for_it.moment q.peer x.sent s.legal s.entries_are for_it.first in
+    let code : x.sent.code ≡ 1 = ap (λ (m : Content). m.code) for_it.asks ∙ (code-of q b x.sent.mid x.sent.token ∙ get) in
+    let heard = x.response.heard in
+    let entry = noted-at l h j x.response.moment _ s.entries_are heard.stands in
+    let g = given j x.response.moment heard.bytes entry.note
+    (subst (λ (p : Peer). at l j ≡ Some (noted x.response.moment (Hears p heard.bytes) entry.note)) to entry.stands) in
+    let start = fresh block resources in
+    let made = all-of (IsMade R (take g.count cs)) (left_by start (take g.count cs)).out g.datagram
+    (answers_are_made R block resources (take g.count cs) (follow-take R cs start g.count net.follow)) g.given in
+    let place = at-contained (take g.count cs) made.call made.among in
+    by-making R l device proxy block resources cs g.count for_it.moment first.0 x.sending place.0 q.peer x.sent m made.call g.datagram net first.1 code quiet place.1 g.to
+    (subst (λ (b : List ℕ). Spells m b) (sym g.has) heard.spelled) x.response.token content whole made.makes

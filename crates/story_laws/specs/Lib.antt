@@ -1,0 +1,5 @@
+pub mod Lateness
+pub mod Networks
+pub mod Executions
+pub mod Posts
+pub mod Reads

@@ -1,0 +1,30 @@
+//! The laws.
+
+ghost use Rattle.story_laws.specs.Executions.{MessagesOnce};
+ghost use Rattle.story_laws.specs.Lateness.{SentWithin};
+ghost use Rattle.story_laws.specs.Posts.{PostsOnce};
+ghost use Rattle.story_laws.specs.Reads.{RepliesShow};
+
+use demo_origin::Behaviour;
+
+/// Copies of a message go out within 49 seconds of its first sending.
+pub fn sent_within()
+    ensures { SentWithin }
+{}
+
+/// A message is executed at most once, whatever the network does: its last copy arrives within 149
+/// seconds of its first sending, and the device remembers it for 247 seconds.
+pub fn messages_once<H: Behaviour>()
+    ensures { MessagesOnce H.relation }
+{}
+
+/// A POST that was answered by success was executed exactly once.
+pub fn posts_once<H: Behaviour>()
+    ensures { PostsOnce H.relation }
+{}
+
+/// A reply to a GET that comes in one piece shows the state that the resource held when the device
+/// heard the message that asked for it.
+pub fn replies_show<H: Behaviour>()
+    ensures { RepliesShow H.relation }
+{}
