@@ -1,0 +1,51 @@
+-- Places in lists that were put together.
+use Rattle.std.proofs.Common.{◌≡◌, ℕ, zero, suc, ◌+◌, ◌<◌, ◌≤◌, ◌⊎◌, inl, inr, List, [], ◌∷◌, ◌++◌, length, map, take, Option, Some, refl, sym, ap, ◌∙◌, arith}
+use Rattle.std.specs.Prelude.{slice_get}
+use Rattle.std.specs.List.{AllByRecursion, Contains}
+use Rattle.history_laws.proofs.CallerLemmas.{none-some, some-is}
+
+pub got-both : {X : Type 0} (xs ys : List X) (n : ℕ) (y : X) → slice_get (xs ++ ys) n ≡ Some y
+    → (slice_get xs n ≡ Some y) ⊎ ((k : ℕ) × (n ≡ length xs + k) × (slice_get ys k ≡ Some y))
+got-both [] ys n y e = inr (n, omega arith, e)
+got-both (x ∷ xs) ys zero y e = inl e
+got-both (x ∷ xs) ys (suc n) y e =
+    elim (got-both xs ys n y e) [
+      | inl w ↦ inl w
+      | inr w ↦ let same = w.1 in inr (w.0, omega (arith, same), w.2)
+    ]
+
+pub got-below : {X : Type 0} (xs : List X) (n : ℕ) (y : X) → slice_get xs n ≡ Some y → n < length xs
+got-below [] n y e = absurd (none-some y e)
+got-below (x ∷ xs) zero y e = omega arith
+got-below (x ∷ xs) (suc n) y e = let lt = got-below xs n y e in omega (arith, lt)
+
+pub got-front : {X : Type 0} (xs ys : List X) (n : ℕ) (y : X) → slice_get xs n ≡ Some y → slice_get (xs ++ ys) n ≡ Some y
+got-front [] ys n y e = absurd (none-some y e)
+got-front (x ∷ xs) ys zero y e = e
+got-front (x ∷ xs) ys (suc n) y e = got-front xs ys n y e
+
+pub got-next : {X : Type 0} (xs : List X) (x : X) (ys : List X) → slice_get (xs ++ x ∷ ys) (length xs) ≡ Some x
+got-next [] x ys = refl
+got-next (y ∷ xs) x ys = got-next xs x ys
+
+pub got-map : {X Y : Type 0} (f : X → Y) (xs : List X) (n : ℕ) (y : Y) → slice_get (map f xs) n ≡ Some y
+    → (x : X) × Contains xs x × (f x ≡ y)
+got-map f [] n y e = absurd (none-some y e)
+got-map f (x ∷ xs) zero y e = (x, (0, omega arith, refl), some-is (f x) y e)
+got-map f (x ∷ xs) (suc n) y e =
+    let rest = got-map f xs n y e in (rest.0, (suc rest.1.0, let lt = rest.1.1 in omega (arith, lt), rest.1.2), rest.2)
+
+pub all-from : {X : Type 0} (P : X → Type 0) (xs : List X) → ((n : ℕ) (x : X) → slice_get xs n ≡ Some x → P x) → AllByRecursion P xs
+all-from P [] h = tt
+all-from P (x ∷ xs) h = (h 0 x refl, all-from P xs (λ n y e. h (suc n) y e))
+
+pub take-front : {X : Type 0} (xs ys : List X) → take (length xs) (xs ++ ys) ≡ xs
+take-front [] [] = refl
+take-front [] (y ∷ ys) = refl
+take-front (x ∷ xs) ys = ap (λ zs. x ∷ zs) (take-front xs ys)
+
+pub taken-all : {X : Type 0} (xs : List X) (n : ℕ) → length xs ≤ n → take n xs ≡ xs
+taken-all [] zero le = refl
+taken-all [] (suc n) le = refl
+taken-all (x ∷ xs) zero le = absurd (omega (arith, le))
+taken-all (x ∷ xs) (suc n) le = ap (λ zs. x ∷ zs) (taken-all xs n (omega (arith, le)))

@@ -1,0 +1,5 @@
+pub mod Flights
+pub mod Scenes
+pub mod Stories
+pub mod Arriving
+pub mod Promises

@@ -1,0 +1,113 @@
+//! Whole lists of turns.
+
+ghost use Rattle.std.specs.Prelude.{◌≡◌, ℕ, List, map, Err, IfOk, OnOk};
+ghost use Rattle.ask_model.specs.Views.{rules_of};
+ghost use Rattle.demo_origin.specs.Origins.{Sound, device, fresh};
+ghost use Rattle.demo_origin.specs.declared.state.Held.{Held};
+ghost use Rattle.gateway_model.specs.Emissions.{emissions};
+ghost use Rattle.transformers.specs.Suits.{Suits};
+ghost use Rattle.three_parties.specs.Flights.{going};
+ghost use Rattle.three_parties.specs.Promises.{PostsOnceInTime};
+ghost use Rattle.three_parties.specs.Scenes.{TakesTurns};
+ghost use Rattle.three_parties.specs.Stories.{IsRefused, IsStory, opening, scene};
+
+use crate::stage::Stage;
+use crate::story::Story;
+use crate::turn::Turn;
+use ask_model::Settings;
+use demo_origin::{Behaviour, Origin};
+use gateway_world::{World, WorldFault};
+use std::alloc::Global;
+use story_laws::posts_once;
+use transformers::{Bank, Relation};
+
+/// Takes all turns, one after another, and answers the first refusal of an input. The device is at
+/// 192.0.2.1:5683, and sees the proxy at 198.51.100.1:5683.
+///
+/// The story is that of all its turns (`is`). Where the device is a new one, each POST to it that
+/// was answered by success was executed exactly once (`posts`).
+pub fn three_run<R: Relation, H: Behaviour>(
+    alloc: Global,
+    settings: Settings,
+    bank: Bank<R>,
+    origin: Origin<H>,
+    turns: &[Turn<'_>],
+) -> Result<Story<R, H>, WorldFault>
+    requires suits { Suits R.holds R.takes (rules_of settings).routes bank }
+    requires sound { Sound H.relation origin }
+    ensures sound { IfOk result (λ s. Sound H.relation s.origin) }
+    ensures is { IfOk result (λ s. IsStory R.holds R.takes H.relation (rules_of settings)
+        (device origin) turns.now (emissions s.outputs.items) (map going s.flights.items)
+        s.journal.entries (device s.origin) s.taken.items) }
+    ensures full { result ≡ Err WorldFault.Backlog → IsRefused R.holds R.takes H.relation turns.now
+        (opening (rules_of settings) (device origin)) }
+    ensures posts { IfOk result (λ s. (block : ℕ) (resources : List Held)
+        → device origin ≡ fresh block resources → PostsOnceInTime turns.now s.journal.entries
+        (map going s.flights.items) s.taken.items) }
+{
+    // Its contract says what success means for a device, whatever a network does.
+    posts_once::<H>();
+    play(alloc, settings, bank, origin, turns)
+}
+
+/// Takes all turns, one after another.
+fn play<R: Relation, H: Behaviour>(
+    alloc: Global,
+    settings: Settings,
+    bank: Bank<R>,
+    origin: Origin<H>,
+    turns: &[Turn<'_>],
+) -> Result<Story<R, H>, WorldFault>
+    requires suits { Suits R.holds R.takes (rules_of settings).routes bank }
+    requires sound { Sound H.relation origin }
+    ensures sound { IfOk result (λ s. Sound H.relation s.origin) }
+    ensures is { IfOk result (λ s. IsStory R.holds R.takes H.relation (rules_of settings)
+        (device origin) turns.now (emissions s.outputs.items) (map going s.flights.items)
+        s.journal.entries (device s.origin) s.taken.items) }
+    ensures full { result ≡ Err WorldFault.Backlog → IsRefused R.holds R.takes H.relation turns.now
+        (opening (rules_of settings) (device origin)) }
+{
+    let world = World::new(alloc, settings)?;
+    let mut stage = Stage {
+        moment: 0,
+        world,
+        origin,
+        outputs: Vec::new(alloc),
+        flights: Vec::new(alloc),
+        taken: Vec::new(alloc),
+    };
+    stage.take_all(&bank, turns)?;
+    let journal = stage.world.journal().copy()?;
+    let Stage {
+        origin,
+        outputs,
+        flights,
+        taken,
+        ..
+    } = stage;
+    Ok(Story {
+        outputs,
+        flights,
+        journal,
+        origin,
+        taken,
+    })
+}
+
+impl<R: Relation, H: Behaviour> Stage<R, H> {
+    /// Takes all turns, one after another, and answers the first refusal of an input.
+    fn take_all(&mut self, bank: &Bank<R>, turns: &[Turn<'_>]) -> Result<(), WorldFault>
+        requires suits { Suits R.holds R.takes self.old.world.rules.routes bank.now }
+        requires sound { Sound H.relation self.old.origin }
+        ensures sound { Sound H.relation self.new.origin }
+        ensures takes { OnOk result (TakesTurns R.holds R.takes H.relation turns.now
+            (scene self.old) (scene self.new)) }
+        ensures full { result ≡ Err WorldFault.Backlog
+            → IsRefused R.holds R.takes H.relation turns.now (scene self.old) }
+    {
+        'each: for turn in turns {
+            self.take(bank, *turn)?;
+        }
+        Ok(())
+    }
+}
