@@ -14,8 +14,8 @@ use Rattle.demo_origin.specs.declared.state.Held.{Held}
 use Rattle.story_laws.specs.Executions.{Executes}
 use Rattle.story_laws.specs.Networks.{Networks, AreGiven}
 
--- For the request q, asked in the entry k, a message was sent, after which the device answered: all
--- of it, or the last piece of its body. The device executed that message once.
+-- For the request q, asked in the entry k, a message was sent: it, or a piece of its body. The
+-- device executed this message, and just once.
 pub record IsDoneOnce (h : List Written) (k : ℕ) (q : CoapRequest) (proxy : Peer) (cs : List Call)
     : Type 0 where
   pub since : ℕ
@@ -30,7 +30,8 @@ pub record IsDoneOnce (h : List Written) (k : ℕ) (q : CoapRequest) (proxy : Pe
   pub executes : Executes proxy message call
   pub once : (b : ℕ) (y : Call) → slice_get cs b ≡ Some y → Executes proxy message y → b ≡ place
 
--- A POST (method 2) that was answered by success was executed, exactly once.
+-- Of a POST (method 2) that was answered by success the message to which that answer came was
+-- executed, exactly once. Of a body in pieces a device executes the last alone (LastPieceExecutes).
 abbrev pub PostsOnce : Relation → Type 0
 PostsOnce R =
     (h : List Written) (device proxy : Peer) (block : ℕ) (resources : List Held) (cs : List Call)

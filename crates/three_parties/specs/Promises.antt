@@ -32,8 +32,8 @@ pub record IsOf (flights : List Going) (m : Content) (x : Execution) : Type 0 wh
   pub by : flight.by ≡ ByProxy
   pub spelled : Spells m flight.bytes
 
--- For the request q, asked in the entry k, a message was sent: all of it, or the last piece of its
--- body. The device executed that, exactly once.
+-- For the request q, asked in the entry k, a message was sent: it, or a piece of its body, of which
+-- a device executes the last alone. The device executed this message, and just once.
 pub record IsExecutedOnce (h : List Written) (k : ℕ) (q : CoapRequest) (flights : List Going)
     (taken : List Execution) : Type 0 where
   pub since : ℕ
