@@ -4,6 +4,7 @@
 ghost use Rattle.std.specs.Prelude.{◌≤◌, length};
 
 use crate::entry::{Event, Written};
+use crate::extent::Extent;
 use crate::fault::PictureFault;
 use crate::head::{FOOT, HEAD, STYLE};
 use crate::journal::{Journal, Row, journal_of};
@@ -25,11 +26,22 @@ struct Drawing<'a> {
 
 /// Draws the journal of these lines.
 pub fn draw(alloc: Global, bytes: &[u8]) -> Result<Page, PictureFault> {
+    drawn(alloc, bytes, Extent::Whole)
+}
+
+/// Draws the part of a journal that these lines are: the numbers of its entries rise, each connection that it
+/// names is opened in it, and what an answer names may be left out.
+pub fn draw_part(alloc: Global, bytes: &[u8]) -> Result<Page, PictureFault> {
+    drawn(alloc, bytes, Extent::Part)
+}
+
+/// Draws so much of a journal.
+fn drawn(alloc: Global, bytes: &[u8], extent: Extent) -> Result<Page, PictureFault> {
     let text = match from_utf8(bytes) {
         Ok(text) => text,
         Err(error) => return Err(PictureFault::NotText(line_at(bytes, error.valid_up_to()))),
     };
-    let journal = journal_of(alloc, text)?;
+    let journal = journal_of(alloc, text, extent)?;
     let drawing = drawing_of(alloc, journal)?;
     let mut page = Page::new(alloc);
     write_page(&mut page, &drawing)?;

@@ -6,6 +6,7 @@ ghost use Rattle.journal_picture.specs.Lines.{ended, lines_in};
 use crate::entry::{
     Answer, Datagram, Entry, Event, Grounds, Line, Told, Written, decimal, line_of,
 };
+use crate::extent::Extent;
 use crate::fault::{LineFault, PictureFault};
 use std::alloc::Global;
 use std::collections::BTreeMap;
@@ -53,6 +54,7 @@ impl Row<'_> {
 /// A journal that was read.
 #[derive(Drop)]
 pub struct Journal<'a> {
+    extent: Extent,
     /// The lines of outputs.
     outputs: Vec<&'a str>,
     /// What was written to clients since the journal began, without interim responses.
@@ -72,10 +74,11 @@ pub struct Journal<'a> {
 }
 
 impl<'a> Journal<'a> {
-    fn new(alloc: Global) -> Journal<'a>
+    fn new(alloc: Global, extent: Extent) -> Journal<'a>
         ensures { lines_in result ≡ [] }
     {
         Journal {
+            extent,
             outputs: Vec::new(alloc),
             written: Vec::new(alloc),
             entries: Vec::new(alloc),
@@ -98,9 +101,9 @@ impl<'a> Journal<'a> {
         &self.entries
     }
 
-    /// The entry of that number, and what is told beside it.
-    pub fn row(&self, number: usize) -> Option<Row<'a>> {
-        match (self.entries.get(number), self.marks.get(number)) {
+    /// The entry at that place, and what is told beside it.
+    pub fn row(&self, place: usize) -> Option<Row<'a>> {
+        match (self.entries.get(place), self.marks.get(place)) {
             (Some(entry), Some(mark)) => Some(Row {
                 entry: *entry,
                 mark: *mark,
@@ -156,7 +159,7 @@ impl<'a> Journal<'a> {
     fn take_entry(&mut self, entry: Entry<'a>) -> Result<(), LineFault>
         ensures { OnOk result (lines_in self.new ≡ lines_in self.old ++ entry.entry.line.now ∷ []) }
     {
-        if entry.number != self.entries.len() as u64 {
+        if !self.is_next(entry.number) {
             return Err(LineFault::Order);
         }
         match entry.carried {
@@ -167,6 +170,22 @@ impl<'a> Journal<'a> {
         self.marks.push(mark)?;
         self.entries.push(entry)?;
         Ok(())
+    }
+
+    /// Whether the next entry may have that number.
+    fn is_next(&self, number: u64) -> bool {
+        match (self.extent, self.entries.last()) {
+            (Extent::Whole, _) => number == self.entries.len() as u64,
+            (Extent::Part, Some(last)) => last.number < number,
+            (Extent::Part, None) => true,
+        }
+    }
+
+    /// What the entry of that number says, where there is one.
+    fn text_of(&self, number: u64) -> Option<&'a str> {
+        let entries = self.entries.as_slice();
+        let place = entries.binary_search_by_key(&number, |entry| entry.number);
+        Some(entries.get(place.ok()?)?.text)
     }
 
     /// Checks that all entries so far are copies.
@@ -260,10 +279,10 @@ impl<'a> Journal<'a> {
         if kind != "timeout" {
             return;
         }
-        let Some(entry) = self.entries.get(number as usize) else {
+        let Some(text) = self.text_of(number) else {
             return;
         };
-        if let Some(last) = self.last.get(entry.text) {
+        if let Some(last) = self.last.get(text) {
             mark_unanswered(&mut self.marks, *last);
         }
     }
@@ -342,11 +361,15 @@ fn next_line(text: &str) -> Option<(&str, &str)>
 }
 
 /// Reads the lines of a journal. The first that is refused is told.
-pub fn journal_of<'a>(alloc: Global, text: &'a str) -> Result<Journal<'a>, PictureFault>
+pub fn journal_of<'a>(
+    alloc: Global,
+    text: &'a str,
+    extent: Extent,
+) -> Result<Journal<'a>, PictureFault>
     // Each line was taken, once and in order.
     ensures { IfOk result (λ j. ended (lines_in j) ≡ text.now) }
 {
-    let mut journal = Journal::new(alloc);
+    let mut journal = Journal::new(alloc, extent);
     let mut rest = text;
     let mut number: u64 = 1;
     'each: while let Some((line, next)) = next_line(rest) {

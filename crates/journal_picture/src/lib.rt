@@ -8,6 +8,7 @@
 mod coap;
 mod diagram;
 mod entry;
+mod extent;
 mod fault;
 mod head;
 mod journal;
@@ -16,10 +17,11 @@ mod layout;
 mod page;
 mod rows;
 
-pub use diagram::draw;
+pub use diagram::{draw, draw_part};
 pub use entry::{
     Answer, Carried, Datagram, Entry, Event, Grounds, Line, Request, Told, Written, line_of,
 };
+pub use extent::Extent;
 pub use fault::{LineFault, PictureFault};
 pub use journal::{Journal, Mark, Row, journal_of};
 pub use page::Page;

@@ -144,21 +144,20 @@ pub(crate) fn write_grounds(
     }
 }
 
-/// Where the entry of that number stands, from the top.
-fn top_of(labels: &[Label<'_>], number: u64) -> u64 {
-    match labels.get(number as usize) {
-        Some(label) => label.top,
-        None => 0,
-    }
+/// Where the entry of that number stands, from the top, if it is there.
+fn top_of(labels: &[Label<'_>], number: u64) -> Option<u64> {
+    let place = labels.binary_search_by_key(&number, |label| label.row.entry.number);
+    Some(labels.get(place.ok()?)?.top)
 }
 
-/// Writes a curve on a line, from a place to one below it.
+/// Writes a curve on a line, from a place to one below it. What isn't there has none.
 fn write_curve(
     page: &mut Page,
     class: &'static str,
     [line, to]: [u64; 2],
-    from: u64,
+    from: Option<u64>,
 ) -> Result<(), AllocError> {
+    let Some(from) = from else { return Ok(()) };
     let bent = line.saturating_sub((12 + to.saturating_sub(from) / 12).min(32));
     page.element(
         "path",
