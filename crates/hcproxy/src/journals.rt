@@ -3,9 +3,9 @@
 use crate::notes::Notes;
 use gateway_server::Archive;
 use journal_book::{Entry, Journal};
+use journal_lines::{Payloads, write_entry};
 use log::{info, warn};
 use route_bank::Profile;
-use script_runs::write_entry;
 use std::alloc::AllocError;
 use std::fs;
 use std::io::{self, BufWriter, ErrorKind, Write};
@@ -49,7 +49,7 @@ impl Folder {
         let file = fs::create(&self.rt, path)?;
         let mut writer = BufWriter::new(alloc, file)?;
         for (number, entry) in entries.iter().enumerate() {
-            if write_entry(alloc, &mut writer, number, entry).is_err() {
+            if write_entry(alloc, &mut writer, number, entry, Payloads::Shown).is_err() {
                 return Err(io::Error::from(ErrorKind::WriteZero));
             }
         }

@@ -9,5 +9,5 @@ mod lines;
 mod runs;
 
 pub use inputs::input_of;
-pub use lines::{write_entry, write_output};
+pub use lines::write_output;
 pub use runs::{Script, replay};

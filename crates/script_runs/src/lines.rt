@@ -1,17 +1,36 @@
-//! The lines that tell of outputs and of entries.
+//! The lines that tell of outputs, and those of entries.
 
 use command_line::ReplayFault;
 use gateway_world::{Output, World};
-use http_edge::Incoming;
-use journal_book::{Done, Entry, Event, Grounds, Mark};
+use journal_book::Entry;
+use journal_lines::{Payloads, Unwritten};
 use std::alloc::Global;
 use std::io::{self, Write};
 use transformers::Relation;
-use uri_map::Peer;
 
 /// A failed write is a failed device.
 fn written(outcome: io::Result<()>) -> Result<(), ReplayFault> {
     outcome.map_err(|_| ReplayFault::Device)
+}
+
+/// Why a line isn't written, as a run tells it.
+fn line(outcome: Result<(), Unwritten>) -> Result<(), ReplayFault> {
+    match outcome {
+        Ok(()) => Ok(()),
+        Err(Unwritten::Memory) => Err(ReplayFault::Memory),
+        Err(Unwritten::Device) => Err(ReplayFault::Device),
+    }
+}
+
+/// Writes `NUMBER MOMENT` and what happened.
+pub(crate) fn write_entry<R: Relation, W: Write>(
+    alloc: Global,
+    writer: &mut W,
+    number: usize,
+    entry: &Entry<R>,
+) -> Result<(), ReplayFault> {
+    let shown = Payloads::Shown;
+    line(journal_lines::write_entry(alloc, writer, number, entry, shown))
 }
 
 /// Writes what an input gave out, after which the world is this.
@@ -45,7 +64,8 @@ pub fn write_output<R: Relation, W: Write>(
         Output::Datagram(datagram) => {
             written(write!(writer, "{moment} "))?;
             let bytes = datagram.bytes.as_slice();
-            write_datagram(alloc, writer, "datagram", datagram.peer, bytes)
+            let peer = datagram.peer;
+            line(journal_lines::write_datagram(alloc, writer, "datagram", peer, bytes))
         }
         Output::Closed(connection) => written(writeln!(writer, "{moment} closed {connection}")),
         Output::Turned => written(writeln!(writer, "{moment} turned")),
@@ -58,114 +78,4 @@ pub fn write_output<R: Relation, W: Write>(
             written(writeln!(writer, "{moment} unrotated {fault}"))
         }
     }
-}
-
-/// Writes `WORD PEER HEX`.
-fn write_datagram<W: Write>(
-    alloc: Global,
-    writer: &mut W,
-    word: &str,
-    peer: Peer,
-    bytes: &[u8],
-) -> Result<(), ReplayFault> {
-    let bytes = hex::encode(alloc, bytes)?;
-    written(writeln!(writer, "{word} {peer} {bytes}"))
-}
-
-/// Writes `NUMBER MOMENT` and what happened.
-pub fn write_entry<R: Relation, W: Write>(
-    alloc: Global,
-    writer: &mut W,
-    number: usize,
-    entry: &Entry<R>,
-) -> Result<(), ReplayFault> {
-    let moment = entry.moment;
-    written(write!(writer, "{number} {moment} "))?;
-    match &entry.event {
-        Event::Opened(connection) => written(writeln!(writer, "opened {connection}")),
-        Event::Asked(connection, mapped) => write_asked(writer, *connection, mapped.came()),
-        Event::Sent { peer, bytes, .. } => {
-            write_datagram(alloc, writer, "sent", *peer, bytes.as_slice())
-        }
-        Event::Heard { peer, bytes } => {
-            write_datagram(alloc, writer, "heard", *peer, bytes.as_slice())
-        }
-        Event::Passed => written(writeln!(writer, "passed")),
-        Event::Answered { conn, ask, grounds } => {
-            written(write!(writer, "answered {conn} {ask} "))?;
-            write_grounds(writer, grounds)
-        }
-        Event::Shut(connection) => written(writeln!(writer, "shut {connection}")),
-        Event::Sealed => written(writeln!(writer, "sealed")),
-        Event::Carried { number, mark, done } => {
-            let mark = mark_word(*mark);
-            written(write!(writer, "carried {number} {mark} "))?;
-            write_done(alloc, writer, done)
-        }
-    }
-}
-
-/// What a copy is for.
-fn mark_word(mark: Mark) -> &'static str {
-    match mark {
-        Mark::Ground => "ground",
-        Mark::Past => "past",
-    }
-}
-
-/// Writes what a copy carries, as it is written of the entry that it copies.
-fn write_done<R: Relation, W: Write>(
-    alloc: Global,
-    writer: &mut W,
-    done: &Done<R>,
-) -> Result<(), ReplayFault> {
-    match done {
-        Done::Asked(connection, mapped) => write_asked(writer, *connection, mapped.came()),
-        Done::Sent { peer, bytes, .. } => {
-            write_datagram(alloc, writer, "sent", *peer, bytes.as_slice())
-        }
-        Done::Heard { peer, bytes } => {
-            write_datagram(alloc, writer, "heard", *peer, bytes.as_slice())
-        }
-    }
-}
-
-/// Writes `asked CONN METHOD TARGET LENGTH`, or `asked CONN bad` for bytes that are no request.
-fn write_asked<W: Write>(
-    writer: &mut W,
-    connection: u32,
-    came: &Incoming,
-) -> Result<(), ReplayFault> {
-    written(write!(writer, "asked {connection} "))?;
-    match came {
-        Incoming::Bad(_) => written(writeln!(writer, "bad")),
-        Incoming::Request(request) => {
-            written(writer.write_all(request.method.as_slice()))?;
-            written(writer.write_all(b" "))?;
-            written(writer.write_all(request.target.as_slice()))?;
-            let length = request.body.len();
-            written(writeln!(writer, " {length}"))
-        }
-    }
-}
-
-/// Writes `live N,N..`, `kept N,N..` or `fault KIND N`.
-fn write_grounds<W: Write>(writer: &mut W, grounds: &Grounds) -> Result<(), ReplayFault> {
-    match grounds {
-        Grounds::Live(numbers) => write_numbers(writer, "live", numbers.as_slice()),
-        Grounds::Kept(numbers) => write_numbers(writer, "kept", numbers.as_slice()),
-        Grounds::Fault(cause, number) => written(writeln!(writer, "fault {cause} {number}")),
-    }
-}
-
-/// Writes `WORD N,N..`.
-fn write_numbers<W: Write>(writer: &mut W, word: &str, numbers: &[u32]) -> Result<(), ReplayFault> {
-    written(write!(writer, "{word} "))?;
-    for (i, number) in numbers.iter().enumerate() {
-        if i > 0 {
-            written(write!(writer, ","))?;
-        }
-        written(write!(writer, "{number}"))?;
-    }
-    written(writeln!(writer))
 }
