@@ -25,7 +25,7 @@ use http_edge::Memory;
 use journal_book::Journal;
 use limits::MAX_EXCHANGES;
 use std::alloc::{AllocError, Global};
-use std::sync::atomic::{AtomicBool, Ordering};
+use std::sync::atomic::{AtomicBool, AtomicU64, Ordering};
 use std::sync::ledger::Ledger;
 use std::sync::{Arc, Condvar, Mutex, Wait};
 use std::time::Duration;
@@ -42,7 +42,7 @@ const PAUSE: u64 = 50;
 /// to its answer. Whenever it is free, one reading of the journal there is legal and at rest.
 #[derive(Drop)]
 pub struct LockedDesk<R: Relation, C: Clock, L: Ledger> {
-    state: Mutex<DeskState<R, C, L>>,
+    pub(crate) state: Mutex<DeskState<R, C, L>>,
     /// wake those who wait for an answer
     bells: Bells,
     /// wakes the one who lets time go on
@@ -53,6 +53,8 @@ pub struct LockedDesk<R: Relation, C: Clock, L: Ledger> {
     full: Condvar,
     /// wakes those who wait until it is
     turned: Condvar,
+    /// how many journals were turned over: it is changed under the lock
+    turns: AtomicU64,
 }
 
 /// The receipt of a ticket: its number and its request, and the answer.
@@ -85,6 +87,7 @@ impl<R: Relation, C: Clock, L: Ledger> LockedDesk<R, C, L> {
             closing: AtomicBool::new(false),
             full: Condvar::new(),
             turned: Condvar::new(),
+            turns: AtomicU64::new(0),
         })
     }
 
@@ -97,6 +100,7 @@ impl<R: Relation, C: Clock, L: Ledger> LockedDesk<R, C, L> {
             closing: _,
             full: _,
             turned: _,
+            turns: _,
         } = self;
         state.into_inner().into_shop()
     }
@@ -112,6 +116,11 @@ impl<R: Relation, C: Clock, L: Ledger> LockedDesk<R, C, L> {
     /// request, and no connection is opened. It takes no lock.
     pub fn is_closing(&self) -> bool {
         self.closing.load(Ordering::SeqCst)
+    }
+
+    /// How many journals were turned over before the one that there is.
+    pub(crate) fn turns(&self) -> u64 {
+        self.turns.load(Ordering::SeqCst)
     }
 
     /// Opens a connection. A desk that was shut, or whose journal is nearly full, answers that its
@@ -193,6 +202,7 @@ impl<R: Relation, C: Clock, L: Ledger> LockedDesk<R, C, L> {
     {
         let mut guard = self.state.lock(rt);
         let given = guard.turn_over(passes)?;
+        self.turns.fetch_add(1, Ordering::SeqCst);
         self.closing.store(false, Ordering::SeqCst);
         self.turned.notify_all();
         self.due.notify_one();

@@ -135,7 +135,8 @@ impl<R: Relation, C: Clock, L: Ledger> DeskState<R, C, L> {
 
     /// What happened.
     pub fn journal(&self) -> &Journal<R>
-        ensures { result.now.entries ≡ self.now.shop.core.state.entries }
+        ensures entries { result.now.entries ≡ self.now.shop.core.state.entries }
+        ensures stands { Stands result.now.entries }
     {
         self.shop.journal()
     }
