@@ -19,6 +19,8 @@ pub struct Serving<'a> {
     pub idle: Option<u64>,
     /// where it shows how it does, if it does
     pub status: Option<Peer>,
+    /// what datagrams carry is shown there too
+    pub bodies: bool,
     /// it runs in one thread, in place of one for each connection
     pub looped: bool,
 }
@@ -52,6 +54,7 @@ struct Words<'a> {
     access: bool,
     idle: Option<u64>,
     status: Option<Peer>,
+    bodies: bool,
     looped: bool,
     /// what the next word is
     flag: Option<Flag>,
@@ -70,8 +73,14 @@ impl<'a> Words<'a> {
             (None, "--idle") if self.idle.is_none() => words.flag = Some(Flag::Idle),
             (None, "--status") if self.status.is_none() => words.flag = Some(Flag::Status),
             (None, "--access") if !self.access => words.access = true,
+            (None, "--status-bodies") if !self.bodies => words.bodies = true,
             (None, "--loop") if !self.looped => words.looped = true,
-            (None, "--journals" | "--idle" | "--status" | "--access" | "--loop") => return None,
+            (
+                None,
+                "--journals" | "--idle" | "--status" | "--status-bodies" | "--access" | "--loop",
+            ) => {
+                return None;
+            }
             (None, _) if self.settings.is_none() => words.settings = Some(word),
             (None, _) => return None,
         }
@@ -86,7 +95,7 @@ fn seconds_of(word: &str) -> Option<u64> {
 }
 
 /// What the words after `serve` ask for: `[FILE] [--journals FOLDER] [--access] [--idle SECONDS]
-/// [--status ADDRESS:PORT] [--loop]`, in any order.
+/// [--status ADDRESS:PORT [--status-bodies]] [--loop]`, in any order.
 pub fn serving_of(words: &[String]) -> Option<Serving<'_>> {
     let mut so_far = Words {
         settings: None,
@@ -94,13 +103,14 @@ pub fn serving_of(words: &[String]) -> Option<Serving<'_>> {
         access: false,
         idle: None,
         status: None,
+        bodies: false,
         looped: false,
         flag: None,
     };
     'each: for word in words {
         so_far = so_far.with(word.as_str())?;
     }
-    if so_far.flag.is_some() {
+    if so_far.flag.is_some() || (so_far.bodies && so_far.status.is_none()) {
         return None;
     }
     Some(Serving {
@@ -109,6 +119,7 @@ pub fn serving_of(words: &[String]) -> Option<Serving<'_>> {
         access: so_far.access,
         idle: so_far.idle,
         status: so_far.status,
+        bodies: so_far.bodies,
         looped: so_far.looped,
     })
 }

@@ -32,7 +32,9 @@ pub struct Access<'a, W: Wait + Log + Clock> {
     /// whose answers are noted, where they are
     client: Option<SocketAddr>,
     conn: u32,
-    /// when the last request was asked
+    /// the entry of the last request
+    ask: u32,
+    /// when that was asked
     asked: Option<Instant>,
 }
 
@@ -50,6 +52,7 @@ impl<'a, W: Wait + Log + Clock> Access<'a, W> {
             watch,
             client,
             conn,
+            ask: 0,
             asked: None,
         }
     }
@@ -71,7 +74,8 @@ impl<W: Wait + Log + Clock> Gate for Access<'_, W> {
         0
     }
 
-    fn pass(&mut self, point: Point, _number: u32) -> bool {
+    fn pass(&mut self, point: Point, number: u32) -> bool {
+        self.ask = number;
         if self.client.is_some() && point == Point::Asked {
             self.asked = Instant::now(self.rt).ok();
         }
@@ -80,7 +84,7 @@ impl<W: Wait + Log + Clock> Gate for Access<'_, W> {
 
     fn told(&mut self, told: &Told<'_>) {
         if let Some(watch) = self.watch {
-            watch.count_answer(self.rt, told);
+            watch.count_answer(self.rt, told, self.ask);
         }
         if let Some(client) = self.client {
             let line = AccessLine {

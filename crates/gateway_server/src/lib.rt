@@ -7,6 +7,7 @@
 #![tactic(auto)]
 
 mod access;
+mod excerpts;
 mod gateway;
 mod options;
 mod ports;
@@ -19,6 +20,7 @@ mod window;
 
 pub use gateway::run;
 pub use journal_archive::{Archive, NoArchive};
+pub use journal_lines::Payloads;
 pub use options::Options;
 pub use ports::Ports;
 pub use server_faults::ServeFault;

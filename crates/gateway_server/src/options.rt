@@ -1,5 +1,7 @@
 //! What an operator chooses of how the gateway runs.
 
+use journal_lines::Payloads;
+
 /// How long a client may stand still in a request, in seconds, if nothing else is chosen.
 const IDLE: u64 = 60;
 
@@ -11,6 +13,8 @@ pub struct Options {
     /// For how many seconds, at least one, a client may stand still in a request; and how long a
     /// connection is idle at least before it may be closed for another one.
     pub idle: u64,
+    /// Whoever looks at the journal sees what datagrams carry.
+    pub payloads: Payloads,
 }
 
 impl Default for Options {
@@ -18,6 +22,7 @@ impl Default for Options {
         Options {
             access: false,
             idle: IDLE,
+            payloads: Payloads::Hidden,
         }
     }
 }

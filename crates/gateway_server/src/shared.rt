@@ -35,7 +35,7 @@ pub struct Shared<W: Clock + RandomSource + Drop, L: Ledger> {
     pub settings: Arc<Settings>,
     /// what is counted for those who look at the gateway, where somebody may
     pub watch: Option<Watch>,
-    options: Options,
+    pub options: Options,
     roll: Mutex<Roll<L>>,
     /// it was noted that the journal is sealed
     noted: AtomicBool,

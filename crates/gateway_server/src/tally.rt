@@ -77,6 +77,9 @@ pub struct Row {
     pub at: u64,
     /// the request that it answers
     pub request: Excerpt,
+    /// the entry of that request, and how many journals were turned over before the one that has it
+    pub ask: u32,
+    pub turned: u64,
 }
 
 /// The answers so far.
@@ -164,8 +167,9 @@ impl Tally {
         })
     }
 
-    /// Counts an answer that is given at this moment.
-    pub fn count(&mut self, told: &Told<'_>, now: u64) {
+    /// Counts the answer to the request with this entry, which is given at this moment, after so many
+    /// journals were turned over.
+    pub fn count(&mut self, told: &Told<'_>, ask: u32, now: u64, turned: u64) {
         count_class(&mut self.classes, told.answer.status);
         let cause = cause_told(told);
         match (cause, told.grounds) {
@@ -186,6 +190,8 @@ impl Tally {
             status: told.answer.status,
             at: now,
             request: Excerpt::of(&request.method, &request.target),
+            ask,
+            turned,
         });
     }
 

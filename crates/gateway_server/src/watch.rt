@@ -50,10 +50,11 @@ impl Watch {
         })
     }
 
-    /// Counts an answer.
-    pub fn count_answer<W: Wait + Clock>(&self, rt: &W, told: &Told<'_>) {
+    /// Counts the answer to the request with this entry.
+    pub fn count_answer<W: Wait + Clock>(&self, rt: &W, told: &Told<'_>, ask: u32) {
         let now = moment(rt).unwrap_or(self.begin);
-        self.tally.lock(rt).count(told, now);
+        let turned = self.turned();
+        self.tally.lock(rt).count(told, ask, now, turned);
     }
 
     /// Counts a connection that was taken or turned away.
@@ -65,6 +66,11 @@ impl Watch {
     /// Counts a journal that was turned over.
     pub fn count_turned(&self) {
         self.turned.fetch_add(1, Ordering::SeqCst);
+    }
+
+    /// How many journals were turned over.
+    fn turned(&self) -> u64 {
+        self.turned.load(Ordering::SeqCst)
     }
 
     /// How many look at the gateway.
@@ -111,6 +117,7 @@ impl Watch {
                 status: row.status,
                 at: self.seconds(row.at),
                 request: Vec::from_slice(alloc, row.request.as_slice())?,
+                ask: (row.turned == self.turned()).then_some(row.ask),
             }),
         })
     }
@@ -224,7 +231,7 @@ pub fn status_of<W: Clock + RandomSource + Drop, L: Ledger, V: Wait + Clock>(
         journal: Fill {
             entries: figures.entries as u64,
             bytes: figures.bytes,
-            turned: watch.turned.load(Ordering::SeqCst),
+            turned: watch.turned(),
         },
         devices: watch.devices(alloc, &tally.rows, &figures.exchanges)?,
     })

@@ -3,11 +3,12 @@
 
 ghost use Rattle.std.specs.Prelude.{◌≤◌, length, IfSome};
 
+use crate::excerpts::{Found, found_about, found_from};
 use crate::shared::Shared;
 use crate::watch::{Watch, brief_status_of, phase_of, status_of};
 use http_edge::{Edge, Incoming, Memory, answer_bytes};
 use log::Log;
-use status_page::{Phase, View, answer_of, view_of};
+use status_page::{Excerpt, Phase, Status, View, answer_of, view_of};
 use std::alloc::Global;
 use std::io::{Read, Write};
 use std::net::{Shutdown, TcpListener, TcpStream};
@@ -105,11 +106,34 @@ fn answer<W: Wait + Clock + RandomSource + Drop, L: Ledger>(
     watch: &Watch,
     came: &Incoming,
 ) -> Result<Vec<u8>, Memory> {
-    let status = match view_of(came) {
-        Ok(View::People | View::Metrics) => status_of(rt, alloc, shared, watch)?,
-        Ok(View::Health) | Err(_) => brief_status_of(rt, alloc, shared, watch),
+    let found = match view_of(came) {
+        Ok(View::Journal(from)) => found_from(rt, alloc, shared, from)?,
+        Ok(View::Request(number)) => found_about(rt, alloc, shared, number)?,
+        Ok(View::People | View::Metrics) => {
+            let status = status_of(rt, alloc, shared, watch)?;
+            return bytes_of(alloc, came, &status, None);
+        }
+        Ok(View::Health) | Err(_) => Found::Nothing,
     };
-    let answer = answer_of(alloc, came, &status)?;
+    let mut status = brief_status_of(rt, alloc, shared, watch);
+    match &found {
+        Found::Turning => {
+            status.phase = Phase::Turning;
+            bytes_of(alloc, came, &status, None)
+        }
+        Found::Nothing => bytes_of(alloc, came, &status, None),
+        Found::Lines(excerpt) => bytes_of(alloc, came, &status, Some(excerpt)),
+    }
+}
+
+/// The bytes of the answer where this is shown.
+fn bytes_of(
+    alloc: Global,
+    came: &Incoming,
+    status: &Status,
+    excerpt: Option<&Excerpt>,
+) -> Result<Vec<u8>, Memory> {
+    let answer = answer_of(alloc, came, status, excerpt)?;
     answer_bytes(alloc, &answer)
 }
 

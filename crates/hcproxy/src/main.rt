@@ -49,7 +49,9 @@ A gateway from HTTP/1.1 to CoAP.
                           60 without it
   serve FILE --status ADDRESS:PORT
                           .. and shows how it does there, by HTTP: a page for people, /metrics for
-                          Prometheus, /health. Whoever reaches the address may look
+                          Prometheus, /health, /journal. Whoever reaches the address may look
+  serve FILE --status ADDRESS:PORT --status-bodies
+                          .. and its journal there with what datagrams carry, which is hidden without it
   serve FILE --loop       .. in one thread, in place of one for each connection. It takes --journals and
                           --idle, and neither --access nor --status
   replay                  runs the script on standard input through the gateway, and prints what goes out

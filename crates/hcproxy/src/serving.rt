@@ -5,7 +5,7 @@ use crate::journals::Folder;
 use crate::notes::noted;
 use ask_model::Settings;
 use command_line::{Report, Serving, followed};
-use gateway_server::{Options, Ports, run};
+use gateway_server::{Options, Payloads, Ports, run};
 use log::Log;
 use proxy_settings::Serve;
 use std::alloc::Global;
@@ -39,6 +39,11 @@ pub fn serve<
     let options = Options {
         access: serving.access,
         idle: serving.idle.unwrap_or(Options::default().idle),
+        payloads: if serving.bodies {
+            Payloads::Shown
+        } else {
+            Payloads::Hidden
+        },
     };
     match opened(&rt, host, serving) {
         Ok((ports, settings, folder)) => {

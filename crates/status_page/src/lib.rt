@@ -1,5 +1,5 @@
-//! What is shown of a gateway that runs: a page for people, figures for programs that watch it, and
-//! whether it takes requests.
+//! What is shown of a gateway that runs: a page for people, figures for programs that watch it, whether it
+//! takes requests, and its journal.
 //!
 //! Three contracts: which page a request is for, all else being refused; by which status code it is
 //! answered, where a HEAD gets no body; and text that came from strangers is escaped, on the page and among
@@ -8,6 +8,7 @@
 
 mod answer;
 mod asked;
+mod excerpt;
 mod metrics;
 mod people;
 mod samples;
@@ -15,4 +16,5 @@ mod status;
 
 pub use answer::answer_of;
 pub use asked::{Refusal, View, view_of};
+pub use excerpt::Excerpt;
 pub use status::{Classes, Connections, Device, Fill, Last, Phase, Responses, Status};

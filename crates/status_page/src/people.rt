@@ -26,7 +26,7 @@ table { border-collapse: collapse; width: 100%; }
 th, td { text-align: left; padding: .25em .8em .25em 0; border-bottom: 1px solid #ddd; }
 th { font-weight: 600; } td.n, th.n { text-align: right; font-variant-numeric: tabular-nums; }
 .keys th { font-weight: normal; width: 20em; } td.when { white-space: nowrap; }
-td.request { overflow-wrap: anywhere; width: 45%; }
+td.request { overflow-wrap: anywhere; width: 45%; } td a { color: inherit; }
 meter { width: 12em; vertical-align: middle; } .foot { margin-top: 1.6em; }
 @media (prefers-color-scheme: dark) { body { color: #ddd; background: #181818; }
   th, td { border-color: #444; } .serving { color: #6fcf8a; } .halted { color: #ff8577; } }
@@ -38,7 +38,8 @@ meter { width: 12em; vertical-align: middle; } .foot { margin-top: 1.6em; }
 /// What it ends with.
 const TAIL: &str =
     "<p class=\"foot\">Figures for programs: <a href=\"/metrics\">/metrics</a>; whether requests are taken:
-<a href=\"/health\">/health</a>. This page is read anew every five seconds.</p>
+<a href=\"/health\">/health</a>; what happened: <a href=\"/journal\">/journal</a>. This page is read anew every
+five seconds.</p>
 </body>
 </html>
 ";
@@ -207,8 +208,20 @@ impl Sheet {
         self.page.markup("</td><td class=\"when\">")?;
         self.time(now.saturating_sub(last.at))?;
         self.page.markup(" ago</td><td class=\"request\">")?;
-        self.page.text(&last.request)?;
+        self.request(last)?;
         self.page.markup("</td>")
+    }
+
+    /// Writes a request, which leads to what became of it where the journal has that.
+    fn request(&mut self, last: &Last) -> Result<(), AllocError> {
+        let Some(ask) = last.ask else {
+            return self.page.text(&last.request);
+        };
+        self.page.markup("<a href=\"/journal/")?;
+        self.shown(ask)?;
+        self.page.markup("\">")?;
+        self.page.text(&last.request)?;
+        self.page.markup("</a>")
     }
 
     /// Writes the row of a device.

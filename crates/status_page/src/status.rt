@@ -125,4 +125,6 @@ pub struct Last {
     pub at: u64,
     /// as it came, or the beginning of it
     pub request: Vec<u8>,
+    /// its entry, where that is one of the journal that there is
+    pub ask: Option<u32>,
 }

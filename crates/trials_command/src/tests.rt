@@ -71,7 +71,7 @@ fn a_script_may_come_byte_by_byte(rt: HostRuntime) {
 }
 
 /// What a line of words asks for, or None where it is answered by the usage.
-static COMMANDS: [(&str, Option<Command<'static>>); 47] = [
+static COMMANDS: [(&str, Option<Command<'static>>); 50] = [
     ("replay", RUN),
     (
         "replay --journal",
@@ -121,6 +121,15 @@ static COMMANDS: [(&str, Option<Command<'static>>); 47] = [
     ("serve --status 127.0.0.1:9090 a.toml", SHOWN),
     ("serve a.toml --status 127.0.0.1", None),
     ("serve a.toml --status", None),
+    (
+        "serve --status 127.0.0.1:9090 --status-bodies a.toml",
+        BARED,
+    ),
+    ("serve a.toml --status-bodies", None),
+    (
+        "serve a.toml --status-bodies --status 127.0.0.1:9090 --status-bodies",
+        None,
+    ),
     ("serve a.toml --access --access", None),
     ("serve a.toml --idle", None),
     ("serve a.toml --idle 0", None),
@@ -179,6 +188,7 @@ const PLAIN: Serving<'static> = Serving {
     access: false,
     idle: None,
     status: None,
+    bodies: false,
     looped: false,
 };
 
@@ -199,6 +209,15 @@ const SHOWN: Option<Command<'static>> = Some(Command::Serve(Serving {
         address: IpAddr::V4(Ipv4Addr::LOCALHOST),
         port: 9090,
     }),
+    ..PLAIN
+}));
+
+const BARED: Option<Command<'static>> = Some(Command::Serve(Serving {
+    status: Some(Peer {
+        address: IpAddr::V4(Ipv4Addr::LOCALHOST),
+        port: 9090,
+    }),
+    bodies: true,
     ..PLAIN
 }));
 

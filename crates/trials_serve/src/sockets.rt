@@ -3,7 +3,7 @@
 use crate::device::reply_to;
 use crate::rows::{Row, rows};
 use crate::sample::settings;
-use gateway_server::{NoArchive, Options, Ports, run};
+use gateway_server::{NoArchive, Options, Payloads, Ports, run};
 use log::Log;
 use std::alloc::{AllocError, Global};
 use std::io::{Read, Write};
@@ -71,6 +71,7 @@ fn hasty() -> Options {
     Options {
         access: true,
         idle: IDLE,
+        payloads: Payloads::Hidden,
     }
 }
 

@@ -1,6 +1,7 @@
 //! The gateway and the demonstration device in one process, on sockets of this machine.
 
 use crate::sockets::{any_port, open_client, start};
+use crate::window::{Shown, start_shown, told_to};
 use device_server::DevicePort;
 use log::Log;
 use proxy_settings::{Device, Part, Setup, settings_of};
@@ -8,8 +9,8 @@ use std::alloc::Global;
 use std::io::{Read, Write};
 use std::net::{Net, SocketAddr, TcpStream};
 use std::rt::Clock;
-use std::thread;
 use std::thread::Threads;
+use std::{str, thread};
 
 /// A device with a light that is on.
 static LIGHT: &str =
@@ -69,5 +70,38 @@ fn the_device_answers_the_gateway(rt: HostRuntime) {
     assert!(rt; gateway.is_some() && port.is_some());
     if let (Some(gateway), Some(port)) = (gateway, port) {
         assert!(rt; is_answered(&rt, gateway, port) == Some(true));
+    }
+}
+
+/// What the window shows of that request: its entries, and the device's reply with what it carries hidden.
+static DRAWN: [&str; 3] = ["<g id=\"e1\" ", "ff2a2a</title>", "<g id=\"e4\" "];
+
+fn drawn() -> &'static [&'static str] {
+    &DRAWN
+}
+
+/// Whether the window leads from the device's reply to what became of the request.
+fn is_drawn<W: Net<Stream = TcpStream>>(
+    rt: &W,
+    alloc: Global,
+    shown: Shown,
+    port: u16,
+) -> Option<bool> {
+    if !is_answered(rt, shown.gateway, port)? {
+        return Some(false);
+    }
+    let asked = b"GET /journal/3 HTTP/1.1\r\nHost: w\r\n\r\n";
+    let page = told_to(rt, alloc, shown.window, asked)?;
+    let page = str::from_utf8(&page).ok()?;
+    Some(drawn().iter().all(|part| page.contains(*part)))
+}
+
+#[test]
+fn the_window_draws_a_request(rt: HostRuntime) {
+    let shown = start_shown(rt, rt.alloc());
+    let port = start_device(rt, rt.alloc());
+    assert!(rt; shown.is_some() && port.is_some());
+    if let (Some(shown), Some(port)) = (shown, port) {
+        assert!(rt; is_drawn(&rt, rt.alloc(), shown, port) == Some(true));
     }
 }

@@ -1,11 +1,16 @@
 //! What the window of a gateway shows.
 
-use crate::sample::settings;
+use crate::sample::{Nothing, settings};
 use crate::sockets::{any_port, open_client};
-use gateway_server::{NoArchive, Options, Ports, run};
+use coap_codec::Bytes;
+use gateway_server::{NoArchive, Options, Payloads, Ports, run};
 use http_edge::{Edge, Incoming, answer_bytes};
+use journal_book::{Entry, Event};
+use journal_lines::write_entry;
 use log::Log;
-use status_page::{Classes, Connections, Device, Fill, Last, Phase, Responses, Status, answer_of};
+use status_page::{
+    Classes, Connections, Device, Excerpt, Fill, Last, Phase, Responses, Status, answer_of,
+};
 use std::alloc::{AllocError, Global};
 use std::io::{Read, Write};
 use std::net::{IpAddr, Ipv4Addr, Net, SocketAddr, TcpListener, TcpStream};
@@ -17,7 +22,7 @@ use std::{str, thread};
 use uri_map::Peer;
 
 /// What is asked of the window over a socket, and how the answer begins.
-static ASKED: [(&str, &str); 5] = [
+static ASKED: [(&str, &str); 8] = [
     (
         "GET /health HTTP/1.1\r\nHost: w\r\n\r\n",
         "HTTP/1.1 200 OK\r\n",
@@ -27,6 +32,15 @@ static ASKED: [(&str, &str); 5] = [
         "HTTP/1.1 200 OK\r\n",
     ),
     ("GET /nothing HTTP/1.1\r\nHost: w\r\n\r\n", "HTTP/1.1 404 "),
+    ("GET /journal HTTP/1.1\r\nHost: w\r\n\r\n", "HTTP/1.1 200 "),
+    (
+        "GET /journal?from=1 HTTP/1.1\r\nHost: w\r\n\r\n",
+        "HTTP/1.1 404 ",
+    ),
+    (
+        "GET /journal/0 HTTP/1.1\r\nHost: w\r\n\r\n",
+        "HTTP/1.1 404 ",
+    ),
     (
         "PUT / HTTP/1.1\r\nHost: w\r\nContent-Length: 0\r\n\r\n",
         "HTTP/1.1 405 ",
@@ -41,13 +55,13 @@ fn asked() -> &'static [(&'static str, &'static str)] {
 
 /// Where a gateway takes connections, and where it is looked at.
 #[derive(Clone, Copy)]
-struct Shown {
-    gateway: SocketAddr,
-    window: SocketAddr,
+pub struct Shown {
+    pub gateway: SocketAddr,
+    pub window: SocketAddr,
 }
 
 /// Starts a gateway that shows how it does, and answers where.
-fn start_shown<
+pub fn start_shown<
     W: Threads
         + Wait
         + Log
@@ -112,7 +126,7 @@ fn the_window_answers(rt: HostRuntime) {
 }
 
 /// All that is answered to these bytes until the connection ends.
-fn told_to<W: Net<Stream = TcpStream>>(
+pub fn told_to<W: Net<Stream = TcpStream>>(
     rt: &W,
     alloc: Global,
     at: SocketAddr,
@@ -143,6 +157,48 @@ fn the_window_counts(rt: HostRuntime) {
     }
 }
 
+/// What the window says of the journal, once bytes that are no request were answered.
+static SAID: [(&str, &str); 4] = [
+    ("GET /journal HTTP/1.1\r\nHost: w\r\n\r\n", " opened 0\n1 "),
+    (
+        "GET /journal?from=2 HTTP/1.1\r\nHost: w\r\n\r\n",
+        " answered 0 1 fault bad-http 1\n",
+    ),
+    (
+        "GET /journal/1 HTTP/1.1\r\nHost: w\r\n\r\n",
+        "<a href=\"#e1\">1</a>, bad-http: see <a href=\"#e1\">1</a>",
+    ),
+    (
+        "HEAD /journal/2 HTTP/1.1\r\nHost: w\r\n\r\n",
+        "Content-Type: text/html; charset=utf-8\r\n",
+    ),
+];
+
+fn said() -> &'static [(&'static str, &'static str)] {
+    &SAID
+}
+
+/// Whether the window leads from an answer of the gateway's own to its entries.
+fn shows_journal<W: Net<Stream = TcpStream>>(rt: &W, alloc: Global, shown: Shown) -> Option<bool> {
+    told_to(rt, alloc, shown.gateway, b"?\r\n\r\n")?;
+    for &(asked, said) in said() {
+        let text = told_to(rt, alloc, shown.window, asked.as_bytes())?;
+        if !str::from_utf8(&text).ok()?.contains(said) {
+            return Some(false);
+        }
+    }
+    Some(true)
+}
+
+#[test]
+fn the_window_shows_the_journal(rt: HostRuntime) {
+    let shown = start_shown(rt, rt.alloc());
+    assert!(rt; shown.is_some());
+    if let Some(shown) = shown {
+        assert!(rt; shows_journal(&rt, rt.alloc(), shown) == Some(true));
+    }
+}
+
 /// A gateway that turns its journal over, with a device that a stranger asked.
 fn turning(alloc: Global) -> Result<Status, AllocError> {
     let mut devices = Vec::new(alloc);
@@ -159,6 +215,7 @@ fn turning(alloc: Global) -> Result<Status, AllocError> {
             status: 504,
             at: 1_000_000_000,
             request: Vec::from_slice(alloc, b"GET /<b>")?,
+            ask: Some(40),
         }),
     })?;
     Ok(Status {
@@ -195,7 +252,7 @@ fn text_for(alloc: Global, request: &[u8]) -> Option<String> {
     edge.feed(request);
     let came: Incoming = edge.next().ok()??;
     let status = turning(alloc).ok()?;
-    let Ok(answer) = answer_of(alloc, &came, &status) else {
+    let Ok(answer) = answer_of(alloc, &came, &status, None) else {
         return None;
     };
     let bytes = answer_bytes(alloc, &answer).ok()?;
@@ -204,8 +261,11 @@ fn text_for(alloc: Global, request: &[u8]) -> Option<String> {
 }
 
 /// What is asked of that gateway, and what stands in the answer.
-static TOLD: [(&str, &str); 7] = [
-    ("GET / HTTP/1.1\r\nHost: w\r\n\r\n", "GET /&lt;b&gt;"),
+static TOLD: [(&str, &str); 8] = [
+    (
+        "GET / HTTP/1.1\r\nHost: w\r\n\r\n",
+        "<a href=\"/journal/40\">GET /&lt;b&gt;</a>",
+    ),
     (
         "GET / HTTP/1.1\r\nHost: w\r\n\r\n",
         "since Sun, 09 Sep 2001 01:46:40 GMT, for 1 min 1 s",
@@ -225,6 +285,10 @@ static TOLD: [(&str, &str); 7] = [
     ),
     (
         "GET /health HTTP/1.1\r\nHost: w\r\n\r\n",
+        "HTTP/1.1 503 Service Unavailable\r\n",
+    ),
+    (
+        "GET /journal HTTP/1.1\r\nHost: w\r\n\r\n",
         "HTTP/1.1 503 Service Unavailable\r\n",
     ),
     (
@@ -251,4 +315,71 @@ fn tells_all(alloc: Global) -> Option<bool> {
 #[test]
 fn pages_tell_how_it_does(rt: HostRuntime) {
     assert!(rt; tells_all(rt.alloc()) == Some(true));
+}
+
+/// A part of a journal: a request that was joined, so that what its answer rests on came before it.
+static PART: &str = "40 900 heard 192.0.2.1:5683 6145b20de70102ff2a2a\n\
+    41 905 opened 7\n\
+    43 906 asked 7 GET /hc/coap://s.example.com/light 0\n\
+    51 906 answered 7 43 kept 38,40\n";
+
+/// The text of the answer to a request for what became of that one.
+fn picture(alloc: Global) -> Option<String> {
+    let mut edge = Edge::new(alloc).ok()?;
+    edge.feed(b"GET /journal/43 HTTP/1.1\r\nHost: w\r\n\r\n");
+    let came: Incoming = edge.next().ok()??;
+    let status = Status::without_figures(alloc, Phase::Serving, 0);
+    let mut excerpt = Excerpt::new(alloc, 52);
+    excerpt.lines.extend_from_slice(PART.as_bytes()).ok()?;
+    let Ok(answer) = answer_of(alloc, &came, &status, Some(&excerpt)) else {
+        return None;
+    };
+    let text = str::from_utf8(answer.body.as_slice()).ok()?;
+    String::from_str(alloc, text).ok()
+}
+
+/// Whether it is drawn, with a curve from what is there alone.
+fn is_drawn(alloc: Global) -> Option<bool> {
+    let text = picture(alloc)?;
+    let curves = text.as_str().split("<path class=\"rests\"").count();
+    Some(text.as_str().contains("<g id=\"e43\"") && curves == 3)
+}
+
+#[test]
+fn a_request_is_drawn_with_gaps(rt: HostRuntime) {
+    assert!(rt; is_drawn(rt.alloc()) == Some(true));
+}
+
+/// The line of a datagram whose payload is hidden, or the whole of it where it is no message.
+fn hidden_line(alloc: Global, bytes: &[u8]) -> Option<String> {
+    let peer = Peer {
+        address: IpAddr::V4(Ipv4Addr::new(192, 0, 2, 1)),
+        port: 5683,
+    };
+    let bytes = Bytes::from_slice(alloc, bytes).ok()?;
+    let entry: Entry<Nothing> = Entry {
+        moment: 900,
+        event: Event::Heard { peer, bytes },
+    };
+    let mut line = Vec::new(alloc);
+    write_entry(alloc, &mut line, 40, &entry, Payloads::Hidden).ok()?;
+    String::from_str(alloc, str::from_utf8(&line).ok()?).ok()
+}
+
+/// Whether a datagram is shown so.
+fn is_shown_as(alloc: Global, bytes: &[u8], shown: &str) -> Option<bool> {
+    let line = hidden_line(alloc, bytes)?;
+    Some(
+        line.as_str()
+            == format!(in alloc; "40 900 heard 192.0.2.1:5683 {shown}\n")
+                .ok()?
+                .as_str(),
+    )
+}
+
+#[test]
+fn payloads_are_hidden(rt: HostRuntime) {
+    let whole = b"\x61\x45\xb2\x0d\xe7\xc1\x2a\xffon";
+    assert!(rt; is_shown_as(rt.alloc(), whole, "6145b20de7c12aff2a2a") == Some(true));
+    assert!(rt; is_shown_as(rt.alloc(), b"on\xff", "2a2a2a") == Some(true));
 }

@@ -1,7 +1,7 @@
 -- The bytes that were matched are the path.
 use Rattle.std.proofs.Common.{rules, ◌≡◌, refl, codes}
 use Rattle.std.proofs.lemmas.Slice.Eq.{text_from_reads}
-use Rattle.status_page.proofs.asked.view_at.Goals as goal
+use Rattle.status_page.proofs.asked.view_named.Goals as goal
 
 pub returns-in-47-2 : goal.returns-in-47-2
 returns-in-47-2 c = let e : c.args.path.now ≡ codes "/health" = text_from_reads c.args.path.now (codes "/health") (search rules) (search rules) in rw e refl

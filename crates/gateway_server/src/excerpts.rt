@@ -1,0 +1,82 @@
+//! What is shown of the journal: its entries are copied under the desk's lock, and the lines made after.
+
+use crate::shared::Shared;
+use gateway_desk::Numbered;
+use journal_book::Entry;
+use journal_lines::{Payloads, Unwritten, write_entry};
+use route_bank::Profile;
+use status_page::Excerpt;
+use std::alloc::{AllocError, Global};
+use std::random::RandomSource;
+use std::rt::Clock;
+use std::sync::Wait;
+use std::sync::ledger::Ledger;
+
+/// What the journal has of what is asked for.
+#[derive(Drop)]
+pub enum Found {
+    Lines(Excerpt),
+    /// It has nothing of it.
+    Nothing,
+    /// It is turned over.
+    Turning,
+}
+
+/// The journal from this entry on. The number of the next entry has an empty excerpt, and later ones none.
+pub fn found_from<W: Clock + RandomSource + Drop, L: Ledger, V: Wait>(
+    rt: &V,
+    alloc: Global,
+    shared: &Shared<W, L>,
+    from: u32,
+) -> Result<Found, AllocError> {
+    let from = from as usize;
+    let Some(extract) = shared.desk.entries_from(rt, alloc, from)? else {
+        return Ok(Found::Turning);
+    };
+    if from > extract.total {
+        return Ok(Found::Nothing);
+    }
+    let mut excerpt = Excerpt::new(alloc, from as u64);
+    'each: for entry in &extract.entries {
+        add_line(alloc, &mut excerpt, entry, shared.options.payloads)?;
+    }
+    Ok(Found::Lines(excerpt))
+}
+
+/// What became of the request that this entry is or answers, or that was answered by it.
+pub fn found_about<W: Clock + RandomSource + Drop, L: Ledger, V: Wait>(
+    rt: &V,
+    alloc: Global,
+    shared: &Shared<W, L>,
+    number: u32,
+) -> Result<Found, AllocError> {
+    let number = number as usize;
+    let Some(entries) = shared.desk.entries_about(rt, alloc, number)? else {
+        return Ok(Found::Turning);
+    };
+    if entries.is_empty() {
+        return Ok(Found::Nothing);
+    }
+    let mut excerpt = Excerpt::new(alloc, 0);
+    'each: for numbered in &entries {
+        let Numbered { number, entry } = numbered;
+        excerpt.next = u64::from(*number);
+        add_line(alloc, &mut excerpt, entry, shared.options.payloads)?;
+    }
+    Ok(Found::Lines(excerpt))
+}
+
+/// Adds the line of the next entry.
+fn add_line(
+    alloc: Global,
+    excerpt: &mut Excerpt,
+    entry: &Entry<Profile>,
+    payloads: Payloads,
+) -> Result<(), AllocError> {
+    let number = excerpt.next as usize;
+    excerpt.next = excerpt.next.saturating_add(1);
+    match write_entry(alloc, &mut excerpt.lines, number, entry, payloads) {
+        Ok(()) => Ok(()),
+        Err(Unwritten::Memory | Unwritten::Device) => Err(AllocError),
+    }
+}
