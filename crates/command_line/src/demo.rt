@@ -6,6 +6,9 @@ use std::net::{IpAddr, Ipv4Addr, SocketAddr};
 /// Where the demonstration takes connections, if it can and no other place is named.
 pub const WEB_PORT: u16 = 8080;
 
+/// Where it shows how it does, if it can.
+pub const WINDOW_PORT: u16 = 9090;
+
 /// Where its device takes messages, if it can: the port that CoAP has where a URL names none (RFC 7252,
 /// section 6.1).
 pub const COAP_PORT: u16 = 5683;
@@ -40,11 +43,12 @@ pub fn loopback(port: u16) -> SocketAddr {
     SocketAddr::new(IpAddr::V4(Ipv4Addr::new(127, 0, 0, 1)), port)
 }
 
-/// Where the gateway of a demonstration takes connections and its device takes messages. Its text says
-/// so, and what to try.
+/// Where the gateway of a demonstration takes connections and shows how it does, and where its device takes
+/// messages. Its text says so, and what to try.
 #[derive(Clone, Copy)]
 pub struct Demonstration {
     pub web: SocketAddr,
+    pub window: SocketAddr,
     pub device: SocketAddr,
 }
 
@@ -63,7 +67,8 @@ impl fmt::Display for Authority {
 
 impl fmt::Display for Demonstration {
     fn fmt<W: fmt::Write>(&self, f: &mut fmt::Formatter<W>) -> fmt::Result {
-        let (web, at, device) = (self.web, self.device, Authority(self.device.port()));
+        let (web, window) = (self.web, self.window);
+        let (at, device) = (self.device, Authority(self.device.port()));
         write!(
             f,
             "The gateway is at http://{web}, and a device with a lamp and a counter at coap://{at}.
@@ -75,6 +80,11 @@ Try, in another terminal:
       changes it: 204 No Content, and from then on it is on
   curl -i -X POST http://{web}/hc/coap://{device}/visits
       counts one more: 200 OK, and how many there are now
+
+and then, in a browser:
+
+  http://{window}/
+      shows how the gateway does, and where a request leads, what became of it
 
 Both run until this is ended, with Ctrl-C."
         )

@@ -14,7 +14,7 @@ mod serving;
 mod settings;
 
 pub use command::{Command, command_of};
-pub use demo::{COAP_PORT, DEVICE, Demonstration, GATEWAY, WEB_PORT, loopback};
+pub use demo::{COAP_PORT, DEVICE, Demonstration, GATEWAY, WEB_PORT, WINDOW_PORT, loopback};
 pub use fault::{Reason, ReplayFault};
 pub use report::{Failure, Hint, Report, USAGE};
 pub use script::{Event, Line, LineFault, line_of};

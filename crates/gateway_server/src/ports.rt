@@ -41,12 +41,17 @@ impl Ports {
         rt: &W,
         at: SocketAddr,
     ) -> Result<Ports, ServeFault> {
-        let mut ports = self;
         match TcpListener::bind(rt, at) {
-            Ok(window) => ports.window = Some(window),
-            Err(error) => return Err(ServeFault::Listen(at, error)),
+            Ok(window) => Ok(self.shown_by(window)),
+            Err(error) => Err(ServeFault::Listen(at, error)),
         }
-        Ok(ports)
+    }
+
+    /// These ports, and a socket at which the gateway is looked at.
+    pub fn shown_by(self, window: TcpListener) -> Ports {
+        let mut ports = self;
+        ports.window = Some(window);
+        ports
     }
 
     /// Where the gateway is looked at, if it is.

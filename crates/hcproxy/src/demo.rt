@@ -4,7 +4,7 @@ use crate::files::setup_in;
 use crate::notes::noted;
 use ask_model::Settings;
 use command_line::{
-    COAP_PORT, DEVICE, Demonstration, GATEWAY, Report, WEB_PORT, followed, loopback,
+    COAP_PORT, DEVICE, Demonstration, GATEWAY, Report, WEB_PORT, WINDOW_PORT, followed, loopback,
 };
 use device_server::DevicePort;
 use gateway_server::{NoArchive, Options, Ports};
@@ -30,7 +30,8 @@ struct Opened {
 }
 
 /// Runs the gateway and the device until one of them fails. Where no address is named for connections
-/// and the usual port is in use, this is told, and the system chooses another; so too for the device.
+/// and the usual port is in use, this is told, and the system chooses another; so too for the device, and
+/// for where the gateway is looked at.
 pub fn run_demo<
     R: Net<Listener = TcpListener, Stream = TcpStream>
         + Threads
@@ -79,6 +80,10 @@ fn take_ports<R: Net<Listener = TcpListener, Stream = TcpStream> + Eprint + Allo
         Ok(ports) => ports,
         Err(fault) => return Err(Report::serve(fault)),
     };
+    let ports = match window_port(rt) {
+        Ok(window) => ports.shown_by(window),
+        Err(fault) => return Err(Report::serve(fault)),
+    };
     let port = match device_port(rt) {
         Ok(port) => port,
         Err(fault) => return Err(Report::origin(fault)),
@@ -124,6 +129,30 @@ fn ports_at<R: Net<Listener = TcpListener, Stream = TcpStream> + Eprint>(
     }
 }
 
+/// The port at which the gateway is looked at: the usual one or any.
+fn window_port<R: Net<Listener = TcpListener, Stream = TcpStream> + Eprint>(
+    rt: &R,
+) -> Result<TcpListener, ServeFault> {
+    match window_at(rt, loopback(WINDOW_PORT)) {
+        Err(ServeFault::Listen(at, error)) if is_in_use(error) => {
+            tell_in_use(rt, at);
+            window_at(rt, loopback(0))
+        }
+        outcome => outcome,
+    }
+}
+
+/// That port.
+fn window_at<R: Net<Listener = TcpListener, Stream = TcpStream>>(
+    rt: &R,
+    at: SocketAddr,
+) -> Result<TcpListener, ServeFault> {
+    match TcpListener::bind(rt, at) {
+        Ok(window) => Ok(window),
+        Err(error) => Err(ServeFault::Listen(at, error)),
+    }
+}
+
 /// The port of the device: the usual one or any.
 fn device_port<R: Net + Eprint>(rt: &R) -> Result<DevicePort, DeviceFault> {
     match DevicePort::bind(rt, loopback(COAP_PORT)) {
@@ -146,10 +175,20 @@ fn tell_in_use<R: Eprint>(rt: &R, at: SocketAddr) {
 
 /// Prints where the two are found, and what to ask.
 fn tell_what_to_try<R: Print>(rt: &R, opened: &Opened) -> Result<(), Report<'static>> {
-    let (Ok(web), Ok(device)) = (opened.ports.listens_at(), opened.port.listens_at()) else {
+    let ports = &opened.ports;
+    let (Ok(web), Some(window), Ok(device)) = (
+        ports.listens_at(),
+        ports.shows_at(),
+        opened.port.listens_at(),
+    ) else {
         return Err(Report::serve(ServeFault::Stopped));
     };
-    match println!(rt; "{}", Demonstration { web, device }) {
+    let told = Demonstration {
+        web,
+        window,
+        device,
+    };
+    match println!(rt; "{told}") {
         Ok(()) => Ok(()),
         Err(_) => Err(Report::unprinted()),
     }

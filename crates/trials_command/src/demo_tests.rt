@@ -9,6 +9,7 @@ use std::net::SocketAddr;
 fn prints(alloc: Global, web: u16, device: u16, lines: &[&str]) -> Result<bool, AllocError> {
     let demonstration = Demonstration {
         web: loopback(web),
+        window: loopback(9090),
         device: loopback(device),
     };
     let text = format!(in alloc; "{demonstration}")?;
@@ -21,6 +22,7 @@ fn it_says_what_to_try(rt: HostRuntime) {
         "  curl -i http://127.0.0.1:8080/hc/coap://demo.example.com/lamp\n",
         "  curl -i -X PUT -H Content-Type: -d on http://127.0.0.1:8080/hc/coap://demo.example.com/lamp\n",
         "  curl -i -X POST http://127.0.0.1:8080/hc/coap://demo.example.com/visits\n",
+        "  http://127.0.0.1:9090/\n",
     ];
     assert!(rt; prints(rt.alloc(), 8080, 5683, &usual) == Ok(true));
     let other = ["  curl -i http://127.0.0.1:7/hc/coap://demo.example.com:56830/lamp\n"];
