@@ -224,7 +224,7 @@ pub fn answer_of(
     excerpt: Option<&Excerpt>,
 ) -> Result<HttpAnswer, Memory>
     ensures code { IfOk result (λ a. a.status
-        ≡ code_for (view_asked (item came.now)) status.now.phase (is_some excerpt)) }
+        ≡ code_for (view_asked (item came.now)) status.now.phase (is_some excerpt.entry)) }
     ensures digits { IfOk result (λ a. a.status < 1000) }
     ensures head { asks_head (item came.now) ≡ true
         → IfOk result (λ a. body_bytes a.body ≡ []) }
