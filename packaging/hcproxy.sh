@@ -4,7 +4,7 @@
 program=/usr/lib/hcproxy/hcproxy
 case $* in
   --version | -V)
-    "$program" --version && grep -E '^(commit|proved|built) ' /usr/share/doc/hcproxy/BUILD
+    "$program" --version && grep -E '^(commit|proved|built) ' /usr/lib/hcproxy/BUILD
     ;;
   *) exec "$program" "$@" ;;
 esac
