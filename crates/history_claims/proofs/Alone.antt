@@ -24,7 +24,7 @@ use Rattle.history_claims.proofs.Pending.{senses}
 use Rattle.history_claims.proofs.Unshared.{asks-itself, is-write, answered-after}
 
 -- A connection stays open till it is shut.
-abbrev NeverShut : List Noted → ℕ → Type 0
+abbrev pub NeverShut : List Noted → ℕ → Type 0
 NeverShut l c = (m s : ℕ) (note : Note) → at l m ≡ Some (noted s (Shuts c) note) → ⊥
 
 stays-open : (l : List Noted) (c t : ℕ) (d : Deed) (note : Note) → NeverShut (noted t d note ∷ l) c → is_open l c ≡ true → open_by c d (is_open l c) ≡ true
@@ -42,7 +42,7 @@ stays-open l c t (Shuts e) note never h =
     ]
 stays-open l c t d note never h = h
 
-still-open : (l : List Noted) (o c : ℕ) → NeverShut l c → is_open (before l o) c ≡ true → is_open l c ≡ true
+pub still-open : (l : List Noted) (o c : ℕ) → NeverShut l c → is_open (before l o) c ≡ true → is_open l c ≡ true
 still-open [] o c never h = h
 still-open (x ∷ older) o c never h =
     let were : NeverShut older c = λ m s note e. never m s note (at-keeps x older m _ e) in
@@ -51,10 +51,10 @@ still-open (x ∷ older) o c never h =
       | inr w ↦ stays-open older c x.written.moment x.written.deed x.note never (still-open older o c were (rw (w.0) at h))
     ]
 
-requests-same : (q r : CoapRequest) → Requests q ≡ Requests r → q ≡ r
+pub requests-same : (q r : CoapRequest) → Requests q ≡ Requests r → q ≡ r
 requests-same q r e = cc
 
-reads-some : (l : List Noted) (r : Option ℕ) → reads_open l r ≡ true → (x : ℕ) × (r ≡ Some x) × (is_going l x ≡ true)
+pub reads-some : (l : List Noted) (r : Option ℕ) → reads_open l r ≡ true → (x : ℕ) × (r ≡ Some x) × (is_going l x ≡ true)
 reads-some l None h = absurd (false≢true h)
 reads-some l (Some x) h = (x, refl, h)
 

@@ -1,5 +1,6 @@
 -- The lemmas on what a reader may claim of a journal that other crates cite. Declares nothing, and no other module of proofs/ can be named from outside.
 pub use Rattle.history_claims.proofs.Apart.{answer-once}
+pub use Rattle.history_claims.proofs.AtHand.{asks-once}
 pub use Rattle.history_claims.proofs.Causes.{names-cause}
 pub use Rattle.history_claims.proofs.Entries.{entries-at, entry-keeps}
 pub use Rattle.history_claims.proofs.Resting.{rests-on-replies}

@@ -350,7 +350,7 @@ open-way l p i h = last (last_sent l p) h
     last None h = absurd (contains-none i h)
     last (Some f) h = on_way f (transmission l f.number) refl h
 
-empty-parts : (m : Content) (k : MsgType) (c : ℕ) (token : List ℕ) (options : List Entry) (payload : List ℕ)
+pub empty-parts : (m : Content) (k : MsgType) (c : ℕ) (token : List ℕ) (options : List Entry) (payload : List ℕ)
     → m.kind ≡ k → m.code ≡ c → m.token ≡ token → m.options ≡ options → m.payload ≡ payload
     → m ≡ record { kind = k; code = c; mid = m.mid; token = token; options = options; payload = payload }
 empty-parts m k c token options payload e1 e2 e3 e4 e5 = rw (← e1, ← e2, ← e3, ← e4, ← e5) refl

@@ -27,12 +27,12 @@ copies-keep x l p b w i t (j ∷ js) last h =
     (entry-keeps x l j last (Sends p b None) h.0, h.1, (h.2.0, h.2.1, copies-keep x l p b w i t js h.2.0 h.2.2))
 
 -- how a message that is outstanding went out so far
-record Went (l : List Noted) (p : Peer) (b : List ℕ) (w i t : ℕ) (y : Transmission) : Type 0 where
-  copies : List ℕ
-  many : length copies ≡ y.copies
-  timeout : y.timeout ≡ w
-  again : AreCopies (entries l) p b w i t copies y.last
-  below : last_of i copies < length l
+pub record Went (l : List Noted) (p : Peer) (b : List ℕ) (w i t : ℕ) (y : Transmission) : Type 0 where
+  pub copies : List ℕ
+  pub many : length copies ≡ y.copies
+  pub timeout : y.timeout ≡ w
+  pub again : AreCopies (entries l) p b w i t copies y.last
+  pub below : last_of i copies < length l
 
 went-keeps : (x : Noted) (l : List Noted) (p : Peer) (b : List ℕ) (w i t : ℕ) (y : Transmission) → Went l p b w i t y → Went (x ∷ l) p b w i t y
 went-keeps x l p b w i t y h =
@@ -68,11 +68,11 @@ sends-same s t p r b c v w u z e = (peers (ap (λ (x : Noted). x.written.deed) e
     texts h = cc
 
 -- a copy bears no timeout, and goes to the endpoint of the first sending with its bytes, when the timeout is over
-record CopyOf (x : Noted) (l : List Noted) (i : ℕ) (p : Peer) (b : List ℕ) (y : Transmission) : Type 0 where
-  entry : x.written.deed ≡ Sends p b None
-  late : y.last + y.timeout * 2 ^ y.copies ≤ x.written.moment
+pub record CopyOf (x : Noted) (l : List Noted) (i : ℕ) (p : Peer) (b : List ℕ) (y : Transmission) : Type 0 where
+  pub entry : x.written.deed ≡ Sends p b None
+  pub late : y.last + y.timeout * 2 ^ y.copies ≤ x.written.moment
 
-copy-of : (x : Noted) (l : List Noted) (t o i : ℕ) (p r : Peer) (b c : List ℕ) (w v : Option ℕ) (m : Content) (y : Transmission) → Legal (x ∷ l)
+pub copy-of : (x : Noted) (l : List Noted) (t o i : ℕ) (p r : Peer) (b c : List ℕ) (w v : Option ℕ) (m : Content) (y : Transmission) → Legal (x ∷ l)
     → at l i ≡ Some (noted t (Sends p b w) (First o m)) → x ≡ noted x.written.moment (Sends r c v) (Copies i) → transmission l i ≡ Some y
     → CopyOf x l i p b y
 copy-of x l t o i p r b c w v m y legal first is was =
@@ -108,7 +108,7 @@ went-again x l i p b w t y z copy h is =
       below = omega arith;
     })
 
-went : (l : List Noted) (t o i : ℕ) (p : Peer) (b : List ℕ) (w : ℕ) (m : Content) (y : Transmission) → Legal l
+pub went : (l : List Noted) (t o i : ℕ) (p : Peer) (b : List ℕ) (w : ℕ) (m : Content) (y : Transmission) → Legal l
     → at l i ≡ Some (noted t (Sends p b (Some w)) (First o m)) → transmission l i ≡ Some y → Went l p b w i t y
 went [] t o i p b w m y legal first e = absurd cc
 went (x ∷ older) t o i p b w m y legal first e =

@@ -26,7 +26,7 @@ more-opened : (l : List Noted) (t : ℕ) (d : Deed) (note : Note) → Follows l 
 more-opened l t (Opens c) note may = let here = next-above (has_opened l) (opened l) c may.1 in omega (arith, here)
 more-opened l t d note may = omega arith
 
-opened-before : (l : List Noted) (n : ℕ) → Legal l → opened (before l n) ≤ opened l
+pub opened-before : (l : List Noted) (n : ℕ) → Legal l → opened (before l n) ≤ opened l
 opened-before [] n legal = omega arith
 opened-before (x ∷ older) n legal =
     elim (eqb_tells n (length older)) [
@@ -59,7 +59,7 @@ open-was l t c (Shuts e) note below may h =
     elim (eqb_tells e c) [ inl w ↦ absurd (false≢true (rw (w.0) at h)) | inr w ↦ rw (w.0) at h ]
 open-was l t c d note below may h = h
 
-open-back : (l : List Noted) (n c : ℕ) → Legal l → c < opened (before l n) → is_open l c ≡ true → is_open (before l n) c ≡ true
+pub open-back : (l : List Noted) (n c : ℕ) → Legal l → c < opened (before l n) → is_open l c ≡ true → is_open (before l n) c ≡ true
 open-back [] n c legal below h = h
 open-back (x ∷ older) n c legal below h =
     elim (eqb_tells n (length older)) [
@@ -71,7 +71,7 @@ open-back (x ∷ older) n c legal below h =
     ]
 
 -- The ask that a connection waits for it waited for before, from the ask on.
-pending-back : (l : List Noted) (i c k : ℕ) (a : Ask) → Legal l → pending l c ≡ Some k → IsAsk (before l i) k c a → pending (before l i) c ≡ Some k
+pub pending-back : (l : List Noted) (i c k : ℕ) (a : Ask) → Legal l → pending l c ≡ Some k → IsAsk (before l i) k c a → pending (before l i) c ≡ Some k
 pending-back l i c k a legal next ask =
     let listed = ask-listed (before l i) k c a ask in
     let q : ℕ = listed.0 in
@@ -84,7 +84,7 @@ pending-back l i c k a legal next ask =
     subst (λ (q : ℕ). slice_get (asks_of (before l i) c) q ≡ Some k) place listed.1
 
 -- what an open connection waits for goes on while an input may come
-in-hand : (l : List Noted) (c k o : ℕ) → AtRest l → c < opened l → is_open l c ≡ true → pending l c ≡ Some k → reads l k ≡ Some o → is_going l o ≡ true
+pub in-hand : (l : List Noted) (c k o : ℕ) → AtRest l → c < opened l → is_open l c ≡ true → pending l c ≡ Some k → reads l k ≡ Some o → is_going l o ≡ true
 in-hand l c k o rest below now next own =
     let hand : is_in_hand l c ≡ true = range-passes (is_in_hand l) 0 (opened l) c rest.waits (omega arith) (omega (arith, below)) in
     let here : (not true || option_map_or (λ (k : ℕ). reads_open l (reads l k)) (pending l c) true) ≡ true =

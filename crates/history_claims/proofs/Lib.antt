@@ -35,3 +35,17 @@ mod Copied
 mod Stored
 mod InPieces
 mod InBlocks
+mod Quiet
+mod Waits
+mod Held
+mod Told
+mod Given
+mod AtHand
+mod Accounted
+mod Again
+mod InTurn
+mod Owned
+mod Current
+mod InOrder
+mod Replied
+mod InWorked

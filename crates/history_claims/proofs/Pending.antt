@@ -113,7 +113,7 @@ pending-is l k o x legal here unsealed going b opened =
     )
 
 -- While a message of its exchange is sent, an ask is pending.
-sent-pending : (l : List Noted) (t o i : ℕ) (p : Peer) (m : Content) (b : Begun) → Legal l → IsFirst l t o i p m → begun l o ≡ Some b
+pub sent-pending : (l : List Noted) (t o i : ℕ) (p : Peer) (m : Content) (b : Begun) → Legal l → IsFirst l t o i p m → begun l o ≡ Some b
     → IsPending (entries l) i o b.request
 sent-pending l t o i p m b legal f opened =
     let follows = follows-at l i _ legal f.stands in

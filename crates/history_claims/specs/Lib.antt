@@ -1,4 +1,7 @@
 pub mod Headline
 pub mod Causes
 pub mod Apart
+pub mod Once
+pub mod Order
 pub mod Worked
+pub mod WorkedOrder

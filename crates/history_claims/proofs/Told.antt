@@ -1,0 +1,443 @@
+-- What was told for a GET is stored for it, as long as none comes after it and no write ends.
+use Rattle.std.proofs.Common.{◌≡◌, ◌⊎◌, ℕ, zero, ◌+◌, ◌<◌, ◌≤◌, true, false, not, eqb, leb, inl, inr, List, [], ◌∷◌, length, Option, Some, None, refl, sym, ap, subst, ◌∙◌, arith}
+use Rattle.std.specs.Prelude.{◌==◌, is_none, is_some}
+use Rattle.std.specs.List.{Contains}
+use Rattle.std.proofs.lemmas.Bool.Decides.{Decides-ltb, eqb_tells, leb_tells}
+use Rattle.std.proofs.lemmas.Bool.{false≢true, and_parts}
+use Rattle.coap_codec.specs.Spelling.{Content, Spells}
+use Rattle.coap_codec.proofs.Unique.{spells_one}
+use Rattle.uri_map.specs.declared.peer.Peer.{Peer}
+use Rattle.cache_key.specs.declared.place.Place.{Place}
+use Rattle.cache_key.specs.Keys.{same_place}
+use Rattle.cache_key.proofs.CallerLemmas.{places_decided}
+use Rattle.ask_model.specs.Requests.{CoapRequest, Requests}
+use Rattle.ask_model.specs.Sharing.{asked_key, asked_place, asks_same}
+use Rattle.ask_model.specs.Views.{Ask}
+use Rattle.ask_model.proofs.CallerLemmas.{same-key, same-place}
+use Rattle.resp_cache.specs.Stored.{Stored, lifetime, is_fresh}
+use Rattle.journal_book.specs.Entries.{Grounds, Live, Deed, Asks, Hears, Answers, Written}
+use Rattle.history_laws.specs.Responses.{Response, whole_of}
+use Rattle.history_laws.specs.Readings.{Noted, Note, Begins, Says, entries, at, before, noted}
+use Rattle.history_laws.specs.Connections.{is_open}
+use Rattle.history_laws.specs.Progress.{Reply, numbers, messages, Whole}
+use Rattle.history_laws.specs.Exchanges.{Begun, begun, End, end_of, replies}
+use Rattle.history_laws.specs.Joining.{outrun, asks_the_same, is_joinable}
+use Rattle.history_laws.specs.Storing.{EndsSo, IsStored, IsUse}
+use Rattle.history_laws.specs.Justified.{reads_in, reads, pending, HasGrounds, Follows, Legal, MayCome}
+use Rattle.history_laws.proofs.CallerLemmas.{asked-for, at-before, at-below, at-newest, at-same, at-still, before-twice, begun-before, begun-below, begun-early, contains-later, end-before, end-since, ends-all, EndsAll, ends-first, follows-at, legal-before, length-before, not-true, one-joinable, open-below, open-exactly, outran, Outran, outrun-since, reader, Reader, replies-fit, shared-is, Shared, some-is, write-earlier}
+use Rattle.history_claims.specs.Headline.{IsEntry, IsHeardFirst}
+use Rattle.history_claims.specs.Once.{AreHeard, IsUnwritten, WasTold}
+use Rattle.history_claims.proofs.Alike.{asks-like, same-get}
+use Rattle.history_claims.proofs.Alone.{requests-same}
+use Rattle.history_claims.proofs.Asking.{AnswersAsk, answers-ask}
+use Rattle.history_claims.proofs.Entries.{entries-at, newest-before}
+use Rattle.history_claims.proofs.Hands.{ends-after, in-hand, no-input, not-at-ask}
+use Rattle.history_claims.proofs.Pending.{senses}
+use Rattle.history_claims.proofs.Pieces.{whole-like}
+use Rattle.history_claims.proofs.Quiet.{asks-a-get, asks-back, asks-through, at-there, none-ended}
+use Rattle.history_claims.proofs.Readers.{Reads, reads-at}
+use Rattle.history_claims.proofs.Unshared.{asked-request}
+use Rattle.history_claims.proofs.Written.{unsealed}
+
+-- Of two exchanges that may answer a GET, both of which have ended, the one wasn't open at the end of the other.
+pub joinable-so : (l : List Noted) (q : CoapRequest) (x : ℕ) (b : Begun) → begun l x ≡ Some b → asks_same q b.request ≡ true → outrun l (asked_place q) x ≡ false
+    → is_joinable l q x ≡ true
+joinable-so l q x b opened same fresh =
+    let asks : asks_the_same q (begun l x) ≡ true = subst (λ (v : Option Begun). asks_the_same q v ≡ true) (sym opened) same in
+    rw (asks, fresh) refl
+
+pub still-fresh : (l : List Noted) (k x : ℕ) (place : Place) → outrun l place x ≡ false → outrun (before l k) place x ≡ false
+still-fresh l k x place fresh = not-true (outrun (before l k) place x) (λ t. false≢true (sym fresh ∙ outrun-since l k place x t))
+
+pub open-together : (l : List Noted) (q : CoapRequest) (x y : ℕ) (first second : End) → Legal l → Shared l q x → Shared l q y
+    → end_of l x ≡ Some first → end_of l y ≡ Some second → first.number ≤ second.number → y < first.number → x ≡ y
+open-together l q x y first second legal a b ended later le below =
+    let e : ℕ = first.number in
+    let start = ends-first l x e first.how ended in
+    let size = at-below l e start.0 start.1 in
+    let after = ends-after l x e first.how legal ended in
+    one-joinable (before l e) q x y (legal-before l e legal)
+    ((open-exactly (before l e) x).1 (ap is_some (begun-early l e x a.exchange size a.opened after), start.2))
+    (joinable-so (before l e) q x a.exchange (begun-early l e x a.exchange size a.opened after) a.same (still-fresh l e x (asked_place q) a.fresh))
+    ((open-exactly (before l e) y).1 (ap is_some (begun-early l e y b.exchange size b.opened below), going (end_of (before l e) y) refl))
+    (joinable-so (before l e) q y b.exchange (begun-early l e y b.exchange size b.opened below) b.same (still-fresh l e y (asked_place q) b.fresh))
+  where
+    going : (f : Option End) → end_of (before l first.number) y ≡ f → end_of (before l first.number) y ≡ None
+    going None is = is
+    going (Some f) is =
+        let it = ends-first (before l first.number) y f.number f.how is in
+        let start = ends-first l x first.number first.how ended in
+        let early = subst (λ (m : ℕ). f.number < m) (length-before l first.number start.0 start.1) (at-below (before l first.number) f.number it.0 it.1) in
+        let same : f.number ≡ second.number = ap (λ (e : End). e.number) (some-is f second (sym (end-since l first.number y f is) ∙ later)) in
+        absurd (omega (arith, early, same, le))
+
+-- So one response is stored for a GET.
+pub stored-once : (l : List Noted) (q : CoapRequest) (s u : Stored) → Legal l → IsStored l q s → IsStored l q u → s.list ≡ u.list
+stored-once l q s u legal a b =
+    let no-later = b.latest a.opening a.ending s.response (a.first ∷ a.more) a.ends a.shared in
+    let no-sooner = a.latest b.opening b.ending u.response (b.first ∷ b.more) b.ends b.shared in
+    let after = ends-after l b.opening b.ending _ legal b.ends.ended in
+    let same = open-together l q a.opening b.opening _ _ legal (shared-is l q a.opening a.shared) (shared-is l q b.opening b.shared) a.ends.ended b.ends.ended no-later
+    (omega (arith, after, no-sooner)) in
+    let both : end_of l a.opening ≡ Some (record { number = b.ending; how = Whole u.response (b.first ∷ b.more) }) =
+    subst (λ (o : ℕ). end_of l o ≡ Some (record { number = b.ending; how = Whole u.response (b.first ∷ b.more) })) (sym same) b.ends.ended in
+    let how = ap (λ (e : End). e.how) (some-is _ _ (sym a.ends.ended ∙ both)) in
+    a.list ∙ (ap numbers (wholes s.response u.response (a.first ∷ a.more) (b.first ∷ b.more) how) ∙ sym b.list)
+  where
+    wholes : (v w : Response) (rs ts : List Reply) → Whole v rs ≡ Whole w ts → rs ≡ ts
+    wholes v w rs ts e = cc
+
+pub moments-rise : (l : List Noted) (i k : ℕ) (x y : Noted) → Legal l → at l i ≡ Some x → at l k ≡ Some y → i < k → x.written.moment ≤ y.written.moment
+moments-rise l i k x y legal there here lt =
+    let a = at-newest (before l k) i x (legal-before l k legal) (at-still l k i y x here lt there) in
+    let b = newest-before l k y legal here in
+    omega (arith, a, b)
+
+-- the texts of two entries that are one
+heard-same : (s t : ℕ) (p r : Peer) (b c : List ℕ) (u v : Note) → noted s (Hears p b) u ≡ noted t (Hears r c) v → b ≡ c
+heard-same s t p r b c u v e = go (ap (λ (x : Noted). x.written.deed) e)
+  where
+    go : Hears p b ≡ Hears r c → b ≡ c
+    go f = cc
+
+-- The messages of entries are those of the replies that they heard.
+same-messages : (l : List Noted) (n o : ℕ) (p : Peer) (rs : List Reply) (ms : List Content) → Legal l → ((r : Reply) → Contains rs r → Contains (replies (before l n) o) r)
+    → AreHeard (entries l) p (numbers rs) ms → ms ≡ messages rs
+same-messages l n o p [] [] legal listed h = refl
+same-messages l n o p [] (m ∷ ms) legal listed h = absurd h
+same-messages l n o p (r ∷ rs) [] legal listed h = absurd h
+same-messages l n o p (r ∷ rs) (m ∷ ms) legal listed h =
+    let fits = replies-fit (before l n) o r (legal-before l n legal) (listed r (zero, omega arith, refl)) in
+    let heard = h.0.1 in
+    let stands = entries-at l r.number _ heard.stands in
+    let text = heard-same h.0.0 fits.moment p fits.peer heard.bytes fits.bytes stands.0 (Says r.message (Some r.sending) fits.notice)
+    (at-same l r.number _ _ stands.1 (at-before l n r.number _ fits.heard)) in
+    let here : m ≡ r.message = spells_one m r.message heard.bytes heard.spelled (subst (Spells r.message) (sym text) fits.spelled) in
+    let more = same-messages l n o p rs ms legal (λ v has. listed v (contains-later r rs v has)) h.1 in
+    rw (here, more) refl
+
+-- the first of the replies that an answer names
+record Began (h : List Written) (since : ℕ) (rs : List Reply) : Type 0 where
+  first : Reply
+  more : List Reply
+  all : rs ≡ first ∷ more
+  peer : Peer
+  bytes : List ℕ
+  stands : IsEntry h first.number since (Hears peer bytes)
+
+began : (h : List Written) (since : ℕ) (rs : List Reply) → IsHeardFirst h since (numbers rs) → Began h since rs
+began h since [] e = absurd e
+began h since (r ∷ rs) e = record { first = r; more = rs; all = refl; peer = e.0; bytes = e.1; stands = e.2 }
+
+moments-same : (s t : ℕ) (d e : Deed) (u v : Note) → noted s d u ≡ noted t e v → s ≡ t
+moments-same s t d e u v h = ap (λ (x : Noted). x.written.moment) h
+
+asks-no-answer : (s t c d k : ℕ) (a : Ask) (g : Grounds) (u v : Note) → noted s (Asks c a) u ≡ noted t (Answers d k g) v → ⊥
+asks-no-answer s t c d k a g u v e = go (ap (λ (x : Noted). x.written.deed) e)
+  where
+    go : Asks c a ≡ Answers d k g → ⊥
+    go f = cc
+
+pub asks-open : (l : List Noted) (t c k : ℕ) (g : Grounds) (note : Note) → Follows l t (Answers c k g) note → (is_open l c ≡ true) × (pending l c ≡ Some k)
+asks-open l t c k g note may = (may.1, may.2)
+
+-- what was told in the entry n, to the ask o
+module _ (l : List Noted) (legal : Legal l) (q : CoapRequest) (o n : ℕ) (js : List ℕ) (was : WasTold (entries l) q o n js) where
+  its : AnswersAsk l n was.told_at was.conn o (Live js) × (length (before l n) ≡ n)
+  its = answers-ask l n was.told_at was.conn o (Live js) legal was.told
+
+  pub grounds : HasGrounds (before l n) was.told_at o (Live js)
+  grounds = its.0.grounds
+
+  pub told-in : (note : Note) × (at l n ≡ Some (noted was.told_at (Answers was.conn o (Live js)) note))
+  told-in = entries-at l n _ was.told
+
+  abbrev asker : Ask
+  asker = record { came = was.asked.came; sense = Requests was.request; rules = was.asked.rules }
+
+  asked-in : (note : Note) × (at l o ≡ Some (noted was.moment (Asks was.conn asker) note))
+  asked-in = entries-at l o _ was.asked.stands
+
+  abbrev pub x : ℕ
+  x = grounds.0
+
+  abbrev pub e : ℕ
+  e = grounds.1
+
+  abbrev pub w : Response
+  w = grounds.2
+
+  abbrev pub rs : List Reply
+  rs = grounds.3
+
+  -- the exchange that it reads
+  own : reads l o ≡ Some x
+  own =
+      let ask = its.0.asked in
+      subst (λ (v : Option Noted). reads_in o v ≡ Some x) (ask.stands ∙ sym (at-before l n o _ ask.stands)) grounds.4
+
+  read-by : Reader l o x
+  read-by = reader l o x legal own
+
+  along : Reads l n was.conn o x
+  along = reads-at l n was.conn o x its.0.ask _ legal told-in.1 its.0.asked grounds.4
+
+  abbrev exchange : Begun
+  exchange = read-by.exchange
+
+  requests : read-by.request ≡ was.request
+  requests =
+      requests-same read-by.request was.request
+      (sym read-by.sense
+      ∙ senses read-by.asked.moment was.moment read-by.conn was.conn read-by.ask asker read-by.asked.note asked-in.0
+      (at-same l o _ _ read-by.asked.stands asked-in.1))
+
+  same-as-asked : asks_same was.request exchange.request ≡ true
+  same-as-asked =
+      elim (read-by.way) [
+        | inl it ↦
+            subst (λ (r : CoapRequest). asks_same was.request r ≡ true) (sym requests ∙ it.1) (asks-through was.request q was.request (asks-back q was.request was.same) was.same)
+        | inr it ↦ subst (λ (r : CoapRequest). asks_same r exchange.request ≡ true) requests it.same
+      ]
+
+  same : asks_same q exchange.request ≡ true
+  same = asks-through q was.request exchange.request was.same same-as-asked
+
+  abbrev pub last : End
+  last = record { number = e; how = Whole w rs }
+
+  pub ended : end_of l x ≡ Some last
+  ended = end-since l n x last grounds.5
+
+  pub sooner : e < n
+  sooner =
+      let first = ends-first (before l n) x e (Whole w rs) grounds.5 in
+      subst (λ (m : ℕ). e < m) its.1 (at-below (before l n) e first.0 first.1)
+
+  pub asked-first : o < e
+  asked-first = along.later e (Whole w rs) grounds.5
+
+  opened-first : x < e
+  opened-first = let le = along.not_later in let lt = asked-first in omega (arith, le, lt)
+
+  all : EndsAll (before l n) x e w rs
+  all = ends-all (before l n) x e w rs grounds.5
+
+  said : was.messages ≡ messages rs
+  said =
+      same-messages l n x was.request.peer rs was.messages legal all.listed
+      (subst (λ (js : List ℕ). AreHeard (entries l) was.request.peer js was.messages) grounds.6 was.heard)
+
+  response-is : w ≡ was.response
+  response-is =
+      let one : all.exchange ≡ exchange = some-is _ _ (sym (begun-before l n x all.exchange all.opened) ∙ read-by.opened) in
+      let there : whole_of exchange.request (messages rs) ≡ Some w = subst (λ (b : Begun). whole_of b.request (messages rs) ≡ Some w) one all.whole in
+      let here : whole_of was.request (messages rs) ≡ Some was.response = subst (λ (ms : List Content). whole_of was.request ms ≡ Some was.response) said was.whole in
+      some-is w was.response
+      (sym there ∙ (whole-like exchange.request was.request (messages rs) (asks-like was.request exchange.request same-as-asked) ∙ here))
+
+  start : Began (entries l) was.since rs
+  start = began (entries l) was.since rs (subst (IsHeardFirst (entries l) was.since) grounds.6 was.first)
+
+  -- what is stored
+  abbrev pub stored : Stored
+  stored = record { response = w; heard = was.since; list = numbers rs }
+
+  pub listed-so : stored.list ≡ js
+  listed-so = sym grounds.6
+
+  pub fresh-so : (t : ℕ) → t < was.since + lifetime was.response.max_age → is_fresh t stored ≡ true
+  fresh-so t lt =
+      (Decides-ltb t (was.since + lifetime w.max_age)).1
+      (subst (λ (r : Response). t < was.since + lifetime r.max_age) (sym response-is) lt)
+
+  -- Between the end and the answer nothing came.
+  pub quiet : (i : ℕ) (z : Noted) → e < i → i ≤ n → at l i ≡ Some z → MayCome (before l i) → ⊥
+  quiet i z late le there come =
+      elim (eqb_tells i n) [
+        | inl u ↦ at-answer (subst (λ (i : ℕ). at l i ≡ Some z) u.1 there) (subst (λ (i : ℕ). MayCome (before l i)) u.1 come)
+        | inr u ↦ let not = u.1 in before-answer (omega (arith, le, not))
+      ]
+    where
+      open-then : (is_open (before l n) was.conn ≡ true) × (pending (before l n) was.conn ≡ Some o)
+      open-then = asks-open (before l n) was.told_at was.conn o (Live js) told-in.0 (follows-at l n _ legal told-in.1)
+
+      before-answer : i < n → ⊥
+      before-answer lt =
+          let twice = before-twice l n i _ told-in.1 lt in
+          no-input (before l n) was.conn o x e (Whole w rs) its.0.ask (legal-before l n legal) its.0.asked grounds.4 grounds.5 asked-first
+          open-then.0 open-then.1 i z late (at-still l n i _ z told-in.1 lt there)
+          (subst MayCome (sym twice) come)
+
+      -- nor did it at the answer, for which its connection still waited
+      at-answer : at l n ≡ Some z → MayCome (before l n) → ⊥
+      at-answer here may =
+          let below = open-below (before l n) (legal-before l n legal) was.conn open-then.0 in
+          let going = in-hand (before l n) was.conn o x may.1 below open-then.0 open-then.1 grounds.4 in
+          false≢true (sym (ap is_none grounds.5) ∙ going)
+
+  -- the ask k of a later moment, before which no write to the resource was asked for, or pending
+  module _ (k : ℕ) (z : Noted) (here : at l k ≡ Some z) (later_told : n < k) (none : IsUnwritten (entries l) o k q)
+      (young : z.written.moment < was.since + lifetime was.response.max_age) where
+    no-write : (h : Outran (before l k) (asked_place q) x) → h.opening ≡ o → ⊥
+    no-write h is =
+        let opened = subst (λ (i : ℕ). begun l i ≡ Some h.write) is (begun-before l k h.opening h.write h.opened) in
+        let asks = asked-request l o was.conn was.moment h.write was.request legal opened was.asked in
+        let parts = and_parts (not (eqb h.write.request.method 1)) (same_place (asked_place q) (asked_place h.write.request)) h.changes in
+        let get : h.write.request.method ≡ 1 = ap (λ (r : CoapRequest). r.method) asks ∙ same-get was.request q (asks-back q was.request was.same) in
+        false≢true (subst (λ (n : ℕ). not (eqb n 1) ≡ true) get parts.0)
+
+    unoutran : Outran (before l k) (asked_place q) x → ⊥
+    unoutran h =
+        let later = h.later in
+        elim (leb_tells o h.end.number) [
+          | inl u ↦
+              none-ended l o k _ q legal asked-in.1
+              (unsealed l o was.conn asker legal (record { moment = was.moment; note = asked-in.0; stands = asked-in.1 }))
+              none h.opening h.write h.end (begun-before l k h.opening h.write h.opened) h.changes
+              (subst (λ (m : ℕ). h.opening < m) (length-before l k z here) (begun-below (before l k) h.opening h.write h.opened))
+              (end-since l k h.opening h.end h.ended) u.1 (no-write h)
+          | inr u ↦
+              let parts = and_parts (not (eqb h.write.request.method 1)) (same_place (asked_place q) (asked_place h.write.request)) h.changes in
+              let place : asked_place h.write.request ≡ asked_place read-by.request =
+              sym ((places_decided (asked_place q) (asked_place h.write.request)).0 parts.1)
+              ∙ (same-place q was.request was.same ∙ ap asked_place (sym requests)) in
+              let le = write-earlier l o x h.end.number legal read-by
+              (record {
+                opening = h.opening;
+                write = h.write;
+                opened = begun-before l k h.opening h.write h.opened;
+                changes = λ is. false≢true (subst (λ (n : ℕ). not (eqb n 1) ≡ true) is parts.0);
+                place = (ap (λ (p : Place). p.peer) place, ap (λ (p : Place). p.path) place);
+                how = h.end.how;
+                ended = end-since l k h.opening h.end h.ended;
+              })
+              u.1 in
+              absurd (omega (arith, le, later))
+        ]
+
+    fresh-then : outrun (before l k) (asked_place q) x ≡ false
+    fresh-then = not-true (outrun (before l k) (asked_place q) x) (λ t. unoutran (outran (before l k) (asked_place q) x t))
+
+    below-k : k < length l
+    below-k = at-below l k z here
+
+    -- up to that
+    module _ (m : ℕ) (low : n < m) (high : m ≤ k) where
+      below : m < length l
+      below = let lt = below-k in omega (arith, lt, high)
+
+      after-end : e < m
+      after-end = let lt = sooner in omega (arith, lt, low)
+
+      unoutran-then : outrun (before l m) (asked_place q) x ≡ false
+      unoutran-then =
+          elim (eqb_tells m k) [
+            | inl u ↦ subst (λ (m : ℕ). outrun (before l m) (asked_place q) x ≡ false) (sym u.1) fresh-then
+            | inr u ↦
+                let not = u.1 in
+                let twice = before-twice l k m z here (omega (arith, high, not)) in
+                subst (λ (v : List Noted). outrun v (asked_place q) x ≡ false) twice (still-fresh (before l k) m x (asked_place q) fresh-then)
+          ]
+
+      opened-then : begun (before l m) x ≡ Some exchange
+      opened-then = let lt = opened-first in let after = after-end in begun-early l m x exchange below read-by.opened (omega (arith, lt, after))
+
+      ended-then : EndsSo (before l m) x e w rs
+      ended-then =
+          record {
+            ended = end-before l m x last below ended after-end;
+            code = ap (λ (r : Response). r.code) response-is ∙ was.content;
+          }
+
+      shared-then : Shared (before l m) q x
+      shared-then = record { exchange = exchange; opened = opened-then; same = same; fresh = unoutran-then }
+
+      -- It is stored, where nothing that came later ended with what may answer the GET.
+      pub stored-then : ((y : ℕ) (b : Begun) → e < y → y < m → begun l y ≡ Some b → asks_same q b.request ≡ true → ⊥) → IsStored (before l m) q stored
+      stored-then none_opened =
+          subst (λ (rs : List Reply). IsStored (before l m) q (record { response = w; heard = was.since; list = numbers rs })) (sym start.all)
+          (record {
+            opening = x;
+            ending = e;
+            first = start.first;
+            more = start.more;
+            ends = subst (EndsSo (before l m) x e w) start.all ended-then;
+            shared = joinable-so (before l m) q x exchange opened-then same unoutran-then;
+            latest = latest;
+            entry = heard.0;
+            heard_in = heard.1;
+            heard = heard.2;
+            list = refl;
+          })
+        where
+          heard : (v : Noted) × (at (before l m) start.first.number ≡ Some v) × (was.since ≡ v.written.moment)
+          heard =
+              let it = entries-at l start.first.number _ start.stands in
+              let has : Contains rs start.first = subst (λ (rs : List Reply). Contains rs start.first) (sym start.all) (zero, omega arith, refl) in
+              let fits = replies-fit (before l n) x start.first (legal-before l n legal) (all.listed start.first has) in
+              let lt = subst (λ (m : ℕ). start.first.number < m) its.1 (at-below (before l n) start.first.number _ fits.heard) in
+              let y = at-there l m below in
+              (noted was.since (Hears start.peer start.bytes) it.0, at-still l m start.first.number y.0 _ y.1 (omega (arith, lt, low)) it.1, refl)
+
+          latest : (y f : ℕ) (v : Response) (ts : List Reply) → EndsSo (before l m) y f v ts → is_joinable (before l m) q y ≡ true → f ≤ e
+          latest y f v ts ends may =
+              elim (leb_tells f e) [ inl u ↦ u.1 | inr u ↦ absurd (overtakes u.1 (leb_tells y e)) ]
+            where
+              shared : Shared (before l m) q y
+              shared = shared-is (before l m) q y may
+
+              opened : begun l y ≡ Some shared.exchange
+              opened = begun-before l m y shared.exchange shared.opened
+
+              size : length (before l m) ≡ m
+              size = let it = at-there l m below in length-before l m it.0 it.1
+
+              overtakes : e < f → ((leb y e ≡ true) × (y ≤ e)) ⊎ ((leb y e ≡ false) × (e < y)) → ⊥
+              overtakes lt (inl u) =
+                  elim (eqb_tells y e) [
+                    | inl v ↦
+                        let ask = asked-for l y shared.exchange legal opened in
+                        not-at-ask l x e shared.exchange.since ask.conn ask.ask (Begins shared.exchange.request) (Whole w rs) ended
+                        (subst (λ (i : ℕ). at l i ≡ Some (noted shared.exchange.since (Asks ask.conn ask.ask) (Begins shared.exchange.request))) v.1 ask.stands)
+                    | inr v ↦
+                        let le = u.1 in
+                        let not = v.1 in
+                        let one = open-together (before l m) q x y last _ (legal-before l m legal) shared-then shared ended-then.ended ends.ended (omega (arith, lt)) (omega (arith, le, not)) in
+                        let both = subst (λ (i : ℕ). end_of (before l m) i ≡ Some last) one ended-then.ended in
+                        let number : e ≡ f = ap (λ (e : End). e.number) (some-is _ _ (sym both ∙ ends.ended)) in
+                        absurd (omega (arith, number, lt))
+                  ]
+              overtakes lt (inr u) =
+                  none_opened y shared.exchange u.1 (subst (λ (i : ℕ). y < i) size (begun-below (before l m) y shared.exchange shared.opened)) opened shared.same
+
+      -- It was stored when the exchange ended.
+      lasts : (lifetime w.max_age == 0) ≡ false
+      lasts =
+          let has : Contains rs start.first = subst (λ (rs : List Reply). Contains rs start.first) (sym start.all) (zero, omega arith, refl) in
+          let fits = replies-fit (before l n) x start.first (legal-before l n legal) (all.listed start.first has) in
+          let lt = subst (λ (m : ℕ). start.first.number < m) its.1 (at-below (before l n) start.first.number _ fits.heard) in
+          let stands = entries-at l start.first.number _ start.stands in
+          let le = moments-rise l start.first.number k _ z legal stands.1 here (omega (arith, lt, low, high)) in
+          let fresh : z.written.moment < was.since + lifetime w.max_age =
+          subst (λ (r : Response). z.written.moment < was.since + lifetime r.max_age) (sym response-is) young in
+          elim (eqb_tells (lifetime w.max_age) 0) [
+            | inl u ↦ let none = u.1 in absurd (omega (arith, le, fresh, none))
+            | inr u ↦ u.0
+          ]
+
+      pub used-then : IsUse (before l m) e (asked_key q)
+      used-then =
+          inr (record {
+            opening = x;
+            response = w;
+            replies = rs;
+            ends = ended-then;
+            since = exchange.since;
+            request = exchange.request;
+            opened = opened-then;
+            get = asks-a-get exchange.request q (asks-back q exchange.request same);
+            is = sym (same-key q exchange.request same);
+            current = still-fresh (before l m) e x (asked_place q) unoutran-then;
+            lasts = lasts;
+          })
