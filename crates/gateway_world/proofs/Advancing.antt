@@ -20,7 +20,7 @@ use Rattle.gateway_model.specs.Rotating.{Rotates}
 use Rattle.gateway_model.specs.Tellings.{terms_of}
 use Rattle.gateway_model.specs.Unasked.{unasked_in}
 use Rattle.gateway_model.specs.Waiting.{IsDrained}
-use Rattle.history_claims.proofs.CallerLemmas.{names-cause}
+use Rattle.history_claims.proofs.CallerLemmas.{asks-once, names-cause}
 use Rattle.gateway_connections.specs.Inlets.{TableValue}
 use Rattle.gateway_model.proofs.CallerLemmas.{CountsOpened, input-counts, rotation-is}
 use Rattle.gateway_world.specs.declared.engine.Engine.{Engine}
@@ -57,6 +57,7 @@ module _ {R : Type 0} (holds : Form → Form → List ℕ → List ℕ → Type 
         handles = handles;
         told = led-tells holds takes rules _ _ old mid before after l none h.1 drained stands h.4;
         causes = names-cause mid.core.state.entries stands;
+        once = asks-once mid.core.state.entries stands;
         asks = heeded holds takes rules i (world_of old rules m) mine (emissions after) handles;
         sends = led-sends holds takes rules _ _ old mid before after l none h.1 drained;
         shows = input-shows (terms_of holds takes rules) i (world_of old rules m) mine (emissions after) handles kept;
@@ -86,6 +87,7 @@ module _ {R : Type 0} (holds : Form → Form → List ℕ → List ℕ → Type 
     moment = now;
     mapped = then.4;
     causes = names-cause new.core.state.entries (subst (λ (v : CoreValue). Stands v.state.entries) (sym core) stands);
+    once = asks-once new.core.state.entries (subst (λ (v : CoreValue). Stands v.state.entries) (sym core) stands);
     rests = record { drained = then.1; rests = then.3 };
   }
 

@@ -8,7 +8,9 @@ use Rattle.ask_model.specs.Views.{Rules}
 use Rattle.journal_book.specs.Entries.{Written}
 use Rattle.history_laws.specs.Justified.{Stands}
 use Rattle.history_claims.specs.Causes.{AreCaused}
-use Rattle.history_claims.proofs.CallerLemmas.{names-cause}
+use Rattle.history_claims.specs.Once.{AreAskedOnce}
+use Rattle.history_claims.specs.Order.{AreInOrder, KeepsOrder}
+use Rattle.history_claims.proofs.CallerLemmas.{asks-once, names-cause}
 use Rattle.exchange_model.specs.State.{State}
 use Rattle.exchange_core.specs.Values.{sent_in}
 use Rattle.gateway_model.specs.declared.input.Input.{Input}
@@ -254,6 +256,16 @@ module _ (holds : Form → Form → List ℕ → List ℕ → Type 0) (takes : F
     run-causes =
         all-as (λ (p : Part). Stretch p.journal p.out) (λ (p : Part). AreCaused p.journal) (parts_of out h)
         (λ p s. stretch-causes p.journal p.out s) run-parts
+
+    pub run-once : EachJournal AreAskedOnce out h
+    run-once =
+        all-as (λ (p : Part). Stretch p.journal p.out) (λ (p : Part). AreAskedOnce p.journal) (parts_of out h)
+        (λ p s. asks-once p.journal s.stands) run-parts
+
+    pub run-in-order : KeepsOrder → EachJournal AreInOrder out h
+    run-in-order law =
+        all-as (λ (p : Part). Stretch p.journal p.out) (λ (p : Part). AreInOrder p.journal) (parts_of out h)
+        (λ p s. law p.journal s.stands) run-parts
 
     pub run-sends : EachPart AreSent out h
     run-sends =

@@ -3,6 +3,8 @@
 ghost use Rattle.std.specs.Prelude.{◌≡◌, [], Err, IfOk, OnOk};
 ghost use Rattle.history_laws.specs.Justified.{Stands};
 ghost use Rattle.history_claims.specs.Causes.{AreCaused};
+ghost use Rattle.history_claims.specs.Once.{AreAskedOnce};
+ghost use Rattle.history_claims.specs.Order.{AreInOrder};
 ghost use Rattle.ask_model.specs.Views.{rules_of};
 ghost use Rattle.gateway_model.specs.Emissions.{emissions};
 ghost use Rattle.gateway_model.specs.Tellings.{AreMapped, IsMapped};
@@ -16,6 +18,7 @@ use crate::fault::WorldFault;
 use crate::state::World;
 use ask_model::Settings;
 use gateway_model::{Input, Output};
+use history_claims::in_order;
 use journal_book::Journal;
 use std::alloc::Global;
 use transformers::{Bank, Relation};
@@ -52,6 +55,10 @@ impl<R: Relation> World<R> {
             (emissions run.outputs.items) run.journal.entries) }
         ensures causes { IfOk result (λ run. EachJournal AreCaused
             (emissions run.outputs.items) run.journal.entries) }
+        ensures once { IfOk result (λ run. EachJournal AreAskedOnce
+            (emissions run.outputs.items) run.journal.entries) }
+        ensures in_order { IfOk result (λ run. EachJournal AreInOrder
+            (emissions run.outputs.items) run.journal.entries) }
         ensures asks { IfOk result (λ run. AsksInRun (IsMapped R.holds R.takes (rules_of settings))
             inputs.now (emissions run.outputs.items)
             (all_entries (emissions run.outputs.items) run.journal.entries)) }
@@ -60,6 +67,8 @@ impl<R: Relation> World<R> {
         ensures full { result ≡ Err WorldFault.Backlog
             → IsRefusedAfter R.holds R.takes inputs.now (new_world (rules_of settings)) }
     {
+        // Its contract says in which order a journal that stands has messages go out.
+        in_order();
         let mut world = World::new(alloc, settings)?;
         let mut outputs = Vec::new(alloc);
         world.take_all(bank, inputs, &mut outputs)?;

@@ -2,7 +2,7 @@
 use Rattle.gateway_model.specs.Emissions.{emissions}
 use Rattle.gateway_world.proofs.AskedInRun.{run-asks}
 use Rattle.gateway_world.proofs.Once.{run-lives}
-use Rattle.gateway_world.proofs.Parted.{run-causes, run-mapped, run-sends, run-stands, run-tells}
+use Rattle.gateway_world.proofs.Parted.{run-causes, run-in-order, run-mapped, run-once, run-sends, run-stands, run-tells}
 use Rattle.gateway_world.proofs.state.World.run.Goals as goal
 
 pub returns-clause-stands : goal.returns-clause-stands
@@ -32,6 +32,20 @@ returns-clause-causes g c =
     (emissions c.take_all.new.outputs.items)
     c.in_ok-world.ensures.is c.in_ok-take_all.ensures.takes c.in_ok-take_all.ensures.rests c.journal.ensures.stands
     (rw (c.in_ok-journal.ensures) c.journal.ensures.entries)
+
+pub returns-clause-once : goal.returns-clause-once
+returns-clause-once g c =
+    run-once g.R.Relation.holds g.R.Relation.takes _ c.args.inputs.now c.in_ok-world.world c.take_all.new.self c.in_ok-journal.journal.entries
+    (emissions c.take_all.new.outputs.items)
+    c.in_ok-world.ensures.is c.in_ok-take_all.ensures.takes c.in_ok-take_all.ensures.rests c.journal.ensures.stands
+    (rw (c.in_ok-journal.ensures) c.journal.ensures.entries)
+
+pub returns-clause-in_order : goal.returns-clause-in_order
+returns-clause-in_order g c =
+    run-in-order g.R.Relation.holds g.R.Relation.takes _ c.args.inputs.now c.in_ok-world.world c.take_all.new.self c.in_ok-journal.journal.entries
+    (emissions c.take_all.new.outputs.items)
+    c.in_ok-world.ensures.is c.in_ok-take_all.ensures.takes c.in_ok-take_all.ensures.rests c.journal.ensures.stands
+    (rw (c.in_ok-journal.ensures) c.journal.ensures.entries) c.in_order.ensures
 
 pub returns-clause-asks : goal.returns-clause-asks
 returns-clause-asks g c =
