@@ -1,6 +1,7 @@
 pub mod CallerLemmas
 mod Copies
 mod Deeds
+mod Drained
 mod DuePlaces
 mod DueRows
 mod Finding
@@ -10,6 +11,7 @@ mod KeptRows
 mod Links
 mod Marking
 mod Ticked
+mod TickedDue
 mod TimerOrder
 mod TimerSearch
 mod Timers

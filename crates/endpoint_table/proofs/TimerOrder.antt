@@ -1,9 +1,9 @@
 -- The order of timers.
 use Rattle.std.proofs.Common.{◌≡◌, ℕ, zero, suc, ◌+◌, ◌<◌, ◌≤◌, Bool, true, false, cond, List, [], ◌∷◌, Option, Some, None, inl, inr, refl, sym, ap, ◌⊎◌, ◌∙◌, arith}
-use Rattle.std.specs.Prelude.{⊤, nat_lt, ◌==◌, ◌&&◌, ◌||◌}
+use Rattle.std.specs.Prelude.{nat_lt, ◌==◌, ◌&&◌, ◌||◌}
 use Rattle.std.proofs.lemmas.Bool.{cases_Bool, eq-eqb, eqb-true, false≢true, lt-ltb, ltb-true}
 use Rattle.endpoint_table.specs.declared.dues.Due.{Due}
-use Rattle.endpoint_table.specs.Dues.{dues_from, inserted, is_before, put}
+use Rattle.endpoint_table.specs.Dues.{Ordered, dues_from, inserted, is_before, put, removed}
 
 -- the order
 
@@ -44,6 +44,9 @@ never-both d e (inl a) (inr b) = let e0 = b.0 in absurd (omega (arith, a, e0))
 never-both d e (inr a) (inl b) = let e0 = a.0 in absurd (omega (arith, b, e0))
 never-both d e (inr a) (inr b) =
     let p = a.1 in let q = b.1 in absurd (omega (arith, p, q))
+
+pub itself : (e : Due) → is_before e e ≡ false
+itself e = no e e (λ h. never-both e e h h)
 
 both : (a b c : Due) → Before a b → Before b c → Before a c
 both a b c (inl x) (inl y) = inl (omega (arith, x, y))
@@ -115,14 +118,29 @@ not-through d e f p q = no d f (after-both d e f (after-is d e p) (after-is e f 
 
 -- they stand in order
 
-abbrev pub Ordered : List Due → Type 0
-Ordered [] = ⊤
-Ordered (d ∷ []) = ⊤
-Ordered (d ∷ e ∷ ds) = (is_before e d ≡ false) × Ordered (e ∷ ds)
-
 pub ordered-rest : (d : Due) (ds : List Due) → Ordered (d ∷ ds) → Ordered ds
 ordered-rest d [] a = tt
 ordered-rest d (e ∷ ds) a = a.1
+
+ordered-front : (d e : Due) (ds : List Due) → Ordered (d ∷ e ∷ ds) → Ordered (d ∷ ds)
+ordered-front d e [] a = tt
+ordered-front d e (c ∷ ds) a = (not-through c e d a.1.0 a.0, a.1.1)
+
+pub ordered-removed : (p : ℕ) (ds : List Due) → Ordered ds → Ordered (removed p ds)
+ordered-removed p [] a = tt
+ordered-removed p (d ∷ []) a = by (d.place == p)
+  where
+    by : (b : Bool) → Ordered (cond b [] (d ∷ []))
+    by true = tt
+    by false = tt
+ordered-removed p (d ∷ e ∷ ds) a =
+    by (d.place == p) (e.place == p) (ordered-removed p (e ∷ ds) a.1)
+  where
+    by : (b c : Bool) → Ordered (cond c ds (e ∷ removed p ds))
+        → Ordered (cond b (e ∷ ds) (d ∷ cond c ds (e ∷ removed p ds)))
+    by true c rest = a.1
+    by false true rest = ordered-front d e ds a
+    by false false rest = (a.0, rest)
 
 ordered-inserted : (e : Due) (ds : List Due) → Ordered ds → Ordered (inserted e ds)
 ordered-inserted e [] a = tt

@@ -1,5 +1,5 @@
 -- The timers of the endpoints, of which one is set or added.
-use Rattle.std.proofs.Common.{◌≡◌, ℕ, zero, suc, ◌<◌, ◌≤◌, true, List, [], ◌∷◌, ◌++◌, length, Option, Some, None, refl, sym, ap, ◌∙◌, get_or, arith, zero-add, length-append}
+use Rattle.std.proofs.Common.{◌≡◌, ℕ, zero, suc, ◌<◌, ◌≤◌, true, List, [], ◌∷◌, ◌++◌, length, Option, Some, None, refl, sym, ap, subst, ◌∙◌, get_or, arith, zero-add, length-append}
 use Rattle.std.specs.Prelude.{slice_get, slice_set, nat_lt, ◌&&◌}
 use Rattle.std.proofs.Math.ListN.{set, length-set}
 use Rattle.std.proofs.lemmas.Bool.{and_parts, ltb-true}
@@ -7,8 +7,9 @@ use Rattle.exchange_model.specs.Due.{timer}
 use Rattle.message_layer.specs.Values.{LinkValue}
 use Rattle.endpoint_table.specs.declared.dues.Due.{Due}
 use Rattle.endpoint_table.specs.declared.endpoint.Endpoint.{Endpoint}
-use Rattle.endpoint_table.specs.Dues.{dues_from, put, removed, timers_of, AreDues}
+use Rattle.endpoint_table.specs.Dues.{Ordered, dues_from, put, removed, timers_of, AreDues}
 use Rattle.endpoint_table.specs.Tables.{peer_link, spare_room}
+use Rattle.endpoint_table.proofs.TimerOrder.{ordered-from}
 use Rattle.endpoint_table.proofs.TimersSet.{few-from, push-from, put-length, set-from}
 
 -- the timers of the endpoints, of which one changes
@@ -46,6 +47,18 @@ module _ (xs : List Endpoint) (ds : List Due) (capacity : ℕ) (h : AreDues xs d
       set-from 0 i (timers_of xs) t (omega (arith, lt, n))
       ∙ (ap (λ (p : ℕ). put p t (removed p (dues_from 0 (timers_of xs)))) (zero-add i)
       ∙ ap (λ (es : List Due). put i t (removed i es)) (sym h.are))
+
+  pub in-order : Ordered ds
+  in-order = subst Ordered (sym h.are) (ordered-from 0 (timers_of xs))
+
+  -- the timer of the endpoint in a place is among them, if one runs
+  pub was-there : (i : ℕ) (e : Endpoint) (t : Option ℕ) → i < length xs → e ≡ get_or xs i e
+      → t ≡ timer (peer_link e) → ds ≡ put i t (removed i ds)
+  was-there i e t lt is at =
+      h.are ∙ (ap (dues_from 0)
+      (sym (timers-same xs i e e (ap (λ (x : Endpoint). timer (peer_link x)) is))
+      ∙ timers-set xs i e)
+      ∙ (set-at i (timer (peer_link e)) lt ∙ ap (λ (u : Option ℕ). put i u (removed i ds)) (sym at)))
 
   pub place-for : (i m : ℕ) → i < length xs → length (removed i ds) < capacity
   place-for i m lt =

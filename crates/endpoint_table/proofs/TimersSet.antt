@@ -7,8 +7,8 @@ use Rattle.std.proofs.lemmas.Bool.{eq-eqb, ne_eqb}
 use Rattle.exchange_model.specs.Due.{earlier, earliest, timer}
 use Rattle.exchange_model.specs.State.{PeerLink}
 use Rattle.endpoint_table.specs.declared.dues.Due.{Due}
-use Rattle.endpoint_table.specs.Dues.{dues_from, first_due, inserted, is_before, put, removed}
-use Rattle.endpoint_table.proofs.TimerOrder.{after-is, before-is, not-through, ordered-from, ordered-rest, put-commute, After, Before, Ordered}
+use Rattle.endpoint_table.specs.Dues.{Ordered, dues_from, first_due, inserted, is_before, put, removed}
+use Rattle.endpoint_table.proofs.TimerOrder.{after-is, before-is, not-through, ordered-from, ordered-rest, put-commute, After, Before}
 
 -- one that is removed
 

@@ -1,5 +1,5 @@
 -- The timers of the links, in the order in which they run out.
-use Rattle.std.specs.Prelude.{◌≡◌, ◌≤◌, ℕ, ◌+◌, Bool, ◌&&◌, ◌||◌, ◌==◌, nat_le, nat_lt, List, [], ◌∷◌, length, map, Option, Some, None, if◌then◌else◌}
+use Rattle.std.specs.Prelude.{◌≡◌, ◌≤◌, ℕ, ◌+◌, Bool, false, ◌&&◌, ◌||◌, ◌==◌, nat_le, nat_lt, List, [], ◌∷◌, length, map, Option, Some, None, if◌then◌else◌, ⊤}
 use Rattle.exchange_model.specs.Due.{has_come, timer}
 use Rattle.endpoint_table.specs.declared.dues.Due.{Due}
 use Rattle.endpoint_table.specs.declared.endpoint.Endpoint.{Endpoint}
@@ -8,6 +8,12 @@ use Rattle.endpoint_table.specs.Tables.{peer_link}
 -- It runs out before the other; of two that run out at once, that of the first endpoint does.
 abbrev pub is_before : Due → Due → Bool
 is_before d e = nat_lt d.due e.due || ((d.due == e.due) && nat_lt d.place e.place)
+
+-- They stand in the order in which they run out.
+abbrev pub Ordered : List Due → Type 0
+Ordered [] = ⊤
+Ordered (d ∷ []) = ⊤
+Ordered (d ∷ e ∷ ds) = (is_before e d ≡ false) × Ordered (e ∷ ds)
 
 -- with one more, after those that run out before it
 abbrev pub inserted : Due → List Due → List Due

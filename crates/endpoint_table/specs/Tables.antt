@@ -1,5 +1,6 @@
 -- The endpoints, each with its link, and what changes one of the links.
 use Rattle.std.specs.Prelude.{◌≡◌, ℕ, Bool, false, ◌&&◌, nat_lt, List, [], ◌∷◌, map, Option, Some, None, if◌then◌else◌, ⊤}
+use Rattle.std.specs.List.{AllByRecursion}
 use Rattle.uri_map.specs.declared.peer.Peer.{Peer}
 use Rattle.uri_map.specs.Peers.{same_peer}
 use Rattle.message_layer.specs.Values.{LinkState, LinkValue, empty_link}
@@ -68,3 +69,7 @@ AreOnce es = AreApart (map peer_of (map peer_link es))
 abbrev pub IsUnused : Option LinkValue → Type 0
 IsUnused None = ⊤
 IsUnused (Some link) = link.state ≡ empty_link
+
+-- Their datagrams were given out.
+abbrev pub AreDrained : List PeerLink → Type 0
+AreDrained xs = AllByRecursion (λ (x : PeerLink). x.link.out ≡ []) xs

@@ -1,7 +1,8 @@
 //! The timers of the links, in the order in which they run out.
 
-ghost use Rattle.std.specs.Prelude.{ℕ, ◌≡◌, ◌≤◌, ◌<◌, List, None, Option, Some, length, insert, remove, vec_capacity, IfOk, IfSome};
-ghost use Rattle.endpoint_table.specs.Dues.{dues_from, first_due, first_places, inserted, is_before, put, removed, due_places};
+ghost use Rattle.std.specs.Prelude.{ℕ, ◌≡◌, ◌≤◌, ◌<◌, List, Option, Some, length, insert, remove, vec_capacity, IfOk};
+ghost use Rattle.endpoint_table.specs.declared.dues.Due.{Due as Timer};
+ghost use Rattle.endpoint_table.specs.Dues.{Ordered, dues_from, first_due, first_places, inserted, is_before, put, removed, due_places};
 
 use std::alloc::{AllocError, Global};
 
@@ -19,46 +20,38 @@ fn is_before(one: &Due, other: &Due) -> bool
     one.due < other.due || one.due == other.due && one.place < other.place
 }
 
-/// Where the timer of the endpoint in this place stands.
-fn find_due(dues: &[Due], place: usize) -> Option<usize>
-    ensures below { IfSome result (λ at. at < length dues.now) }
-    ensures some { IfSome result (λ at. remove dues.now at ≡ removed place dues.now) }
-    ensures none { result ≡ None → dues.now ≡ removed place dues.now }
-{
-    'each: for at in 0..dues.len() {
-        if dues[at].place == place {
-            return Some(at);
-        }
-    }
-    None
-}
-
-/// Where a timer belongs.
+/// Where a timer stands, or belongs. It is looked for by halving.
 fn place_due(dues: &[Due], due: &Due) -> usize
+    requires { Ordered dues.now }
     ensures below { result ≤ length dues.now }
     ensures there { insert dues.now result due.now ≡ inserted due.now dues.now }
+    ensures stands { (others : List Timer) → dues.now ≡ inserted due.now others
+        → (result < length dues.now) × (remove dues.now result ≡ others) }
 {
-    'each: for at in 0..dues.len() {
-        if !is_before(&dues[at], due) {
-            return at;
-        }
-    }
-    dues.len()
+    dues.partition_point(
+        |other: &Due| -> bool
+            ensures { result ≡ is_before other.now due.entry.now }
+        { is_before(other, due) },
+    )
 }
 
-/// Takes out the timer of the endpoint in this place.
-fn remove_due(dues: &mut Vec<Due>, place: usize)
+/// Takes out the timer of the endpoint in this place, which ran out then, if it ran.
+fn remove_due(dues: &mut Vec<Due>, place: usize, due: Option<u64>)
+    requires ordered { Ordered dues.old.items }
+    requires was { dues.old.items ≡ put place due (removed place dues.old.items) }
     ensures items { dues.new.items ≡ removed place dues.old.items }
     ensures capacity { vec_capacity dues.old ≤ vec_capacity dues.new }
 {
-    if let Some(at) = find_due(dues.as_slice(), place) {
+    if let Some(moment) = due {
+        let at = place_due(dues.as_slice(), &Due { due: moment, place });
         dues.remove(at);
     }
 }
 
 /// Puts a timer in its place, for which there is room.
 fn insert_due(dues: &mut Vec<Due>, due: Due)
-    requires { length dues.old.items < vec_capacity dues.old }
+    requires ordered { Ordered dues.old.items }
+    requires room { length dues.old.items < vec_capacity dues.old }
     ensures items { dues.new.items ≡ inserted due dues.old.items }
     ensures capacity { vec_capacity dues.old ≤ vec_capacity dues.new }
 {
@@ -70,7 +63,8 @@ fn insert_due(dues: &mut Vec<Due>, due: Due)
 
 /// Puts the timer of the endpoint in this place among them, if one runs.
 pub fn put_due(dues: &mut Vec<Due>, place: usize, due: Option<u64>)
-    requires { (m : ℕ) → due ≡ Some m → length dues.old.items < vec_capacity dues.old }
+    requires ordered { Ordered dues.old.items }
+    requires room { (m : ℕ) → due ≡ Some m → length dues.old.items < vec_capacity dues.old }
     ensures items { dues.new.items ≡ put place due dues.old.items }
     ensures capacity { vec_capacity dues.old ≤ vec_capacity dues.new }
 {
@@ -81,13 +75,15 @@ pub fn put_due(dues: &mut Vec<Due>, place: usize, due: Option<u64>)
 }
 
 /// The timer of the endpoint in this place is this one, if one runs, and no more the one before.
-pub fn set_due(dues: &mut Vec<Due>, place: usize, due: Option<u64>)
-    requires { (m : ℕ) → due ≡ Some m
+pub fn set_due(dues: &mut Vec<Due>, place: usize, before: Option<u64>, due: Option<u64>)
+    requires ordered { Ordered dues.old.items }
+    requires was { dues.old.items ≡ put place before (removed place dues.old.items) }
+    requires room { (m : ℕ) → due ≡ Some m
         → length (removed place dues.old.items) < vec_capacity dues.old }
     ensures items { dues.new.items ≡ put place due (removed place dues.old.items) }
     ensures capacity { vec_capacity dues.old ≤ vec_capacity dues.new }
 {
-    remove_due(dues, place);
+    remove_due(dues, place, before);
     put_due(dues, place, due);
 }
 

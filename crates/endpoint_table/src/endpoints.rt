@@ -22,7 +22,7 @@ use crate::given_up::{GivenUp, given_up_in};
 use crate::hints::Hints;
 use crate::keeping::{Keeping, keep_rows, mark_all};
 use crate::rows;
-use crate::turns::{Turn, prepare_turns_in, tick_turns};
+use crate::turns::{Turn, prepare_turns_in, tick_links};
 use coap_codec::Token;
 use message_layer::{Hearing, Heeding, Link, LinkFault, Submission};
 use std::alloc::{AllocError, Global};
@@ -47,7 +47,7 @@ pub struct Endpoints {
 impl Model for Endpoints {
     ghost use Rattle.std.specs.Prelude.{map, vec_capacity, vec_len};
     ghost use Rattle.endpoint_table.specs.Dues.{AreDues};
-    ghost use Rattle.endpoint_table.specs.Tables.{TableValue, has_room, peer_link, spare_room, AreOnce, IsUnused};
+    ghost use Rattle.endpoint_table.specs.Tables.{TableValue, has_room, peer_link, spare_room, AreDrained, AreOnce, IsUnused};
 
     ghost Value = { TableValue };
 
@@ -58,7 +58,8 @@ impl Model for Endpoints {
     } };
 
     ghost invariant = { λ t. AreOnce t.rows.items × IsUnused t.spare
-        × AreDues t.rows.items t.dues.items (vec_capacity t.dues) };
+        × AreDues t.rows.items t.dues.items (vec_capacity t.dues)
+        × AreDrained (map peer_link t.rows.items) };
 }
 
 impl Endpoints {
@@ -262,7 +263,14 @@ impl Endpoints {
         requires ready { AreTurns moment gone.now self.old.links self.old.rooms turns.items }
         ensures { self.new.links ≡ map (link_after moment (is_among gone.now)) self.old.links }
     {
-        tick_turns(&mut self.rows, &mut self.dues, turns, moment, gone);
+        tick_links(
+            &mut self.rows,
+            &mut self.dues,
+            &mut self.hints,
+            turns,
+            moment,
+            gone,
+        );
     }
 
     /// Prepares that these endpoints alone are kept, as far as something was asked of them.

@@ -131,8 +131,9 @@ pub fn submit_at(
         ≡ submitted_to p moment submission.waiting (map peer_link rows.old.items) }
     ensures dues { AreDues rows.new.items dues.new.items (vec_capacity dues.new) }
 {
+    let before = rows[place].link.next_due();
     submit(&mut rows[place], submission, moment);
-    set_due(dues, place, rows[place].link.next_due());
+    set_due(dues, place, before, rows[place].link.next_due());
 }
 
 /// The link that was prepared for one more endpoint takes the message.
@@ -274,8 +275,9 @@ pub fn heed_at(
         (map peer_link rows.old.items) }
     ensures dues { AreDues rows.new.items dues.new.items (vec_capacity dues.new) }
 {
+    let before = rows[place].link.next_due();
     heed(&mut rows[place], heeding, more, over, moment);
-    set_due(dues, place, rows[place].link.next_due());
+    set_due(dues, place, before, rows[place].link.next_due());
 }
 
 /// Equal links.

@@ -1,6 +1,6 @@
 //! What a tick does at each endpoint where something is due.
 
-ghost use Rattle.std.specs.Prelude.{◌≡◌, ◌≤◌, ◌<◌, ◌∷◌, ◌++◌, [], List, Some, true, false, length, map, slice_get, slice_set, vec_capacity, IfOk, OnOk};
+ghost use Rattle.std.specs.Prelude.{ℕ, ◌≡◌, ◌≤◌, ◌<◌, ◌∷◌, ◌++◌, [], List, Some, true, false, length, map, slice_get, slice_set, vec_capacity, IfOk, OnOk};
 ghost use Rattle.limits.specs.declared.TheConstants.{LAST_MOMENT};
 ghost use Rattle.message_layer.specs.Calls.{is_among};
 ghost use Rattle.message_layer.specs.Prepared.{IsTicking};
@@ -10,11 +10,13 @@ ghost use Rattle.exchange_model.specs.Entering.{link_after};
 ghost use Rattle.endpoint_table.specs.declared.endpoint.Endpoint.{Endpoint as EndpointValue};
 ghost use Rattle.endpoint_table.specs.declared.turns.Turn.{Turn as TurnValue};
 ghost use Rattle.endpoint_table.specs.Dues.{dues_from, due_places, timers_of, AreDues};
-ghost use Rattle.endpoint_table.specs.Tables.{has_room, peer_link};
+ghost use Rattle.endpoint_table.specs.Tables.{AreDrained, AreOnce, has_room, peer_link};
+ghost use Rattle.endpoint_table.specs.Places.{IsFirstAt};
 ghost use Rattle.endpoint_table.specs.Turns.{AreTurns, IsTurnOf};
 
 use crate::dues::{Due, due_places, set_due};
 use crate::endpoint::Endpoint;
+use crate::hints::Hints;
 use coap_codec::Token;
 use message_layer::{Link, Ticking};
 use std::alloc::{AllocError, Global};
@@ -175,12 +177,13 @@ fn tick_at(
         tick_endpoint(&mut rows[place], ticking, moment, gone);
         return;
     }
+    let before = rows[place].link.next_due();
     tick_endpoint(&mut rows[place], ticking, moment, gone);
-    set_due(dues, place, rows[place].link.next_due());
+    set_due(dues, place, before, rows[place].link.next_due());
 }
 
 /// Does the tick of each link, by the turns that were prepared. The links gave out all.
-pub fn tick_turns(
+fn tick_turns(
     rows: &mut Vec<Endpoint>,
     dues: &mut Vec<Due>,
     turns: VecDeque<Turn>,
@@ -200,4 +203,83 @@ pub fn tick_turns(
         let ticking = take_ticking(&mut turns, &rows[place], moment);
         tick_at(rows, dues, place, ticking, moment, gone);
     }
+}
+
+/// Does the tick of the endpoint that has this turn.
+fn tick_turn(
+    rows: &mut Vec<Endpoint>,
+    dues: &mut Vec<Due>,
+    hints: &mut Hints,
+    turn: Turn,
+    moment: u64,
+    gone: &[Token],
+)
+    requires moment { moment ≤ LAST_MOMENT }
+    requires once { AreOnce rows.old.items }
+    requires dues { AreDues rows.old.items dues.old.items (vec_capacity dues.old) }
+    requires ready { (i : ℕ) (e : EndpointValue) → IsFirstAt turn.peer (map peer_link rows.old.items) i
+        → slice_get rows.old.items i ≡ Some e → IsTicking moment gone.now e.link turn.ticking }
+    ensures row { (i : ℕ) (e : EndpointValue) → IsFirstAt turn.peer (map peer_link rows.old.items) i
+        → slice_get rows.old.items i ≡ Some e
+        → (y : EndpointValue) × (rows.new.items ≡ slice_set rows.old.items i y)
+        × (peer_link y ≡ link_after moment (is_among gone.now) (peer_link e)) }
+    ensures dues { AreDues rows.new.items dues.new.items (vec_capacity dues.new) }
+{
+    if let Some(place) = hints.find(rows.as_slice(), &turn.peer) {
+        tick_at(rows, dues, place, turn.ticking, moment, gone);
+    }
+}
+
+/// Does the tick of the links that have a turn, where nothing is gone: so the others rest, and aren't
+/// looked at.
+fn tick_due(
+    rows: &mut Vec<Endpoint>,
+    dues: &mut Vec<Due>,
+    hints: &mut Hints,
+    turns: VecDeque<Turn>,
+    moment: u64,
+    gone: &[Token],
+)
+    requires moment { moment ≤ LAST_MOMENT }
+    requires none { gone.now ≡ [] }
+    requires once { AreOnce rows.old.items }
+    requires drained { AreDrained (map peer_link rows.old.items) }
+    requires ready { AreTurns moment gone.now
+        (map peer_link rows.old.items) (map has_room rows.old.items) turns.items }
+    requires dues { AreDues rows.old.items dues.old.items (vec_capacity dues.old) }
+    ensures links { map peer_link rows.new.items
+        ≡ map (link_after moment (is_among gone.now)) (map peer_link rows.old.items) }
+    ensures dues { AreDues rows.new.items dues.new.items (vec_capacity dues.new) }
+{
+    let mut turns = turns;
+    'each: while let Some(turn) = turns.pop_front() {
+        tick_turn(rows, dues, hints, turn, moment, gone);
+    }
+}
+
+/// Does the tick of each link, by the turns that were prepared. The links gave out all. Where nothing
+/// is gone, only those are looked at where something is due.
+pub fn tick_links(
+    rows: &mut Vec<Endpoint>,
+    dues: &mut Vec<Due>,
+    hints: &mut Hints,
+    turns: VecDeque<Turn>,
+    moment: u64,
+    gone: &[Token],
+)
+    requires moment { moment ≤ LAST_MOMENT }
+    requires once { AreOnce rows.old.items }
+    requires drained { AreDrained (map peer_link rows.old.items) }
+    requires ready { AreTurns moment gone.now
+        (map peer_link rows.old.items) (map has_room rows.old.items) turns.items }
+    requires dues { AreDues rows.old.items dues.old.items (vec_capacity dues.old) }
+    ensures links { map peer_link rows.new.items
+        ≡ map (link_after moment (is_among gone.now)) (map peer_link rows.old.items) }
+    ensures dues { AreDues rows.new.items dues.new.items (vec_capacity dues.new) }
+{
+    if gone.is_empty() {
+        tick_due(rows, dues, hints, turns, moment, gone);
+        return;
+    }
+    tick_turns(rows, dues, turns, moment, gone);
 }

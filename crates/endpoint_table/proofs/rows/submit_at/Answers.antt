@@ -12,7 +12,7 @@ use Rattle.exchange_model.specs.Due.{timer}
 use Rattle.endpoint_table.specs.Dues.{put, removed}
 use Rattle.endpoint_table.proofs.Links.{links-set, state-there}
 use Rattle.std.specs.Prelude.{vec_capacity}
-use Rattle.endpoint_table.proofs.Timers.{dues-set, place-for}
+use Rattle.endpoint_table.proofs.Timers.{dues-set, in-order, place-for, was-there}
 use Rattle.endpoint_table.proofs.rows.submit_at.Goals as goal
 
 pub submit-requires-clause-ready : goal.submit-requires-clause-ready
@@ -34,8 +34,19 @@ returns-clause-links c = λ p f.
     (slice_get-get_or c.args.rows.now.items c.args.place c.index_mut.result.now
     c.requires.place))))
 
-pub set_due-requires : goal.set_due-requires
-set_due-requires c = λ m e.
+pub set_due-requires-clause-ordered : goal.set_due-requires-clause-ordered
+set_due-requires-clause-ordered c =
+    in-order c.args.rows.now.items c.args.dues.now.items (vec_capacity c.args.dues.now)
+    c.requires.dues
+
+pub set_due-requires-clause-was : goal.set_due-requires-clause-was
+set_due-requires-clause-was c =
+    was-there c.args.rows.now.items c.args.dues.now.items (vec_capacity c.args.dues.now)
+    c.requires.dues c.args.place c.index.result.now _ c.requires.place c.index.ensures
+    c.next_due-before.ensures
+
+pub set_due-requires-clause-room : goal.set_due-requires-clause-room
+set_due-requires-clause-room c = λ m e.
     place-for c.args.rows.now.items c.args.dues.now.items (vec_capacity c.args.dues.now)
     c.requires.dues c.args.place m c.requires.place
 
@@ -49,5 +60,5 @@ returns-clause-dues c =
     (vec_capacity c.set_due.new.dues) c.requires.place
     (c.set_due.ensures.items ∙ ap (λ (t : Option ℕ). put i t (removed i ds))
     (c.next_due.ensures ∙ ap (λ (x : Endpoint). timer (peer_link x))
-    (c.index.ensures ∙ get_or-set_same xs i e c.index.result.now c.requires.place)))
+    (c.index-2.ensures ∙ get_or-set_same xs i e c.index-2.result.now c.requires.place)))
     c.set_due.ensures.capacity

@@ -8,7 +8,7 @@ use Rattle.std.specs.Prelude.{vec_capacity, vec_len}
 use Rattle.exchange_model.specs.Due.{timer}
 use Rattle.endpoint_table.specs.declared.endpoint.Endpoint.{Endpoint}
 use Rattle.endpoint_table.specs.Dues.{put, AreDues}
-use Rattle.endpoint_table.proofs.Timers.{dues-push, place-more, spare-slots}
+use Rattle.endpoint_table.proofs.Timers.{dues-push, in-order, place-more, spare-slots}
 use Rattle.endpoint_table.proofs.Links.{none-of, pushed, shown-push}
 use Rattle.endpoint_table.proofs.rows.submit_spare.Goals as goal
 
@@ -27,8 +27,13 @@ returns-clause-links c = λ h.
     ∙ (ap (λ (s : LinkState). links ++ record { peer = p; link = s } ∷ []) state
     ∙ sym (pushed p (after (link_of links p)) links h)))
 
-pub put_due-requires : goal.put_due-requires
-put_due-requires c = λ m e.
+pub put_due-requires-clause-ordered : goal.put_due-requires-clause-ordered
+put_due-requires-clause-ordered c =
+    in-order c.args.rows.now.items c.args.dues.now.items (vec_capacity c.args.dues.now)
+    c.requires.dues
+
+pub put_due-requires-clause-room : goal.put_due-requires-clause-room
+put_due-requires-clause-room c = λ m e.
     let slots = spare-slots (vec_len c.args.rows.now) (vec_capacity c.args.rows.now)
     (vec_capacity c.args.dues.now) c.args.spare.now c.in-Some.link
     (sym c.take.ensures.value ∙ c.in-Some.is) c.requires.ready.room in

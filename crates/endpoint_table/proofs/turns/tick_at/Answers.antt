@@ -11,7 +11,7 @@ use Rattle.endpoint_table.specs.declared.endpoint.Endpoint.{Endpoint}
 use Rattle.endpoint_table.specs.Dues.{put, removed}
 use Rattle.endpoint_table.specs.Tables.{peer_link}
 use Rattle.endpoint_table.proofs.Deeds.{timer-rests}
-use Rattle.endpoint_table.proofs.Timers.{dues-set, dues-stay, got-is, place-for}
+use Rattle.endpoint_table.proofs.Timers.{dues-set, dues-stay, got-is, in-order, place-for, was-there}
 use Rattle.endpoint_table.proofs.turns.tick_at.Goals as goal
 
 pub returns-then-not-is_due-clause-dues : goal.returns-then-not-is_due-clause-dues
@@ -40,8 +40,19 @@ tick_endpoint-requires-2-clause-ready c =
     (c.requires.ready _ (slice_get-get_or c.args.rows.now.items c.args.place
     c.index_mut-2.result.now c.requires.place))
 
-pub set_due-requires : goal.set_due-requires
-set_due-requires c = λ m e.
+pub set_due-requires-clause-ordered : goal.set_due-requires-clause-ordered
+set_due-requires-clause-ordered c =
+    in-order c.args.rows.now.items c.args.dues.now.items (vec_capacity c.args.dues.now)
+    c.requires.dues
+
+pub set_due-requires-clause-was : goal.set_due-requires-clause-was
+set_due-requires-clause-was c =
+    was-there c.args.rows.now.items c.args.dues.now.items (vec_capacity c.args.dues.now)
+    c.requires.dues c.args.place c.index-2.result.now _ c.requires.place c.index-2.ensures
+    c.next_due-before.ensures
+
+pub set_due-requires-clause-room : goal.set_due-requires-clause-room
+set_due-requires-clause-room c = λ m e.
     place-for c.args.rows.now.items c.args.dues.now.items (vec_capacity c.args.dues.now)
     c.requires.dues c.args.place m c.requires.place
 
@@ -65,5 +76,5 @@ returns-clause-dues c =
     (vec_capacity c.set_due.new.dues) c.requires.place
     (c.set_due.ensures.items ∙ ap (λ (t : Option ℕ). put i t (removed i ds))
     (c.next_due.ensures ∙ ap (λ (x : Endpoint). timer (peer_link x))
-    (c.index-2.ensures ∙ get_or-set_same xs i e c.index-2.result.now c.requires.place)))
+    (c.index-3.ensures ∙ get_or-set_same xs i e c.index-3.result.now c.requires.place)))
     c.set_due.ensures.capacity

@@ -2,6 +2,7 @@ use Rattle.std.proofs.Common.{refl, subst, map}
 use Rattle.message_layer.specs.Prepared.{MayFollow, MayHeed}
 use Rattle.message_layer.specs.Values.{LinkValue}
 use Rattle.endpoint_table.specs.Tables.{peer_link}
+use Rattle.endpoint_table.proofs.Drained.{drained-with}
 use Rattle.endpoint_table.proofs.Links.{link-there, once-with, unknown}
 use Rattle.endpoint_table.proofs.endpoints.Endpoints.heed.Goals as goal
 
@@ -25,6 +26,9 @@ invariant_of-self c = (
       (c.heed_at.ensures.links c.args.peer.now (rw (c.deref.ensures.value) at c.in-Some.ensures.some)),
   c.self.invariant.1,
   c.heed_at.ensures.dues,
+  drained-with c.args.peer.now _ c.self.inside.rows.items c.heed_at.new.rows.items refl
+      c.self.invariant.3
+      (c.heed_at.ensures.links c.args.peer.now (rw (c.deref.ensures.value) at c.in-Some.ensures.some)),
 )
 
 pub returns-in_default : goal.returns-in_default

@@ -2,6 +2,7 @@ use Rattle.std.proofs.Common.{refl, sym, subst}
 use Rattle.message_layer.specs.Prepared.{MaySubmit}
 use Rattle.message_layer.specs.Values.{LinkValue}
 use Rattle.endpoint_table.specs.Tables.{IsUnused}
+use Rattle.endpoint_table.proofs.Drained.{drained-with}
 use Rattle.endpoint_table.proofs.Links.{link-there, none-there, once-with}
 use Rattle.endpoint_table.proofs.endpoints.Endpoints.submit.Goals as goal
 
@@ -18,6 +19,9 @@ invariant_of-self c = (
       (c.submit_at.ensures.links c.args.peer (rw (c.deref.ensures.value) at c.in-Some.ensures.some)),
   c.self.invariant.1,
   c.submit_at.ensures.dues,
+  drained-with c.args.peer _ c.self.inside.rows.items c.submit_at.new.rows.items refl
+      c.self.invariant.3
+      (c.submit_at.ensures.links c.args.peer (rw (c.deref.ensures.value) at c.in-Some.ensures.some)),
 )
 
 pub submit_spare-requires-clause-ready : goal.submit_spare-requires-clause-ready
@@ -33,4 +37,7 @@ invariant_of-self-in-None c = (
       (c.submit_spare.ensures.links (rw (c.deref.ensures.value) at (c.in-None.ensures.none refl))),
   subst IsUnused (sym c.submit_spare.ensures.spare) tt,
   c.submit_spare.ensures.dues,
+  drained-with c.args.peer _ c.self.inside.rows.items c.submit_spare.new.rows.items refl
+      c.self.invariant.3
+      (c.submit_spare.ensures.links (rw (c.deref.ensures.value) at (c.in-None.ensures.none refl))),
 )
