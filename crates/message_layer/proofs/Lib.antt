@@ -9,6 +9,8 @@ pub mod AwaitEnds
 pub mod AwaitLaws
 pub mod AnswerLaws
 pub mod HandsUp
+pub mod SeriesLaws
+pub mod KeptLaws
 pub mod Rising
 pub mod Room
 pub mod Preparing

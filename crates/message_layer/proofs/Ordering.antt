@@ -1,9 +1,12 @@
 -- Messages in the order of time: those that are remembered no more stand in front.
-use Rattle.std.proofs.Common.{◌≡◌, ℕ, suc, ◌-◌, ◌≤◌, ◌<◌, List, [], ◌∷◌, ◌++◌, length, drop, get_or, filter, count_by, Bool, true, false, not, cond, nat_lt, ◌⊎◌, inl, inr, refl, sym, ◌∙◌, ap, arith}
+use Rattle.std.proofs.Common.{◌≡◌, ℕ, suc, ◌-◌, ◌≤◌, ◌<◌, List, [], ◌∷◌, ◌++◌, length, drop, get_or, filter, count_by, Bool, true, false, not, cond, nat_lt, nat_le, slice_get, None, Some, ◌⊎◌, inl, inr, refl, sym, ◌∙◌, ap, arith}
 use Rattle.std.specs.List.{AllByRecursion}
 use Rattle.std.proofs.lemmas.Bool.{lt-ltb, le-ltb, cases_lt}
 use Rattle.std.proofs.lemmas.List.Sums.{length-filter, count_by-le-length}
-use Rattle.message_layer.specs.Remembering.{is_fresh, AreInOrder, begins_old}
+use Rattle.std.proofs.lemmas.Bool.Decides.{nat_tests}
+use Rattle.message_layer.specs.Kept.{is_since}
+use Rattle.message_layer.specs.Remembering.{is_fresh, moment_heard, AreInOrder, begins_old}
+use Rattle.message_layer.proofs.KeptLaws.{filter-alike}
 use Rattle.message_layer.specs.declared.state.Heard.{Heard}
 use Rattle.message_layer.proofs.Sound.{either}
 use borrow.Author.Tests.{ltb-true}
@@ -120,3 +123,40 @@ many-fresh t n (m ∷ ms) d r some many = by (λ enough. many-fresh t n ms d r.1
         at (inr enough) =
             let z : suc (length ms) - n ≡ suc (length ms - n) = omega (arith, enough) in
             rw z (later enough ∙ ap (λ (k : ℕ). nat_lt k n) (sym (rest e)))
+
+-- the first moment at which one was heard that is fresh
+fresh-test : (t : ℕ) (h : Heard) → is_fresh t h ≡ nat_le (t - 246999) h.moment
+fresh-test t h = grind (arith, nat_tests)
+
+pub fresh-since : (t : ℕ) (ms : List Heard) → filter (is_fresh t) ms ≡ filter (is_since moment_heard (t - 246999)) ms
+fresh-since t ms = filter-alike (is_fresh t) (is_since moment_heard (t - 246999)) (fresh-test t) ms
+
+pub count-fresh : (t : ℕ) (ms : List Heard) → count_by (is_fresh t) ms ≡ count_by (is_since moment_heard (t - 246999)) ms
+count-fresh t ms =
+    sym (length-filter (is_fresh t) ms) ∙ ap (λ (hs : List Heard). length hs) (fresh-since t ms)
+    ∙ length-filter (is_since moment_heard (t - 246999)) ms
+
+-- the first one, as it is read
+pub begins-none : (t : ℕ) (ms : List Heard) → slice_get ms 0 ≡ None → begins_old t ms ≡ false
+begins-none t [] e = refl
+begins-none t (m ∷ ms) e = absurd cc
+
+pub begins-first : (t : ℕ) (h : Heard) (ms : List Heard) → slice_get ms 0 ≡ Some h → begins_old t ms ≡ not (is_fresh t h)
+begins-first t h [] e = absurd cc
+begins-first t h (m ∷ ms) e = let same : m ≡ h = cc in ap (λ (x : Heard). not (is_fresh t x)) same
+
+-- the first one goes, which is fresh no more
+pub record IsShorter (t : ℕ) (ms : List Heard) : Type 0 where
+  pub some : 0 < length ms
+  pub in_order : AreInOrder (drop 1 ms)
+  pub same : filter (is_fresh t) (drop 1 ms) ≡ filter (is_fresh t) ms
+  pub shorter : length (drop 1 ms) < length ms
+
+pub is-shorter : (t : ℕ) (ms : List Heard) → AreInOrder ms → begins_old t ms ≡ true → IsShorter t ms
+is-shorter t [] r e = absurd cc
+is-shorter t (m ∷ ms) r e = record {
+  some = omega arith;
+  in_order = r.1;
+  same = sym (left (is_fresh t) m ms (not-true (is_fresh t m) e));
+  shorter = omega arith;
+}

@@ -1,10 +1,13 @@
 -- Moments that rise: what is in use no more stands in front.
-use Rattle.std.proofs.Common.{◌≡◌, ℕ, ◌+◌, ◌-◌, ◌≤◌, ◌<◌, List, [], ◌∷◌, ◌++◌, length, filter, count_by, Bool, ◌&&◌, true, false, not, cond, nat_le, refl, sym, ◌∙◌, ap, arith}
+use Rattle.std.proofs.Common.{◌≡◌, ℕ, ◌+◌, ◌-◌, ◌≤◌, ◌<◌, List, [], ◌∷◌, ◌++◌, length, drop, filter, count_by, slice_get, None, Some, Bool, ◌&&◌, true, false, not, cond, nat_le, refl, sym, ◌∙◌, ap, arith}
 use Rattle.std.specs.List.{AllByRecursion}
 use Rattle.std.proofs.lemmas.Bool.{lt-ltb, leb-true}
 use Rattle.std.proofs.lemmas.List.Sums.{length-filter, count_by-le-length}
 use Rattle.message_layer.specs.Mids.{is_in_use, begins_unused, AreRising, IsRising}
+use Rattle.message_layer.specs.Kept.{is_since}
+use Rattle.message_layer.proofs.KeptLaws.{filter-alike}
 use Rattle.message_layer.proofs.Sound.{either}
+use Rattle.std.proofs.lemmas.Bool.Decides.{nat_tests}
 use borrow.Author.Tests.{ltb-true}
 
 all-push : (P : ℕ → Type 0) (xs : List ℕ) (m : ℕ) → AllByRecursion P xs → P m → AllByRecursion P (xs ++ m ∷ [])
@@ -92,3 +95,40 @@ unused-free t waiting xs r many free = by (begins_unused t xs) refl
     by : (b : Bool) → begins_unused t xs ≡ b → b ≡ true
     by true e = refl
     by false e = let all : count_by (is_in_use t) xs ≡ length xs = all-counted t xs r e in absurd (omega (arith, many, free, all))
+
+-- the first moment at which one was given that is in use
+used-test : (t given : ℕ) → is_in_use t given ≡ nat_le (t - 493999) given
+used-test t given = grind (arith, nat_tests)
+
+pub used-since : (t : ℕ) (xs : List ℕ) → filter (is_in_use t) xs ≡ filter (is_since (λ m. m) (t - 493999)) xs
+used-since t xs = filter-alike (is_in_use t) (is_since (λ m. m) (t - 493999)) (used-test t) xs
+
+pub count-used : (t : ℕ) (xs : List ℕ) → count_by (is_in_use t) xs ≡ count_by (is_since (λ m. m) (t - 493999)) xs
+count-used t xs =
+    sym (length-filter (is_in_use t) xs) ∙ ap (λ (ys : List ℕ). length ys) (used-since t xs)
+    ∙ length-filter (is_since (λ m. m) (t - 493999)) xs
+
+-- the first one, as it is read
+pub begins-none : (t : ℕ) (xs : List ℕ) → slice_get xs 0 ≡ None → begins_unused t xs ≡ false
+begins-none t [] e = refl
+begins-none t (x ∷ xs) e = absurd cc
+
+pub begins-first : (t given : ℕ) (xs : List ℕ) → slice_get xs 0 ≡ Some given → begins_unused t xs ≡ not (is_in_use t given)
+begins-first t given [] e = absurd cc
+begins-first t given (x ∷ xs) e = let same : x ≡ given = cc in ap (λ (g : ℕ). not (is_in_use t g)) same
+
+-- the first one goes, which is in use no more
+pub record IsShorter (t : ℕ) (xs : List ℕ) : Type 0 where
+  pub some : 0 < length xs
+  pub rising : AreRising (drop 1 xs)
+  pub same : filter (is_in_use t) (drop 1 xs) ≡ filter (is_in_use t) xs
+  pub shorter : length (drop 1 xs) < length xs
+
+pub is-shorter : (t : ℕ) (xs : List ℕ) → AreRising xs → begins_unused t xs ≡ true → IsShorter t xs
+is-shorter t [] r e = absurd cc
+is-shorter t (x ∷ xs) r e = record {
+  some = omega arith;
+  rising = r.1;
+  same = sym (filter-left (is_in_use t) x xs (not-true (is_in_use t x) e));
+  shorter = omega arith;
+}

@@ -9,5 +9,7 @@ pub mod Awaiting
 pub mod Answers
 pub mod Laws
 pub mod Mids
+pub mod Series
+pub mod Kept
 pub mod Prepared
 pub mod Remembering

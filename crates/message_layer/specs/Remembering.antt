@@ -1,6 +1,5 @@
 -- The CONs and NONs that a link remembers, and how one is found by its ID (RFC 7252, section 4.2).
 use Rattle.std.specs.Prelude.{◌≡◌, ℕ, suc, zero, ◌+◌, ◌-◌, ◌%◌, ◌^◌, ◌≤◌, ◌<◌, List, [], ◌∷◌, length, take, get_or, Option, Some, Bool, false, not, ◌==◌, ◌&&◌, nat_lt, nat_le, if◌then◌else◌, vec_len}
-use Rattle.std.specs.VecDeque.{deque_len, deque_capacity}
 use Rattle.std.specs.List.{AllByRecursion, find}
 use Rattle.std.specs.Option.{option_or}
 use Rattle.limits.specs.declared.TheConstants.{EXCHANGE_LIFETIME}
@@ -11,6 +10,9 @@ use Rattle.message_layer.specs.declared.chains.Chains.{Chains}
 -- section 4.8.2).
 abbrev pub is_fresh : ℕ → Heard → Bool
 is_fresh t h = nat_lt (t - h.moment) EXCHANGE_LIFETIME
+
+abbrev pub moment_heard : Heard → ℕ
+moment_heard h = h.moment
 
 abbrev pub is_repeat : ℕ → ℕ → Heard → Bool
 is_repeat t mid h = (h.mid == mid) && is_fresh t h
@@ -65,7 +67,7 @@ pub record IsOrderly (newest : ℕ) (x : Chains) (messages : List Heard) : Type 
 
 -- room for one more number
 abbrev pub has_number_room : Chains → Bool
-has_number_room x = nat_lt (deque_len x.before) (deque_capacity x.before) && nat_le 256 (vec_len x.last)
+has_number_room x = nat_lt 0 x.before.room && nat_le 256 (vec_len x.last)
 
 abbrev pub chosen : ℕ → ℕ → Heard → Option Heard → Option Heard
 chosen t mid h found = if is_repeat t mid h then Some h else found

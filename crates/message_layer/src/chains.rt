@@ -1,16 +1,22 @@
 //! The messages heard, in chains by their IDs: so that one is found without a look at each.
 
 ghost use Rattle.std.specs.Prelude.{◌≡◌, ℕ, ◌<◌, ◌≤◌, ◌+◌, ◌++◌, ◌∷◌, ◌^◌, [], length, drop, get_or, nat_lt, IfOk, OnOk, OnErr, true, vec_len};
-ghost use Rattle.std.specs.VecDeque.{deque_len, deque_capacity};
 ghost use Rattle.std.specs.List.{find};
 ghost use Rattle.message_layer.specs.Remembering.{is_repeat, IsChained, chain_of, chosen, has_number_room};
 
+use crate::kept::Kept;
+use crate::series::{Countable, Series};
 use crate::state::Heard;
 use std::alloc::{AllocError, Global};
-use std::collections::VecDeque;
 
 /// How many chains there are: one for each low byte of an ID.
 const CHAINS: usize = 256;
+
+impl Countable for u32 {
+    fn count(some: &[u32], others: &[u32]) -> usize {
+        some.len() + others.len()
+    }
+}
 
 /// The numbers by which a message is found. Messages are numbered as they are heard, from 1 on. The
 /// table of the chains, 1 KiB, is made with the first room for a message.
@@ -19,7 +25,7 @@ pub struct Chains {
     /// How many messages were forgotten: what has no greater number is remembered no more.
     pub forgotten: u32,
     /// For each message that is remembered, the number of the one before it in its chain.
-    pub before: VecDeque<u32>,
+    pub before: Series<u32>,
     /// For each chain, the number of its last message.
     pub last: Vec<u32>,
 }
@@ -45,37 +51,34 @@ fn choose(h: Heard, found: Option<Heard>, mid: u16, moment: u64) -> Option<Heard
 }
 
 /// The message with this ID that is remembered, sought back along its chain.
-pub fn find_chained(
-    chains: &Chains,
-    messages: &VecDeque<Heard>,
-    mid: u16,
-    moment: u64,
-) -> Option<Heard>
-    requires { IsChained chains.now messages.now.items }
+pub fn find_chained(chains: &Chains, messages: &Kept<Heard>, mid: u16, moment: u64) -> Option<Heard>
+    requires chained { IsChained chains.now messages.now.items }
+    requires whole { messages.now.whole ≡ true }
     ensures { result ≡ find (is_repeat moment mid) messages.now.items }
 {
     let mut found = None;
     let mut number = last_of(&chains.last, mid);
     'back: while chains.forgotten < number {
         let place = (number - chains.forgotten - 1) as usize;
-        found = choose(messages[place], found, mid, moment);
-        number = chains.before[place];
+        found = choose(messages.at(place), found, mid, moment);
+        number = chains.before.at(place);
     }
     found
 }
 
 /// The oldest message is forgotten.
-pub fn drop_oldest(chains: &mut Chains, messages: &mut VecDeque<Heard>)
+pub fn drop_oldest(chains: &mut Chains, messages: &mut Kept<Heard>)
     requires chained { IsChained chains.old messages.old.items }
+    requires whole { messages.old.whole ≡ true }
     requires some { 0 < length messages.old.items }
     ensures messages { messages.new.items ≡ drop 1 messages.old.items }
     ensures chained { IsChained chains.new messages.new.items }
-    ensures fewer { deque_len messages.new < deque_len messages.old }
-    ensures capacity { deque_capacity messages.new ≡ deque_capacity messages.old }
-    ensures room { has_number_room chains.old ≡ true → has_number_room chains.new ≡ true }
+    ensures whole { messages.new.whole ≡ true }
+    ensures room { messages.new.room ≡ messages.old.room }
+    ensures numbers { has_number_room chains.new ≡ has_number_room chains.old }
 {
-    messages.pop_front();
-    chains.before.pop_front();
+    messages.drop_first();
+    chains.before.drop_first();
     chains.forgotten += 1;
 }
 
@@ -87,19 +90,19 @@ pub fn has_number(forgotten: u32, count: usize) -> bool
 }
 
 /// One more message comes into its chain.
-fn chain(chains: &mut Chains, messages: &VecDeque<Heard>, h: &Heard)
+fn chain(chains: &mut Chains, messages: &Kept<Heard>, h: &Heard)
     requires chained { IsChained chains.old messages.now.items }
     requires few { chains.old.forgotten + length messages.now.items + 1 < 2 ^ 32 }
     requires room { has_number_room chains.old ≡ true }
     ensures { IsChained chains.new (messages.now.items ++ h.now ∷ []) }
 {
     let own = usize::from(h.mid) % CHAINS;
-    chains.before.push_back_reserved(chains.last[own]);
+    chains.before.push_reserved(chains.last[own]);
     chains.last[own] = chains.forgotten + messages.len() as u32 + 1;
 }
 
 /// One more message comes into its chain, if they are kept.
-pub fn chain_if(kept: bool, chains: &mut Chains, messages: &VecDeque<Heard>, h: &Heard)
+pub fn chain_if(kept: bool, chains: &mut Chains, messages: &Kept<Heard>, h: &Heard)
     requires chained { kept ≡ true → IsChained chains.old messages.now.items }
     requires few { kept ≡ true → chains.old.forgotten + length messages.now.items + 1 < 2 ^ 32 }
     requires room { has_number_room chains.old ≡ true }
@@ -116,7 +119,7 @@ impl Chains {
     {
         Chains {
             forgotten: 0,
-            before: VecDeque::new(alloc),
+            before: Series::new(alloc),
             last: Vec::new(alloc),
         }
     }
@@ -139,20 +142,9 @@ pub fn make_number_room(chains: &mut Chains) -> Result<(), AllocError>
     ensures last { (c : ℕ) → get_or chains.new.last.items c 0 ≡ get_or chains.old.last.items c 0 }
     ensures ok { OnOk result (has_number_room chains.new ≡ true) }
 {
-    chains.before.reserve(1)?;
+    chains.before.reserve()?;
     make_table(&mut chains.last)?;
     Ok(())
-}
-
-/// The same ones again.
-pub fn copied<T: Copy>(alloc: Global, items: &VecDeque<T>) -> Result<VecDeque<T>, AllocError>
-    ensures { IfOk result (λ copy. copy.items ≡ items.now.items) }
-{
-    let mut copy = VecDeque::new(alloc);
-    'each: for i in 0..items.len() {
-        copy.push_back(items[i])?;
-    }
-    Ok(copy)
 }
 
 /// The same numbers again.
@@ -161,7 +153,7 @@ pub fn copy_chains(alloc: Global, chains: &Chains) -> Result<Chains, AllocError>
     ensures before { IfOk result (λ copy. copy.before.items ≡ chains.now.before.items) }
     ensures last { IfOk result (λ copy. copy.last.items ≡ chains.now.last.items) }
 {
-    let before = copied(alloc, &chains.before)?;
+    let before = chains.before.copy(alloc)?;
     let last = Vec::from_slice(alloc, &chains.last)?;
     Ok(Chains {
         forgotten: chains.forgotten,

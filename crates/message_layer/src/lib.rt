@@ -13,8 +13,10 @@
 mod bytes;
 mod calls;
 mod chains;
+mod earlier;
 mod fault;
 mod hearing;
+mod kept;
 mod laws;
 mod link;
 mod mids;
@@ -24,6 +26,7 @@ mod over;
 mod prepared;
 mod remembered;
 mod sending;
+mod series;
 mod state;
 mod verdict;
 

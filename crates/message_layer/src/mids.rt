@@ -1,12 +1,11 @@
 //! The message IDs that were given, by the moments at which they were.
 
-ghost use Rattle.std.specs.Prelude.{◌≡◌, ◌<◌, ◌≤◌, ◌+◌, ◌++◌, ◌&&◌, [], ◌∷◌, length, filter, count_by, Some, IfOk, OnOk, IsTrue, ◌↔◌, nat_le};
-ghost use Rattle.std.specs.VecDeque.{deque_len, deque_capacity};
+ghost use Rattle.std.specs.Prelude.{◌≡◌, ◌<◌, ◌≤◌, ◌+◌, ◌-◌, ◌++◌, ◌&&◌, [], ◌∷◌, length, filter, count_by, Some, IfOk, OnOk, IsTrue, true, ◌↔◌, nat_le};
 ghost use Rattle.message_layer.specs.Mids.{AreRising, is_in_use, begins_unused, pruned, newest_behind};
 
+use crate::kept::Kept;
 use limits::{MAX_MESSAGE_IDS, MESSAGE_ID_LIFETIME};
 use std::alloc::{AllocError, Global};
-use std::collections::VecDeque;
 use std::marker::Model;
 
 /// The moments at which the last message IDs were given, the oldest first.
@@ -15,7 +14,7 @@ use std::marker::Model;
 /// stand in front, and each is taken away once.
 #[derive(Drop)]
 pub struct Mids {
-    moments: VecDeque<u64>,
+    moments: Kept<u64>,
     /// The clock didn't go back between them.
     rising: bool,
     /// Where it didn't, none is later than this.
@@ -23,15 +22,15 @@ pub struct Mids {
 }
 
 impl Model for Mids {
-    ghost use Rattle.std.specs.Prelude.{◌≡◌, ◌-◌, true};
-    ghost use Rattle.std.specs.VecDeque.{deque_len, deque_capacity};
+    ghost use Rattle.std.specs.Prelude.{◌≡◌, true};
     ghost use Rattle.message_layer.specs.Mids.{MidsGiven, IsRising, newest_of};
 
     ghost Value = { MidsGiven };
 
-    ghost view = { λ m. record { moments = m.moments.items; newest = newest_of m.rising m.newest; room = deque_capacity m.moments - deque_len m.moments } };
+    ghost view = { λ m. record { moments = m.moments.items; newest = newest_of m.rising m.newest; room = m.moments.room } };
 
-    ghost invariant = { λ m. m.rising ≡ true → IsRising m.newest m.moments.items };
+    ghost invariant = { λ m. m.rising ≡ true
+        → IsRising m.newest m.moments.items × (m.moments.whole ≡ true) };
 }
 
 fn is_used(given: u64, moment: u64) -> bool
@@ -40,48 +39,54 @@ fn is_used(given: u64, moment: u64) -> bool
     moment.saturating_sub(given) < MESSAGE_ID_LIFETIME
 }
 
+/// The first moment at which an ID was given that is in use.
+fn first_used(moment: u64) -> u64
+    ensures { result ≡ moment - (MESSAGE_ID_LIFETIME - 1) }
+{
+    moment.saturating_sub(MESSAGE_ID_LIFETIME - 1)
+}
+
 /// The oldest one is in use no more.
-fn has_unused_first(moments: &VecDeque<u64>, moment: u64) -> bool
+fn has_unused_first(moments: &Kept<u64>, moment: u64) -> bool
+    requires { moments.now.whole ≡ true }
     ensures { result ≡ begins_unused moment moments.now.items }
 {
-    match moments.front() {
+    match moments.first() {
         None => false,
-        Some(given) => !is_used(*given, moment),
+        Some(given) => !is_used(given, moment),
     }
 }
 
 /// Forgets those that are in use no more, which stand in front.
-fn drop_first(moments: &mut VecDeque<u64>, moment: u64)
-    requires { AreRising moments.old.items }
+fn drop_first(moments: &mut Kept<u64>, moment: u64)
+    requires rising { AreRising moments.old.items }
+    requires whole { moments.old.whole ≡ true }
     ensures items { moments.new.items ≡ filter (is_in_use moment) moments.old.items }
-    ensures len { deque_len moments.new ≤ deque_len moments.old }
-    ensures capacity { deque_capacity moments.new ≡ deque_capacity moments.old }
+    ensures room { moments.new.room ≡ moments.old.room }
+    ensures whole { moments.new.whole ≡ true }
 {
     'each: while has_unused_first(moments, moment) {
-        moments.pop_front();
+        moments.drop_first();
     }
 }
 
 /// Forgets those that are in use no more, wherever they stand.
-fn drop_any(moments: &mut VecDeque<u64>, moment: u64)
+fn drop_any(moments: &mut Kept<u64>, moment: u64)
     ensures items { moments.new.items ≡ filter (is_in_use moment) moments.old.items }
-    ensures len { deque_len moments.new ≤ deque_len moments.old }
-    ensures capacity { deque_capacity moments.new ≡ deque_capacity moments.old }
+    ensures room { moments.old.room ≤ moments.new.room }
 {
-    moments.retain(|given| is_used(*given, moment));
+    moments.drop_before(first_used(moment));
 }
 
-fn count_in_use(moments: &VecDeque<u64>, moment: u64) -> usize
+fn count_in_use(moments: &Kept<u64>, moment: u64) -> usize
     ensures { result ≡ count_by (is_in_use moment) moments.now.items }
 {
-    moments
-        .iter()
-        .filter(|given| is_used(**given, moment))
-        .count()
+    moments.count_since(first_used(moment))
 }
 
 /// Where as many stand as may be in use, the oldest one alone says whether one is free.
-fn has_free_first(moments: &VecDeque<u64>, waiting: usize, moment: u64) -> bool
+fn has_free_first(moments: &Kept<u64>, waiting: usize, moment: u64) -> bool
+    requires whole { moments.now.whole ≡ true }
     requires rising { AreRising moments.now.items }
     requires few { length moments.now.items + waiting ≤ MAX_MESSAGE_IDS }
     requires many { MAX_MESSAGE_IDS ≤ length moments.now.items + waiting }
@@ -98,23 +103,13 @@ fn goes_on(rising: bool, newest: u64, moment: u64) -> bool
     rising && newest <= moment
 }
 
-fn copy_moments(alloc: Global, moments: &VecDeque<u64>) -> Result<VecDeque<u64>, AllocError>
-    ensures { IfOk result (λ copy. copy.items ≡ moments.now.items) }
-{
-    let mut copy = VecDeque::new(alloc);
-    'each: for i in 0..moments.len() {
-        copy.push_back(moments[i])?;
-    }
-    Ok(copy)
-}
-
 impl Mids {
     pub fn new(alloc: Global) -> Mids
         ensures moments { result.moments ≡ [] }
         ensures newest { result.newest ≡ Some 0 }
     {
         Mids {
-            moments: VecDeque::new(alloc),
+            moments: Kept::new(alloc),
             rising: true,
             newest: 0,
         }
@@ -126,7 +121,7 @@ impl Mids {
         ensures newest { self.new.newest ≡ self.old.newest }
         ensures ok { OnOk result (0 < self.new.room) }
     {
-        self.moments.reserve(1)?;
+        self.moments.reserve()?;
         Ok(())
     }
 
@@ -138,7 +133,7 @@ impl Mids {
     {
         self.rising = goes_on(self.rising, self.newest, moment);
         self.newest = moment;
-        self.moments.push_back_reserved(moment);
+        self.moments.push_reserved(moment);
     }
 
     /// Beside those that are in use, and so many that will be, one more can be given.
@@ -182,12 +177,12 @@ impl Mids {
         self.drop_unused(moment);
     }
 
-    /// The same again.
+    /// The same again, which shares the moments of most.
     pub fn copy(&self, alloc: Global) -> Result<Mids, AllocError>
         ensures moments { IfOk result (λ copy. copy.moments ≡ self.now.moments) }
         ensures newest { IfOk result (λ copy. copy.newest ≡ self.now.newest) }
     {
-        let moments = copy_moments(alloc, &self.moments)?;
+        let moments = self.moments.copy(alloc)?;
         Ok(Mids {
             moments,
             rising: self.rising,

@@ -1,18 +1,34 @@
 //! The messages heard lately, by which a repeated one is known (RFC 7252 section 4.2).
 
-ghost use Rattle.std.specs.Prelude.{◌≡◌, ◌<◌, ◌≤◌, ◌+◌, ◌++◌, ◌∷◌, ◌&&◌, [], length, filter, count_by, nat_lt, nat_le, IfOk, OnOk, true};
-ghost use Rattle.std.specs.VecDeque.{deque_len, deque_capacity};
+ghost use Rattle.std.specs.Prelude.{◌≡◌, ◌<◌, ◌≤◌, ◌+◌, ◌-◌, ◌++◌, ◌∷◌, ◌&&◌, [], length, filter, count_by, nat_lt, nat_le, IfOk, OnOk, true};
+ghost use Rattle.std.specs.Option.{option_to_list};
 ghost use Rattle.std.specs.List.{find};
-ghost use Rattle.message_layer.specs.Remembering.{is_fresh, is_repeat, AreInOrder, IsChained, begins_old, has_number_room};
+ghost use Rattle.message_layer.specs.Kept.{is_since};
+ghost use Rattle.message_layer.specs.Remembering.{is_fresh, is_repeat, moment_heard, AreInOrder, IsChained, begins_old, has_number_room};
 
 use crate::chains::{
-    Chains, chain_if, copied, copy_chains, drop_oldest, find_chained, has_number, make_number_room,
+    Chains, chain_if, copy_chains, drop_oldest, find_chained, has_number, make_number_room,
 };
+use crate::kept::{Kept, Timed};
+use crate::series::{Countable, Series};
 use crate::state::Heard;
-use limits::MAX_REMEMBERED;
+use limits::{EXCHANGE_LIFETIME, MAX_REMEMBERED};
 use std::alloc::{AllocError, Global};
-use std::collections::VecDeque;
 use std::marker::Model;
+
+impl Countable for Heard {
+    fn count(some: &[Heard], others: &[Heard]) -> usize {
+        some.len() + others.len()
+    }
+}
+
+impl Timed for Heard {
+    ghost moment_of = { moment_heard };
+
+    fn moment(&self) -> u64 {
+        self.moment
+    }
+}
 
 /// The CONs and NONs of the peer's that were heard last, the oldest first.
 ///
@@ -21,7 +37,7 @@ use std::marker::Model;
 /// went back, or there is no number for one more message, they are looked through.
 #[derive(Drop)]
 pub struct Remembered {
-    messages: VecDeque<Heard>,
+    messages: Kept<Heard>,
     chains: Chains,
     /// The clock didn't go back between them, and each stands in its chain.
     orderly: bool,
@@ -31,48 +47,84 @@ pub struct Remembered {
 
 impl Model for Remembered {
     ghost use Rattle.std.specs.Prelude.{◌≡◌, ◌&&◌, nat_lt, true};
-    ghost use Rattle.std.specs.VecDeque.{deque_len, deque_capacity};
     ghost use Rattle.message_layer.specs.Remembering.{MessagesHeard, IsOrderly, has_number_room};
 
     ghost Value = { MessagesHeard };
 
-    ghost view = { λ m. record { messages = m.messages.items; room = nat_lt (deque_len m.messages) (deque_capacity m.messages) && has_number_room m.chains } };
+    ghost view = { λ m. record { messages = m.messages.items; room = nat_lt 0 m.messages.room && has_number_room m.chains } };
 
-    ghost invariant = { λ m. m.orderly ≡ true → IsOrderly m.newest m.chains m.messages.items };
+    ghost invariant = { λ m. m.orderly ≡ true
+        → IsOrderly m.newest m.chains m.messages.items × (m.messages.whole ≡ true) };
 }
 
-/// The message with this ID that is remembered, sought wherever it stands.
-fn find_any(messages: &VecDeque<Heard>, mid: u16, moment: u64) -> Option<Heard>
-    ensures { result ≡ find (is_repeat moment mid) messages.now.items }
+/// The first moment at which a message was heard that is remembered.
+fn first_fresh(moment: u64) -> u64
+    ensures { result ≡ moment - (EXCHANGE_LIFETIME - 1) }
 {
-    'each: for i in 0..messages.len() {
-        let h = messages[i];
-        if h.is_repeat(mid, moment) {
+    moment.saturating_sub(EXCHANGE_LIFETIME - 1)
+}
+
+/// The message has this ID and is remembered, and it is of a moment or later.
+fn is_repeat_since(h: &Heard, since: u64, mid: u16, moment: u64) -> bool
+    ensures { result ≡ (is_since moment_heard since h.now && is_repeat moment mid h.now) }
+{
+    since <= h.moment && h.is_repeat(mid, moment)
+}
+
+/// The message with this ID that is remembered, among those of a moment or later.
+fn find_since(series: &Series<Heard>, since: u64, mid: u16, moment: u64) -> Option<Heard>
+    ensures { result
+        ≡ find (is_repeat moment mid) (filter (is_since moment_heard since) series.now.items) }
+{
+    'each: for i in 0..series.len() {
+        let h = series.at(i);
+        if is_repeat_since(&h, since, mid, moment) {
             return Some(h);
         }
     }
     None
 }
 
+/// The message that came last, if it has this ID and is remembered.
+fn find_latest(latest: &Option<Heard>, mid: u16, moment: u64) -> Option<Heard>
+    ensures { result ≡ find (is_repeat moment mid) (option_to_list latest.now) }
+{
+    match latest {
+        Some(h) if h.is_repeat(mid, moment) => Some(*h),
+        _ => None,
+    }
+}
+
+/// The message with this ID that is remembered, sought wherever it stands.
+#[tactic(auto, using(crate::proofs::KeptLaws::find_kept))]
+fn find_any(messages: &Kept<Heard>, mid: u16, moment: u64) -> Option<Heard>
+    ensures { result ≡ find (is_repeat moment mid) messages.now.items }
+{
+    let earlier = find_since(&messages.series, messages.since, mid, moment);
+    earlier.or(find_latest(&messages.latest, mid, moment))
+}
+
 /// The oldest one is remembered no more.
-fn has_old_first(messages: &VecDeque<Heard>, moment: u64) -> bool
+fn has_old_first(messages: &Kept<Heard>, moment: u64) -> bool
+    requires { messages.now.whole ≡ true }
     ensures { result ≡ begins_old moment messages.now.items }
 {
-    match messages.front() {
+    match messages.first() {
         None => false,
         Some(h) => !h.is_fresh(moment),
     }
 }
 
 /// Forgets those that are remembered no more, which stand in front.
-fn drop_first(chains: &mut Chains, messages: &mut VecDeque<Heard>, moment: u64)
+fn drop_first(chains: &mut Chains, messages: &mut Kept<Heard>, moment: u64)
     requires in_order { AreInOrder messages.old.items }
     requires chained { IsChained chains.old messages.old.items }
+    requires whole { messages.old.whole ≡ true }
     ensures messages { messages.new.items ≡ filter (is_fresh moment) messages.old.items }
     ensures chained { IsChained chains.new messages.new.items }
-    ensures len { deque_len messages.new ≤ deque_len messages.old }
-    ensures capacity { deque_capacity messages.new ≡ deque_capacity messages.old }
-    ensures room { has_number_room chains.old ≡ true → has_number_room chains.new ≡ true }
+    ensures whole { messages.new.whole ≡ true }
+    ensures room { messages.new.room ≡ messages.old.room }
+    ensures numbers { has_number_room chains.new ≡ has_number_room chains.old }
 {
     'each: while has_old_first(messages, moment) {
         drop_oldest(chains, messages);
@@ -80,27 +132,28 @@ fn drop_first(chains: &mut Chains, messages: &mut VecDeque<Heard>, moment: u64)
 }
 
 /// Forgets those that are remembered no more, wherever they stand.
-fn drop_any(messages: &mut VecDeque<Heard>, moment: u64)
+fn drop_any(messages: &mut Kept<Heard>, moment: u64)
     ensures messages { messages.new.items ≡ filter (is_fresh moment) messages.old.items }
-    ensures len { deque_len messages.new ≤ deque_len messages.old }
-    ensures capacity { deque_capacity messages.new ≡ deque_capacity messages.old }
+    ensures room { messages.old.room ≤ messages.new.room }
 {
-    messages.retain(|h| h.is_fresh(moment));
+    messages.drop_before(first_fresh(moment));
 }
 
-fn fresh_count(messages: &VecDeque<Heard>, moment: u64) -> usize
+fn fresh_count(messages: &Kept<Heard>, moment: u64) -> usize
     ensures { result ≡ count_by (is_fresh moment) messages.now.items }
 {
-    messages.iter().filter(|h| h.is_fresh(moment)).count()
+    messages.count_since(first_fresh(moment))
 }
 
 /// Where as many stand as are remembered, the oldest of so many says whether one more is.
-fn has_free_last(messages: &VecDeque<Heard>, moment: u64) -> bool
+fn has_free_last(messages: &Kept<Heard>, moment: u64) -> bool
+    requires whole { messages.now.whole ≡ true }
     requires in_order { AreInOrder messages.now.items }
     requires many { MAX_REMEMBERED ≤ length messages.now.items }
     ensures { result ≡ nat_lt (count_by (is_fresh moment) messages.now.items) MAX_REMEMBERED }
 {
-    !messages[messages.len() - MAX_REMEMBERED].is_fresh(moment)
+    let last = messages.at(messages.len() - MAX_REMEMBERED);
+    !last.is_fresh(moment)
 }
 
 /// They stay in order: the next one comes no earlier, and has a number.
@@ -115,7 +168,7 @@ impl Remembered {
         ensures { result.messages ≡ [] }
     {
         Remembered {
-            messages: VecDeque::new(alloc),
+            messages: Kept::new(alloc),
             chains: Chains::new(alloc),
             orderly: true,
             newest: 0,
@@ -127,7 +180,7 @@ impl Remembered {
         ensures same { self.new.messages ≡ self.old.messages }
         ensures ok { OnOk result (self.new.room ≡ true) }
     {
-        self.messages.reserve(1)?;
+        self.messages.reserve()?;
         make_number_room(&mut self.chains)?;
         Ok(())
     }
@@ -176,7 +229,7 @@ impl Remembered {
         self.orderly = goes_on(self.orderly, follows, numbered);
         chain_if(self.orderly, &mut self.chains, &self.messages, &h);
         self.newest = h.moment;
-        self.messages.push_back_reserved(h);
+        self.messages.push_reserved(h);
     }
 
     /// One more was heard. Those that are remembered no more are forgotten.
@@ -188,11 +241,11 @@ impl Remembered {
         self.push_reserved(h);
     }
 
-    /// The same again.
+    /// The same again, which shares most messages.
     pub fn copy(&self, alloc: Global) -> Result<Remembered, AllocError>
         ensures { IfOk result (λ copy. copy.messages ≡ self.now.messages) }
     {
-        let messages = copied(alloc, &self.messages)?;
+        let messages = self.messages.copy(alloc)?;
         let chains = copy_chains(alloc, &self.chains)?;
         Ok(Remembered {
             messages,

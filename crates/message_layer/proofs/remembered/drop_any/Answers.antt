@@ -1,7 +1,8 @@
-use Rattle.std.proofs.Common.{rules}
-use Rattle.std.proofs.lemmas.Fn.{filter_same}
-use Rattle.message_layer.specs.Remembering.{is_fresh}
+use Rattle.std.proofs.Common.{◌∙◌, sym}
+use Rattle.message_layer.proofs.Ordering.{fresh-since}
 use Rattle.message_layer.proofs.remembered.drop_any.Goals as goal
 
 pub returns-clause-messages : goal.returns-clause-messages
-returns-clause-messages c = filter_same _ (is_fresh c.args.moment) _ (λ x b f' k. search rules) _ _ c.retain.ensures.filtered
+returns-clause-messages c =
+    (rw c.first_fresh.ensures at c.drop_before.ensures.items)
+    ∙ sym (fresh-since c.args.moment c.args.messages.now.items)

@@ -1,5 +1,4 @@
-use Rattle.std.proofs.Common.{◌≡◌, ◌≤◌, filter, true}
-use Rattle.std.specs.VecDeque.{deque_len, deque_capacity}
+use Rattle.std.proofs.Common.{◌≡◌, filter, length, true}
 use Rattle.message_layer.specs.Remembering.{AreInOrder, IsChained, is_fresh, has_number_room}
 use Rattle.message_layer.proofs.remembered.drop_first.Given as goal
 
@@ -8,10 +7,10 @@ invariant-each l = record {
   in_order : AreInOrder l.messages.items;
   chained : IsChained l.chains l.messages.items;
   same : filter (is_fresh l.moment) l.messages.items ≡ filter (is_fresh l.moment) l.initial.messages.items;
-  len : deque_len l.messages ≤ deque_len l.initial.messages;
-  capacity : deque_capacity l.messages ≡ deque_capacity l.initial.messages;
-  room : has_number_room l.initial.chains ≡ true → has_number_room l.chains ≡ true;
+  whole : l.messages.whole ≡ true;
+  room : l.messages.room ≡ l.initial.messages.room;
+  numbers : has_number_room l.chains ≡ has_number_room l.initial.chains;
 }
 
 abbrev pub decreases-each : goal.decreases-each
-decreases-each l = deque_len l.messages
+decreases-each l = length l.messages.items
