@@ -5,3 +5,4 @@ pub mod Originating
 pub mod Replying
 pub mod Posting
 pub mod Showing
+pub mod Ordering

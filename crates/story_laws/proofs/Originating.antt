@@ -46,6 +46,12 @@ at-take [] (suc n) a c e = absurd (none-some c e)
 at-take (x ∷ cs) (suc n) zero c e = e
 at-take (x ∷ cs) (suc n) (suc a) c e = at-take cs n a c e
 
+below-take : (cs : List Call) (n a : ℕ) (c : Call) → slice_get (take n cs) a ≡ Some c → a < n
+below-take cs zero a c e = absurd (none-some c e)
+below-take [] (suc n) a c e = absurd (none-some c e)
+below-take (x ∷ cs) (suc n) zero c e = omega arith
+below-take (x ∷ cs) (suc n) (suc a) c e = let lt = below-take cs n a c e in omega (arith, lt)
+
 pub at-contained : (cs : List Call) (c : Call) → Contains cs c → (a : ℕ) × (slice_get cs a ≡ Some c)
 at-contained [] c h = absurd (omega (arith, h.1))
 at-contained (x ∷ cs) c (zero, lt, e) = (0, ap (λ (v : Call). Some v) e)
@@ -136,9 +142,10 @@ token-same l t o i p m n b legal f h e =
 
 -- ---- what a response of the device's goes back to
 
--- The call executed the message under whose token a response of success came.
-pub record IsAnsweredBy (proxy : Peer) (m : Content) (cs : List Call) : Type 0 where
+-- The call, one of the first, executed the message under whose token a response of success came.
+pub record IsAnsweredBy (proxy : Peer) (m : Content) (cs : List Call) (count : ℕ) : Type 0 where
   pub place : ℕ
+  pub early : place < count
   pub call : Call
   pub stands : slice_get cs place ≡ Some call
   pub executes : Executes proxy m call
@@ -155,13 +162,13 @@ heard-it l device proxy cs a t o i u p m n c d k legal brought f e comes reads a
     let same = token-same l t o i p m n d legal f it token in
     (same, subst (λ (c : Content). Spells c d) same it.spelled)
 
--- what it says of a POST, if that is success and not 2.31, was executed
+-- what it says of a request but a GET, if that is success and not 2.31, was executed
 said : (R : Relation) (before : Device) (m : Content) (taken : Option Taken) (code : ℕ) (options : List Entry) (payload : List ℕ)
-    → m.code ≡ 2 → code / 32 ≡ 2 → (code ≡ 95 → ⊥) → Tells R before m taken code options payload → (done : Taken) × (taken ≡ Some done)
-said R before m taken code options payload post class more (inl s) = let get = s.get in absurd (omega (arith, post, get))
-said R before m taken code options payload post class more (inr (inl s)) = (s.done, s.executed)
-said R before m taken code options payload post class more (inr (inr (inl s))) = absurd (more s.continue)
-said R before m taken code options payload post class more (inr (inr (inr s))) =
+    → (m.code ≡ 1 → ⊥) → code / 32 ≡ 2 → (code ≡ 95 → ⊥) → Tells R before m taken code options payload → (done : Taken) × (taken ≡ Some done)
+said R before m taken code options payload changes class more (inl s) = absurd (changes s.get)
+said R before m taken code options payload changes class more (inr (inl s)) = (s.done, s.executed)
+said R before m taken code options payload changes class more (inr (inr (inl s))) = absurd (more s.continue)
+said R before m taken code options payload changes class more (inr (inr (inr s))) =
     elim s.class [ inl w ↦ absurd (omega (arith, class, w)) | inr w ↦ absurd (omega (arith, class, w)) ]
 
 pub rst-code : (m : Content) (mid : ℕ) → Spells m (rst mid) → m.code ≡ 0
@@ -173,24 +180,24 @@ rst-code m mid s = second (64 + 16 * code_of m.kind + length m.token) m.code (s.
 
 by-making : (R : Relation) (l : List Noted) (device proxy : Peer) (block : ℕ) (resources : List Held) (cs : List Call) (count t o i a : ℕ)
     (p : Peer) (m answer : Content) (c : Call) (d : Datagram)
-    → Networks R l device proxy (fresh block resources) cs → IsFirst l t o i p m → m.code ≡ 2
+    → Networks R l device proxy (fresh block resources) cs → IsFirst l t o i p m → (m.code ≡ 1 → ⊥)
     → slice_get (take count cs) a ≡ Some c → d.peer ≡ proxy → Spells answer d.bytes → answer.token ≡ m.token
-    → answer.code / 32 ≡ 2 → (answer.code ≡ 95 → ⊥) → Makes R c d → IsAnsweredBy proxy m cs
-by-making R l device proxy block resources cs count t o i a p m answer c d n f post e to spelled token class more (inl r) =
+    → answer.code / 32 ≡ 2 → (answer.code ≡ 95 → ⊥) → Makes R c d → IsAnsweredBy proxy m cs count
+by-making R l device proxy block resources cs count t o i a p m answer c d n f changes e to spelled token class more (inl r) =
     let none = rst-code answer r.mid (subst (λ (b : List ℕ). Spells answer b) r.is spelled) in
     absurd (omega (arith, none, class))
-by-making R l device proxy block resources cs count t o i a p m answer c d n f post e to spelled token class more (inr (inl r)) =
+by-making R l device proxy block resources cs count t o i a p m answer c d n f changes e to spelled token class more (inr (inl r)) =
     let e' = at-take cs count a c e in
     let comes : c.event ≡ heard r.moment proxy r.datagram r.taken = r.comes ∙ ap (λ (q : Peer). heard r.moment q r.datagram r.taken) to in
     let said_so = spells_one answer _ d.bytes spelled r.spelled in
     let its : answer.token ≡ r.message.token = ap (λ (c : Content). c.token) said_so in
     let code : answer.code ≡ r.code = ap (λ (c : Content). c.code) said_so in
     let it = heard-it l device proxy cs a t o i r.moment p m r.message c r.datagram r.taken n.legal n.brought f e' comes r.reads r.request (sym its ∙ token) in
-    let posts : r.message.code ≡ 2 = ap (λ (c : Content). c.code) it.0 ∙ post in
-    let done = said R c.before r.message r.taken r.code r.options r.payload posts
+    let done = said R c.before r.message r.taken r.code r.options r.payload (λ get. changes (sym (ap (λ (c : Content). c.code) it.0) ∙ get))
     (subst (λ (k : ℕ). k / 32 ≡ 2) code class) (λ h. more (code ∙ h)) r.says in
     record {
       place = a;
+      early = below-take cs count a c e;
       call = c;
       stands = e';
       executes = record {
@@ -201,7 +208,7 @@ by-making R l device proxy block resources cs count t o i a p m answer c d n f p
         spelled = it.1;
       };
     }
-by-making R l device proxy block resources cs count t o i a p m answer c d n f post e to spelled token class more (inr (inr r)) =
+by-making R l device proxy block resources cs count t o i a p m answer c d n f changes e to spelled token class more (inr (inr r)) =
     let first = fresh block resources in
     let asked = all-of (IsAskedFor (take a (take count cs))) c.before.observers r.observer
     (registrations_are_asked R block resources (take count cs) a c (follow-take R cs first count n.follow) e) r.registered in
@@ -214,18 +221,18 @@ by-making R l device proxy block resources cs count t o i a p m answer c d n f p
     let asks : is_request by.message.code ≡ true = subst (λ (k : ℕ). is_request k ≡ true) (sym by.get) refl in
     let it = heard-it l device proxy cs asked.number t o i by.moment p m by.message asked.call by.datagram by.taken n.legal n.brought f e' comes by.reads asks
     (sym by.token ∙ (sym its ∙ token)) in
-    let get : 1 ≡ m.code = sym by.get ∙ ap (λ (c : Content). c.code) it.0 in
-    absurd (omega (arith, get, post))
+    absurd (changes (sym (ap (λ (c : Content). c.code) it.0) ∙ by.get))
 
--- What the proxy heard from the device as success under the token of a POST tells that it was executed.
+-- What the proxy heard from the device as success under the token of a request but a GET tells that it was executed.
 pub answered-executed : (R : Relation) (l : List Noted) (device proxy : Peer) (block : ℕ) (resources : List Held) (cs : List Call) (t o i : ℕ)
     (p : Peer) (m answer : Content) (bytes : List ℕ)
-    → Networks R l device proxy (fresh block resources) cs → IsGiven (fresh block resources) cs proxy bytes → IsFirst l t o i p m → m.code ≡ 2
-    → Spells answer bytes → answer.token ≡ m.token → answer.code / 32 ≡ 2 → (answer.code ≡ 95 → ⊥) → IsAnsweredBy proxy m cs
-answered-executed R l device proxy block resources cs t o i p m answer bytes n g f post spelled token class more =
+    → Networks R l device proxy (fresh block resources) cs → (g : IsGiven (fresh block resources) cs proxy bytes) → IsFirst l t o i p m
+    → (m.code ≡ 1 → ⊥) → Spells answer bytes → answer.token ≡ m.token → answer.code / 32 ≡ 2 → (answer.code ≡ 95 → ⊥)
+    → IsAnsweredBy proxy m cs g.count
+answered-executed R l device proxy block resources cs t o i p m answer bytes n g f changes spelled token class more =
     let first = fresh block resources in
     let made = all-of (IsMade R (take g.count cs)) (left_by first (take g.count cs)).out g.datagram
     (answers_are_made R block resources (take g.count cs) (follow-take R cs first g.count n.follow)) g.given in
     let place = at-contained (take g.count cs) made.call made.among in
-    by-making R l device proxy block resources cs g.count t o i place.0 p m answer made.call g.datagram n f post place.1 g.to
+    by-making R l device proxy block resources cs g.count t o i place.0 p m answer made.call g.datagram n f changes place.1 g.to
     (subst (λ (b : List ℕ). Spells answer b) (sym g.has) spelled) token class more made.makes

@@ -1,6 +1,7 @@
 -- A POST that was answered by success was executed exactly once.
 use Rattle.std.proofs.Common.{◌≡◌, ℕ, ◌+◌, ◌<◌, ◌≤◌, ◌/◌, Bool, true, false, cond, eqb, inl, inr, List, [], ◌∷◌, length, Option, Some, None, refl, sym, ap, subst, ◌∙◌, arith}
 use Rattle.std.specs.Prelude.{slice_get}
+use Rattle.std.proofs.lemmas.Bool.Decides.{eqb_tells}
 use Rattle.coap_codec.specs.Spelling.{Content, Spells}
 use Rattle.coap_codec.specs.declared.block.Block.{Block}
 use Rattle.coap_codec.proofs.Unique.{spells_one}
@@ -22,10 +23,10 @@ use Rattle.demo_origin.specs.Origins.{fresh}
 use Rattle.demo_origin.specs.Values.{Relation}
 use Rattle.demo_origin.specs.declared.state.Held.{Held}
 use Rattle.story_laws.specs.Executions.{Executes}
-use Rattle.story_laws.specs.Networks.{Networks, AreGiven}
+use Rattle.story_laws.specs.Networks.{IsGiven, Networks, AreGiven}
 use Rattle.story_laws.specs.Posts.{IsDoneOnce}
 use Rattle.story_laws.proofs.Executing.{messages-once}
-use Rattle.story_laws.proofs.Originating.{answered-executed}
+use Rattle.story_laws.proofs.Originating.{IsAnsweredBy, answered-executed}
 use Rattle.story_laws.proofs.Replying.{IsLastReply, last-reply}
 
 -- ---- entries and their notes
@@ -65,23 +66,83 @@ first-sent l h i t p m legal e f =
     let it = noted-at l h i t _ e f.stands in
     first-by l i t p f.bytes f.timeout it.note m it.stands f.spelled (follows-at l i _ legal it.stands)
 
--- ---- a POST's replies
+-- ---- the replies to a request but a GET
 
-whole-post : (q : CoapRequest) (ms : List Content) (w : Response) → q.method ≡ 2 → whole_of q ms ≡ Some w
+not-get : (k : ℕ) → (k ≡ 1 → ⊥) → eqb k 1 ≡ false
+not-get k differs = elim (eqb_tells k 1) [ inl w ↦ absurd (differs w.1) | inr w ↦ w.0 ]
+
+whole-write : (q : CoapRequest) (ms : List Content) (w : Response) → (q.method ≡ 1 → ⊥) → whole_of q ms ≡ Some w
     → whole_given (begun (length q.body) 6) ms ≡ Some w
-whole-post q [] w post e = absurd (none-some w e)
-whole-post q (m ∷ ms) w post e =
-    let no : eqb q.method 1 ≡ false = subst (λ (k : ℕ). eqb k 1 ≡ false) (sym post) refl in rw no at e
+whole-write q [] w changes e = absurd (none-some w e)
+whole-write q (m ∷ ms) w changes e = let other = not-get q.method changes in rw other at e
 
-heard-post : (h : List Written) (k : ℕ) (q : CoapRequest) (js : List ℕ) (ms : List Content) → q.method ≡ 2
+heard-write : (h : List Written) (k : ℕ) (q : CoapRequest) (js : List ℕ) (ms : List Content) → (q.method ≡ 1 → ⊥)
     → AreHeardFor h k q (first_point q) js ms → AreHeardFor h k q (Given (begun (length q.body) 6)) js ms
-heard-post h k q js ms post a =
-    let no : eqb q.method 1 ≡ false = subst (λ (k : ℕ). eqb k 1 ≡ false) (sym post) refl in
-    subst (λ (b : Bool). AreHeardFor h k q (cond b (Fetched no_pieces) (Given (begun (length q.body) 6))) js ms) no a
+heard-write h k q js ms changes a =
+    let other = not-get q.method changes in
+    subst (λ (b : Bool). AreHeardFor h k q (cond b (Fetched no_pieces) (Given (begun (length q.body) 6))) js ms) other a
 
 pub code-of : (q : CoapRequest) (b : Option Block) (mid : ℕ) (token : List ℕ) → (block_message q b mid token).code ≡ q.method
 code-of q None mid token = refl
 code-of q (Some b) mid token = refl
+
+-- ---- a write that was answered by success
+
+module _ (R : Relation) (h : List Written) (device proxy : Peer) (block : ℕ) (resources : List Held) (cs : List Call)
+    (n c k : ℕ) (js : List ℕ) (s : Stands h)
+    (net : Networks R s.reading device proxy (fresh block resources) cs)
+    (r : RestsOn h n c k js)
+    (changes : r.request.method ≡ 1 → ⊥) (to : r.request.peer ≡ device) (class : r.response.code / 32 ≡ 2) where
+  abbrev q : CoapRequest
+  q = r.request
+
+  -- the last of its replies, and its entry
+  pub last : IsLastReply h r.opening r.request js r.response
+  last = last-reply h r.opening q (begun (length q.body) 6) js r.messages r.response
+      (heard-write h r.opening q js r.messages changes r.heard) (whole-write q r.messages r.response changes r.whole)
+
+  pub entry : IsNoted s.reading last.number last.heard.response.moment (Hears device last.heard.response.heard.bytes)
+  entry =
+      let heard = last.heard.response.heard in
+      noted-at s.reading h last.number last.heard.response.moment _ s.entries_are
+      (subst (λ (p : Peer). IsEntry h last.number last.heard.response.moment (Hears p heard.bytes)) to heard.stands)
+
+  -- it was given out by some of the first calls, and one of these executed the message
+  pub executed : (g : IsGiven (fresh block resources) cs proxy last.heard.response.heard.bytes) → IsAnsweredBy proxy last.heard.sent cs g.count
+  executed g =
+      let for_it = last.heard.sent_for in
+      let sent = last.heard.sent in
+      let first = first-sent s.reading h last.heard.sending for_it.moment q.peer sent s.legal s.entries_are for_it.first in
+      answered-executed R s.reading device proxy block resources cs for_it.moment first.0 last.heard.sending q.peer sent last.message
+      last.heard.response.heard.bytes net g first.1
+      (λ get. changes (sym (ap (λ (m : Content). m.code) for_it.asks ∙ code-of q last.block sent.mid sent.token) ∙ get))
+      last.heard.response.heard.spelled last.heard.response.token (subst (λ (c : ℕ). c / 32 ≡ 2) last.is class) last.ends
+
+  pub done-by : (count : ℕ) → IsAnsweredBy proxy last.heard.sent cs count
+      → (d : IsDoneOnce h r.opening r.request proxy cs) × (d.place < count)
+  done-by count done =
+      let for_it = last.heard.sent_for in
+      let sent = last.heard.sent in
+      let first = first-sent s.reading h last.heard.sending for_it.moment q.peer sent s.legal s.entries_are for_it.first in (
+        record {
+          since = last.since;
+          not_before = last.not_before;
+          block = last.block;
+          sending = last.heard.sending;
+          message = sent;
+          sent = for_it;
+          place = done.place;
+          call = done.call;
+          stands = done.stands;
+          executes = done.executes;
+          once = λ b y e x. messages-once R s.reading device proxy q.peer (fresh block resources) cs for_it.moment first.0 last.heard.sending b done.place sent y done.call
+              net first.1 e done.stands x done.executes;
+        },
+        done.early,
+      )
+
+two-not-one : (k : ℕ) → k ≡ 2 → k ≡ 1 → ⊥
+two-not-one k e f = omega (arith, e, f)
 
 pub posts-once : (R : Relation) (h : List Written) (device proxy : Peer) (block : ℕ) (resources : List Held) (cs : List Call)
     (n t c k : ℕ) (js : List ℕ) (s : Stands h)
@@ -91,30 +152,9 @@ pub posts-once : (R : Relation) (h : List Written) (device proxy : Peer) (block 
     → r.request.method ≡ 2 → r.request.peer ≡ device → r.response.code / 32 ≡ 2
     → IsDoneOnce h r.opening r.request proxy cs
 posts-once R h device proxy block resources cs n t c k js s net given answered r post to class =
-    let q = r.request in
-    let last = last-reply h r.opening q (begun (length q.body) 6) js r.messages r.response
-    (heard-post h r.opening q js r.messages post r.heard) (whole-post q r.messages r.response post r.whole) in
-    let for_it = last.heard.sent_for in
-    let sent = last.heard.sent in
-    let first = first-sent s.reading h last.heard.sending for_it.moment q.peer sent s.legal s.entries_are for_it.first in
-    let code : sent.code ≡ 2 = ap (λ (m : Content). m.code) for_it.asks ∙ (code-of q last.block sent.mid sent.token ∙ post) in
-    let heard = last.heard.response.heard in
-    let entry = noted-at s.reading h last.number last.heard.response.moment _ s.entries_are heard.stands in
-    let gave = given last.number last.heard.response.moment heard.bytes entry.note
-    (subst (λ (p : Peer). at s.reading last.number ≡ Some (noted last.heard.response.moment (Hears p heard.bytes) entry.note)) to entry.stands) in
-    let done = answered-executed R s.reading device proxy block resources cs for_it.moment first.0 last.heard.sending q.peer sent last.message heard.bytes
-    net gave first.1 code heard.spelled last.heard.response.token (subst (λ (c : ℕ). c / 32 ≡ 2) last.is class) last.ends in
-    record {
-      since = last.since;
-      not_before = last.not_before;
-      block = last.block;
-      sending = last.heard.sending;
-      message = sent;
-      sent = for_it;
-      place = done.place;
-      call = done.call;
-      stands = done.stands;
-      executes = done.executes;
-      once = λ b y e x. messages-once R s.reading device proxy q.peer (fresh block resources) cs for_it.moment first.0 last.heard.sending b done.place sent y done.call
-          net first.1 e done.stands x done.executes;
-    }
+    let changes = two-not-one r.request.method post in
+    let its = last R h device proxy block resources cs n c k js s net r changes to class in
+    let noted = entry R h device proxy block resources cs n c k js s net r changes to class in
+    let g = given its.number its.heard.response.moment its.heard.response.heard.bytes noted.note noted.stands in
+    (done-by R h device proxy block resources cs n c k js s net r changes to class g.count
+    (executed R h device proxy block resources cs n c k js s net r changes to class g)).0

@@ -1,6 +1,7 @@
 -- The last of the replies to a POST is its response.
-use Rattle.std.proofs.Common.{◌≡◌, ℕ, ◌<◌, ◌≤◌, ◌/◌, Bool, true, false, ◌&&◌, ◌||◌, cond, eqb, inl, inr, List, [], ◌∷◌, length, Option, Some, None, refl, sym, ap, subst, ◌∙◌, arith}
+use Rattle.std.proofs.Common.{◌≡◌, ℕ, suc, ◌<◌, ◌≤◌, ◌/◌, Bool, true, false, ◌&&◌, ◌||◌, cond, eqb, inl, inr, List, [], ◌∷◌, length, Option, Some, None, refl, sym, ap, subst, ◌∙◌, arith}
 use Rattle.std.specs.Prelude.{not}
+use Rattle.std.specs.List.{Contains}
 use Rattle.std.proofs.lemmas.Bool.{and_parts, false≢true}
 use Rattle.std.proofs.lemmas.Bool.Decides.{eqb_tells}
 use Rattle.coap_codec.specs.Spelling.{Content}
@@ -18,11 +19,12 @@ use Rattle.history_laws.proofs.CallerLemmas.{none-some, some-is}
 use Rattle.history_claims.specs.Headline.{AreHeardFor, IsHeardFor}
 
 -- the reply that tells the response: the last
-pub record IsLastReply (h : List Written) (k : ℕ) (q : CoapRequest) (w : Response) : Type 0 where
+pub record IsLastReply (h : List Written) (k : ℕ) (q : CoapRequest) (js : List ℕ) (w : Response) : Type 0 where
   pub since : ℕ
   pub not_before : k ≤ since
   pub block : Option Block
   pub number : ℕ
+  pub among : Contains js number
   pub message : Content
   pub heard : IsHeardFor h since q block number message
   pub is : w.code ≡ message.code
@@ -67,8 +69,11 @@ ends-it : (m : Content) (ms : List Content) (later : Option Response) (w : Respo
 ends-it m [] later w g = ap (λ (v : Response). v.code) (sym (some-is (response_of m) w g))
 ends-it m (n ∷ ms) later w g = absurd (none-some w g)
 
+later-one : (js : List ℕ) (n j : ℕ) → Contains js n → Contains (j ∷ js) n
+later-one js n j h = let lt = h.1 in (suc h.0, omega (arith, lt), h.2)
+
 pub last-reply : (h : List Written) (k : ℕ) (q : CoapRequest) (u : UploadValue) (js : List ℕ) (ms : List Content) (w : Response)
-    → AreHeardFor h k q (Given u) js ms → whole_given u ms ≡ Some w → IsLastReply h k q w
+    → AreHeardFor h k q (Given u) js ms → whole_given u ms ≡ Some w → IsLastReply h k q js w
 last-reply h k q u [] [] w a e = absurd (none-some w e)
 last-reply h k q u [] (m ∷ ms) w a e = absurd a
 last-reply h k q u (j ∷ js) [] w a e = absurd a
@@ -78,17 +83,18 @@ last-reply h k q u (j ∷ js) (m ∷ ms) w a e =
     after : k ≤ j
     after = let first = a.0.sent_for.after in let later = a.0.response.after in omega (arith, first, later)
 
-    by : (x : Answered) → answer_to u m ≡ x → (whole_given (next_of u m) ms ≡ Some w → IsLastReply h j q w)
-        → whole_by x m ms (whole_given (next_of u m) ms) ≡ Some w → IsLastReply h k q w
+    by : (x : Answered) → answer_to u m ≡ x → (whole_given (next_of u m) ms ≡ Some w → IsLastReply h j q js w)
+        → whole_by x m ms (whole_given (next_of u m) ms) ≡ Some w → IsLastReply h k q (j ∷ js) w
     by Next f more g =
         let it = more g in
         let low = it.not_before in
-        record { since = it.since; not_before = omega (arith, after, low); block = it.block; number = it.number; message = it.message; heard = it.heard; is = it.is; ends = it.ends }
+        record { since = it.since; not_before = omega (arith, after, low); block = it.block; number = it.number; among = later-one js it.number j it.among; message = it.message; heard = it.heard; is = it.is; ends = it.ends }
     by Last f more g = record {
       since = k;
       not_before = omega arith;
       block = _;
       number = j;
+      among = (0, omega arith, refl);
       message = m;
       heard = a.0;
       is = ends-it m ms (whole_given (next_of u m) ms) w g;

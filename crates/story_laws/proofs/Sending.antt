@@ -12,7 +12,7 @@ use Rattle.history_laws.specs.Readings.{Noted, Note, First, Copies, Confirms, Pl
 use Rattle.history_laws.specs.Transmissions.{FirstSending, firsts, Transmission, begun_way, copied_way, due, transmission}
 use Rattle.history_laws.specs.Justified.{MayBeFirst, MayBeCopy, Follows, Legal}
 use Rattle.history_laws.specs.Laws.{IsFirst}
-use Rattle.history_laws.proofs.CallerLemmas.{at-before, at-below, at-new, at-newest, at-old, at-same, find-some, first-found, firsts-tokens, follows-at, IsFirst-below, IsFirst-old, legal-before, may-be, none-some, some-is, way-cases, way-first}
+use Rattle.history_laws.proofs.CallerLemmas.{at-before, at-below, at-new, at-newest, at-old, at-same, find-some, first-found, firsts-tokens, follows-at, IsFirst-below, IsFirst-old, legal-before, length-before, may-be, none-some, some-is, way-cases, way-first}
 use Rattle.story_laws.specs.Lateness.{IsPunctual, ArePunctual, SendsMessage}
 use Rattle.story_laws.specs.declared.TheConstants.{LATEST_COPY, LONGEST_SENDING}
 
@@ -206,3 +206,41 @@ pub sent-within : (l : List Noted) (s o i n t : ℕ) (p r : Peer) (m : Content) 
     → (s ≤ t) × (t ≤ s + LONGEST_SENDING)
 sent-within l s o i n t p r m legal prompts f h =
     by-note l s o i n t p r m h.bytes h.timeout h.note legal prompts f h.stands h.spelled (follows-at l n _ legal h.stands)
+
+-- ---- nothing sends a message before its first sending
+
+after-note : (l : List Noted) (s o i n t : ℕ) (p r : Peer) (m : Content) (b : List ℕ) (w : Option ℕ) (note : Note) → Legal l
+    → IsFirst l s o i p m → at l n ≡ Some (noted t (Sends r b w) note) → Spells m b → Follows (before l n) t (Sends r b w) note → i ≤ n
+after-note l s o i n t p r m b w (First q k) legal f e spelled may =
+    let other : IsFirst l t q n r k = record { bytes = b; timeout = w; stands = e } in
+    let same : m ≡ k = spells_one m k b spelled may.1.1.spelled in
+    let here : i ≡ n = first-same l s t o q i n p r m k legal f other (ap (λ (c : Content). c.token) same) in
+    omega (arith, here)
+after-note l s o i n t p r m b w (Copies j) legal f e spelled may =
+    let copy = may.1.2 in
+    let first : IsFirst (before l n) copy.moment copy.opening j r copy.message = record { bytes = b; timeout = copy.timeout; stands = copy.stands } in
+    let same : m ≡ copy.message =
+    spells_one m copy.message b spelled (first-spelled (before l n) copy.moment copy.opening j r copy.message (legal-before l n legal) first).0 in
+    let whole : IsFirst l copy.moment copy.opening j r copy.message = record { bytes = b; timeout = copy.timeout; stands = at-before l n j _ copy.stands } in
+    let here : i ≡ j = first-same l s copy.moment o copy.opening i j p r m copy.message legal f whole (ap (λ (c : Content). c.token) same) in
+    let below : j < n = subst (λ (k : ℕ). j < k) (length-before l n _ e) (at-below (before l n) j _ copy.stands) in
+    omega (arith, here, below)
+after-note l s o i n t p r m b w Confirms legal f e spelled may =
+    let confirms = may.1.1 in
+    let same = spells_one m _ b spelled confirms.spelled in
+    let size = (first-spelled l s o i p m legal f).1 in
+    let none : length m.token ≡ 0 = ap (λ (c : Content). length c.token) same in
+    absurd (omega (arith, size, none))
+after-note l s o i n t p r m b w Plain legal f e spelled may = absurd may.1
+after-note l s o i n t p r m b w (Begins q) legal f e spelled may = absurd may.1
+after-note l s o i n t p r m b w (Joins q) legal f e spelled may = absurd may.1
+after-note l s o i n t p r m b w (Serves js) legal f e spelled may = absurd may.1
+after-note l s o i n t p r m b w (Says k to notice) legal f e spelled may = absurd may.1
+after-note l s o i n t p r m b w (Repeats k j) legal f e spelled may = absurd may.1
+after-note l s o i n t p r m b w Garbled legal f e spelled may = absurd may.1
+after-note l s o i n t p r m b w (Bygone k) legal f e spelled may = absurd may.1
+after-note l s o i n t p r m b w (Recalls k answer) legal f e spelled may = absurd may.1
+
+pub sent-after : (l : List Noted) (s o i n t : ℕ) (p r : Peer) (m : Content) → Legal l → IsFirst l s o i p m → SendsMessage l n t r m → i ≤ n
+sent-after l s o i n t p r m legal f h =
+    after-note l s o i n t p r m h.bytes h.timeout h.note legal f h.stands h.spelled (follows-at l n _ legal h.stands)

@@ -3,3 +3,4 @@ pub mod Networks
 pub mod Executions
 pub mod Posts
 pub mod Reads
+pub mod Orders

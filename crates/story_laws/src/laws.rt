@@ -2,6 +2,7 @@
 
 ghost use Rattle.story_laws.specs.Executions.{MessagesOnce};
 ghost use Rattle.story_laws.specs.Lateness.{SentWithin};
+ghost use Rattle.story_laws.specs.Orders.{WritesShow};
 ghost use Rattle.story_laws.specs.Posts.{PostsOnce};
 ghost use Rattle.story_laws.specs.Reads.{RepliesShow};
 
@@ -27,4 +28,11 @@ pub fn posts_once<H: Behaviour>()
 /// heard the message that asked for it.
 pub fn replies_show<H: Behaviour>()
     ensures { RepliesShow H.relation }
+{}
+
+/// Such a reply shows what each request did that was answered by success before that message was
+/// sent, where the proxy's entries and the device's calls have an order in which nothing is heard
+/// before it is sent.
+pub fn writes_show<H: Behaviour>()
+    ensures { WritesShow H.relation }
 {}
