@@ -1,5 +1,5 @@
 -- What an ask that begins an exchange leaves is sound, and is what the step says.
-use Rattle.std.proofs.Common.{◌≡◌, ℕ, ◌+◌, ◌<◌, List, [], ◌∷◌, ◌++◌, length, Option, Result, Ok, Err, refl, ap, subst, ◌∙◌, arith}
+use Rattle.std.proofs.Common.{◌≡◌, ℕ, ◌+◌, ◌<◌, ◌≤◌, List, [], ◌∷◌, ◌++◌, length, Option, Result, Ok, Err, refl, ap, subst, ◌∙◌, arith}
 use Rattle.std.specs.Prelude.{sum_by}
 use Rattle.uri_map.specs.declared.peer.Peer.{Peer}
 use Rattle.ask_model.specs.Requests.{Sense, first_block}
@@ -28,7 +28,7 @@ use Rattle.exchange_core.specs.States.{state_of, given_in, outgoing, seen, core_
 use Rattle.exchange_core.specs.Values.{Outgoing}
 use Rattle.exchange_core.proofs.Begins.{sound-begun, begun-so, sound-sealed, sealed-so}
 use Rattle.exchange_core.proofs.MatterBy.{unnumbered as con-under}
-use Rattle.exchange_core.proofs.Sounding.{place-left}
+use Rattle.exchange_core.proofs.Sounding.{place-left, roomier}
 
 -- as many tokens were issued as there are entries, at most
 pub issued-below : (S : State) (bytes room : ℕ) (gs : List Given) → SoundState S bytes room gs → S.issued < 4294967295
@@ -44,8 +44,8 @@ issued-below S bytes room gs s =
 
 -- where nothing but places changes
 sound-same : (S S1 : State) (bytes bytes1 room room1 : ℕ) (gs gs1 : List Given) → SoundState S bytes room gs
-    → S1 ≡ S → bytes1 ≡ bytes → room1 ≡ room → gs1 ≡ gs → SoundState S1 bytes1 room1 gs1
-sound-same S S1 bytes bytes1 room room1 gs gs1 s a b c d = rw (a, b, c, d) s
+    → S1 ≡ S → bytes1 ≡ bytes → room ≤ room1 → gs1 ≡ gs → SoundState S1 bytes1 room1 gs1
+sound-same S S1 bytes bytes1 room room1 gs gs1 s a b c d = rw (a, b, d) (roomier S bytes room room1 gs s c)
 
 core-same : (S S1 : State) (gs gs1 : List Given) (os os1 : List Outgoing) → S1 ≡ S → gs1 ≡ gs → os1 ≡ os
     → core_of S1 gs1 os1 ≡ core_of S gs os
@@ -64,7 +64,9 @@ pub leaves : {R : Type 0} (t : ℕ) (e : Exchange) (r : Reader) (w : Waiting) (d
 leaves t e r w d old mid new s l = record {
   state = l.state ∙ ap (λ (S : State). with_exchange t e r w (with_draft t d S)) s.state;
   bytes = l.bytes ∙ ap (λ (k : ℕ). capped (k + capped (sum_by entry_size d.entries))) s.bytes;
-  room = l.room ∙ s.room;
+  held =
+      let held = l.held in
+      let conns = ap (λ (S : State). length S.conns) s.state in omega (arith, held, conns);
   answers = l.answers ∙ ap (λ (gs : List Given). gs ++ d.answers) s.answers;
   sends = l.sends ∙ ap (λ (os : List Outgoing). os ++ d.sends) s.sends;
 }
@@ -101,7 +103,7 @@ module _ {R : Type 0} (t word c : ℕ) (m : Mapping) (p : Peer) (token text : Li
   pub enters-sound : {X : Type 0} (r : Result X AskFault) → IsEntered r t e first w d old new → IsSound new
   enters-sound (Ok x) i =
       sound-begun t word c m p token text (state_of old) sent d old.bytes old.journal.room (given_in old) (outgoing old) s b h next none
-      (state_of new) new.bytes new.journal.room (given_in new) i.0 i.1.state i.1.bytes i.1.room i.1.answers
+      (state_of new) new.bytes new.journal.room (given_in new) i.0 i.1.state i.1.bytes i.1.held i.1.answers
   enters-sound (Err Ask.Sealed) i =
       sound-sealed t word c m p token text (state_of old) sent d old.bytes old.journal.room (given_in old) (outgoing old) s b h next none
       (state_of new) new.bytes new.journal.room (given_in new) i.0 i.1.state i.1.bytes i.1.room i.1.answers

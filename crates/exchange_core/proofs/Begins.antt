@@ -195,7 +195,7 @@ module _ (t word c : ℕ) (m : Mapping) (p : Peer) (token text : List ℕ) (S : 
       rests = in-room bytes room gs s b
 
       pub sound-begun : (S2 : State) (bytes1 room1 : ℕ) (gs1 : List Given) → fits (with_draft t d S) ≡ true → S2 ≡ S1
-          → bytes1 ≡ capped (bytes + capped (sum_by entry_size d.entries)) → room1 + length d.entries ≡ room → gs1 ≡ gs ++ d.answers
+          → bytes1 ≡ capped (bytes + capped (sum_by entry_size d.entries)) → length S.conns + 1 ≤ room1 → gs1 ≡ gs ++ d.answers
           → SoundState S2 bytes1 room1 gs1
       sound-begun S2 bytes1 room1 gs1 fit at bs rs gave =
           let kept : KeptInRoom (asked t c a n S) =
@@ -229,7 +229,7 @@ module _ (t word c : ℕ) (m : Mapping) (p : Peer) (token text : List ℕ) (S : 
       pub sound-sealed : (S2 : State) (bytes1 room1 : ℕ) (gs1 : List Given) → fits (with_draft t d S) ≡ false → S2 ≡ seals t S
           → bytes1 ≡ capped (bytes + 64) → room1 + 1 ≡ room → gs1 ≡ gs → SoundState S2 bytes1 room1 gs1
       sound-sealed S2 bytes1 room1 gs1 fit at bs rs gave =
-          sound-seal t S S2 bytes bytes1 room room1 gs gs1 s
+          sound-seal t S S2 bytes bytes1 room room1 gs gs1 s b.unsealed
           (second-of (fits (asked t c a n S)) (asked t c a n S) (seals t S) (fit-same ∙ fit)
           (second-of S.sealed S (cond (fits (asked t c a n S)) (asked t c a n S) (seals t S)) b.unsealed rests)) b.early at bs rs gave
 

@@ -233,14 +233,14 @@ module _ (t word : ℕ) (p : Peer) (d : List ℕ) (S : State) (link : LinkValue)
         → S1 ≡ seals t S → bytes1 ≡ capped (bytes + 64) → room1 + 1 ≡ room → gs1 ≡ gs
         → SoundState S1 bytes1 room1 gs1
     sound-sealed S1 bytes1 room1 gs1 full =
-        sound-seal t S S1 bytes bytes1 room room1 gs gs1 s
+        sound-seal t S S1 bytes bytes1 room room1 gs gs1 s unsealed
         (subst KeptInRoom (out-of-room full) kept) early
 
     pub sound-heard : (S1 : State) (bytes1 room1 : ℕ) (gs1 : List Given) → fits (with_draft t dv S)
         ≡ true
         → S1 ≡ after
         → bytes1 ≡ capped (bytes + capped (sum_by entry_size dv.entries))
-        → room1 + length dv.entries ≡ room → gs1 ≡ gs ++ dv.answers
+        → length S.conns + 1 ≤ room1 → gs1 ≡ gs ++ dv.answers
         → SoundState S1 bytes1 room1 gs1
     sound-heard S1 bytes1 room1 gs1 fit is bs rs gave =
         let U = after in

@@ -40,7 +40,7 @@ module _ (t c o : ℕ) (a : Ask) (S : State) (d : DraftValue) (h : Drafts t S (A
     pub join-sealed : (S2 : State) (bytes1 room1 : ℕ) (gs1 : List Given) → t ≤ 2 ^ 62 → fits (with_draft t d S) ≡ false → S2 ≡ seals t S
         → bytes1 ≡ capped (bytes + 64) → room1 + 1 ≡ room → gs1 ≡ gs → SoundState S2 bytes1 room1 gs1
     join-sealed S2 bytes1 room1 gs1 early fit is bs rs gave =
-        sound-seal t S S2 bytes bytes1 room room1 gs gs1 s (second-of (fits (joins t c a o S)) (joins t c a o S) (seals t S) (fit-same ∙ fit) j.kept) early is bs rs gave
+        sound-seal t S S2 bytes bytes1 room room1 gs gs1 s unsealed (second-of (fits (joins t c a o S)) (joins t c a o S) (seals t S) (fit-same ∙ fit) j.kept) early is bs rs gave
 
     pub join-seals : (S2 : State) (gs1 : List Given) (os1 : List Outgoing) (n : Numbers) → fits (with_draft t d S) ≡ false → S2 ≡ seals t S
         → gs1 ≡ gs → os1 ≡ os → core_of S2 gs1 os1 ≡ stepped (asks_in_room t c a n S) (core_of S gs os)
@@ -51,7 +51,7 @@ module _ (t c o : ℕ) (a : Ask) (S : State) (d : DraftValue) (h : Drafts t S (A
 
     pub join-sound : (S2 : State) (bytes1 room1 : ℕ) (gs1 : List Given) → t ≤ 2 ^ 62 → fits (with_draft t d S) ≡ true
         → S2 ≡ with_reader (reader_of (length S.entries) c o) (with_draft t d S)
-        → bytes1 ≡ capped (bytes + capped (sum_by entry_size d.entries)) → room1 + length d.entries ≡ room → gs1 ≡ gs ++ d.answers
+        → bytes1 ≡ capped (bytes + capped (sum_by entry_size d.entries)) → length S.conns + 1 ≤ room1 → gs1 ≡ gs ++ d.answers
         → SoundState S2 bytes1 room1 gs1
     join-sound S2 bytes1 room1 gs1 early fit is bs rs gave =
         let V = with_reader (reader_of (length S.entries) c o) (with_draft t d S) in

@@ -35,3 +35,4 @@ mod Heard
 mod Tolds
 mod Heeds
 mod HeardSteps
+mod Restoring

@@ -191,7 +191,7 @@ module _ (t c : ℕ) (m : Mapping) (s : Stored) (S : State) (d : DraftValue)
     pub recall-sealed : (S2 : State) (bytes1 room1 : ℕ) (gs1 : List Given) → t ≤ 2 ^ 62 → fits (with_draft t d S) ≡ false
         → S2 ≡ seals t S → bytes1 ≡ capped (bytes + 64) → room1 + 1 ≡ room → gs1 ≡ gs → SoundState S2 bytes1 room1 gs1
     recall-sealed S2 bytes1 room1 gs1 early fit is bs rs gave =
-        sound-seal t S S2 bytes bytes1 room room1 gs gs1 sound (second-of (fits U) U (seals t S) (fit-same ∙ fit) j.kept) early is bs rs gave
+        sound-seal t S S2 bytes bytes1 room room1 gs gs1 sound unsealed (second-of (fits U) U (seals t S) (fit-same ∙ fit) j.kept) early is bs rs gave
 
     pub recall-seals : (S2 : State) (gs1 : List Given) (os1 : List Outgoing) (n : Numbers) → fits (with_draft t d S) ≡ false
         → S2 ≡ seals t S → gs1 ≡ gs → os1 ≡ os
@@ -202,7 +202,7 @@ module _ (t c : ℕ) (m : Mapping) (s : Stored) (S : State) (d : DraftValue)
         ∙ ap (λ (W : State). stepped W (core_of S gs os)) (sym (asks-sealed t c (ask_of m) n S U unsealed (j.is n) (fit-same ∙ fit)))
 
     pub recall-sound : (S2 : State) (bytes1 room1 : ℕ) (gs1 : List Given) → t ≤ 2 ^ 62 → fits (with_draft t d S) ≡ true → S2 ≡ V
-        → bytes1 ≡ capped (bytes + capped (sum_by entry_size d.entries)) → room1 + length d.entries ≡ room → gs1 ≡ gs ++ d.answers
+        → bytes1 ≡ capped (bytes + capped (sum_by entry_size d.entries)) → length S.conns + 1 ≤ room1 → gs1 ≡ gs ++ d.answers
         → SoundState S2 bytes1 room1 gs1
     recall-sound S2 bytes1 room1 gs1 early fit is bs rs gave =
         let drained : IsDrained V = record { once = sound.drained.once; out = sound.drained.out } in

@@ -14,6 +14,7 @@ use Rattle.exchange_core.specs.Drafts.{DraftValue, Drafts}
 use Rattle.exchange_core.specs.Ending.{late_deeds}
 use Rattle.exchange_core.specs.Sound.{SoundState}
 use Rattle.exchange_core.specs.States.{with_draft}
+use Rattle.exchange_core.proofs.Sounding.{roomier}
 use Rattle.exchange_core.proofs.Stepping.{with-draft}
 
 -- what was drafted, be it nothing
@@ -71,5 +72,5 @@ seals-late-in-room t S k later unsealed full =
 -- where nothing but places changes
 pub sees-sound : (S S1 : State) (bytes bytes1 room room1 : ℕ) (gs gs1 : List Given)
     → SoundState S bytes room gs
-    → S1 ≡ S → gs1 ≡ gs → bytes1 ≡ bytes → room1 ≡ room → SoundState S1 bytes1 room1 gs1
-sees-sound S S1 bytes bytes1 room room1 gs gs1 s a b c d = rw (a, b, c, d) s
+    → S1 ≡ S → gs1 ≡ gs → bytes1 ≡ bytes → room ≤ room1 → SoundState S1 bytes1 room1 gs1
+sees-sound S S1 bytes bytes1 room room1 gs gs1 s a b c d = rw (a, b, c) (roomier S bytes room room1 gs s d)

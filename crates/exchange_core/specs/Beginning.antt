@@ -107,7 +107,7 @@ pub record MayBegin (t word c : ℕ) (m : Mapping) (p : Peer) (token text : List
 pub record Leaves {R : Type 0} (S : State) (d : DraftValue) (old new : RustState R) : Type 0 where
   pub state : state_of new ≡ S
   pub bytes : new.bytes ≡ capped (old.bytes + capped (sum_by entry_size d.entries))
-  pub room : new.journal.room + length d.entries ≡ old.journal.room
+  pub held : length old.conns.items + 1 ≤ new.journal.room
   pub answers : given_in new ≡ given_in old ++ d.answers
   pub sends : outgoing new ≡ outgoing old ++ d.sends
 

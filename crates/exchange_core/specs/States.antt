@@ -43,18 +43,20 @@ core_of S gs os = record { state = S; untaken = map untaken_of gs; unsent = os }
 abbrev pub seen : {R : Type 0} → RustState R → CoreValue
 seen s = core_of (state_of s) (given_in s) (outgoing s)
 
--- Nothing changes but places.
+-- Nothing changes but places, which don't get fewer in the journal.
 pub record SeesSame {R : Type 0} (old new : RustState R) : Type 0 where
   pub state : state_of new ≡ state_of old
   pub answers : given_in new ≡ given_in old
   pub sends : outgoing new ≡ outgoing old
   pub bytes : new.bytes ≡ old.bytes
-  pub room : new.journal.room ≡ old.journal.room
+  pub room : old.journal.room ≤ new.journal.room
 
--- There are places for what isn't taken at once.
+-- There are places for what isn't taken at once, and for the entries, after which there is one for the
+-- Shut of each connection and one for the Sealed.
 pub record HasPlaces {R : Type 0} (s : RustState R) (d : DraftValue) : Type 0 where
   pub answers : vec_len s.answers + length d.answers ≤ vec_capacity s.answers
   pub sends : deque_len s.sends + length d.sends ≤ deque_capacity s.sends
+  pub entries : length d.entries + length s.conns.items + 1 ≤ s.journal.room
 
 -- what entries do to those who wait
 abbrev pub readers_with : List Reader → List Written → List Reader

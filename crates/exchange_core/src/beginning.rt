@@ -109,7 +109,6 @@ fn add_exchange<R: Relation>(
     requires early { moment ≤ LAST_MOMENT }
     requires issued { s.old.issued < 4294967295 }
     requires places { HasPlaces s.old draft }
-    requires room { length draft.entries ≤ s.old.journal.room }
     requires few { length s.old.journal.entries + length draft.entries ≤ MAX_ENTRIES }
     requires ordered { IsOrdered (state_of s.old) }
     requires exchange { s.old.exchanges.room ≡ true }
@@ -119,7 +118,7 @@ fn add_exchange<R: Relation>(
     ensures state { state_of s.new ≡ with_exchange moment exchange reader submission.waiting
         (with_draft moment draft (state_of s.old)) }
     ensures bytes { s.new.bytes ≡ capped (s.old.bytes + capped (sum_by entry_size draft.entries)) }
-    ensures room { s.new.journal.room + length draft.entries ≡ s.old.journal.room }
+    ensures held { length s.old.conns.items + 1 ≤ s.new.journal.room }
     ensures answers { given_in s.new ≡ given_in s.old ++ draft.answers }
     ensures sends { outgoing s.new ≡ outgoing s.old ++ draft.sends }
 {

@@ -32,7 +32,7 @@ use endpoint_table::Endpoints;
 use exchange_model::{Conn, Exchange};
 use exchange_table::{Exchanges, Fetched};
 use journal_book::Journal;
-use limits::{LAST_MOMENT, MAX_ENTRIES};
+use limits::LAST_MOMENT;
 use resp_cache::Store;
 use std::alloc::{AllocError, Global};
 use std::collections::VecDeque;
@@ -69,14 +69,13 @@ impl<R: Relation> Model for Core<R> {
 }
 
 impl<R: Relation> Core<R> {
-    /// A core with no entry. It makes the places of all the entries that its journal may have, so
-    /// that no step waits for the journal to grow.
+    /// A core with no entry. Its journal has the place of the Sealed; each step makes those of its entries.
     pub fn new(alloc: Global) -> Result<Core<R>, AllocError>
         ensures { IfOk result (λ c. c ≡ core_of start [] []) }
     {
         let endpoints = Endpoints::new(alloc)?;
         let mut journal = Journal::new(alloc);
-        journal.make_room(MAX_ENTRIES as usize)?;
+        journal.make_room(1)?;
         Ok(Core {
             alloc,
             state: State {

@@ -1,6 +1,6 @@
 //! What a step adds, built before anything changes.
 
-ghost use Rattle.std.specs.Prelude.{◌≡◌, ◌+◌, ◌≤◌, ◌<◌, ◌∷◌, ◌++◌, [], List, length, map, sum_by, OnOk};
+ghost use Rattle.std.specs.Prelude.{◌≡◌, ◌+◌, ◌≤◌, ◌<◌, ◌^◌, ◌∷◌, ◌++◌, [], List, length, map, sum_by, OnOk};
 ghost use Rattle.ask_model.specs.Sizes.{capped};
 ghost use Rattle.journal_book.specs.Entries.{Deed, Sends, Answers, entry_size};
 ghost use Rattle.journal_book.specs.Views.{event_of, item_of};
@@ -88,6 +88,7 @@ impl<R: Relation> Draft<R> {
     /// How many entries there are, none of which opens or shuts a connection.
     pub fn len(&self) -> usize
         ensures len { result ≡ length self.now.entries }
+        ensures small { result < 2 ^ 63 }
         ensures keep { AllKeep self.now.entries }
     {
         self.parts.entries.len()

@@ -294,7 +294,6 @@ fn add_heard<R: Relation>(
     matter: Matter,
     brought: Brought<R>,
 ) -> Result<(), AllocError>
-    requires room { length brought.draft.entries ≤ s.old.journal.room }
     requires few { length s.old.journal.entries + length brought.draft.entries ≤ MAX_ENTRIES }
     requires ordered { IsOrdered (state_of s.old) }
     requires issued { s.old.issued < 4294967295 }
@@ -310,8 +309,7 @@ fn add_heard<R: Relation>(
         ≡ with_heard moment peer heeding matter x new brought.draft (state_of s.old)) }
     ensures bytes { OnOk result
         (s.new.bytes ≡ capped (s.old.bytes + capped (sum_by entry_size brought.draft.entries))) }
-    ensures room { OnOk result
-        (s.new.journal.room + length brought.draft.entries ≡ s.old.journal.room) }
+    ensures held { OnOk result (length s.old.conns.items + 1 ≤ s.new.journal.room) }
     ensures answers { OnOk result (given_in s.new ≡ given_in s.old ++ brought.draft.answers) }
     ensures sends { OnOk result (outgoing s.new ≡ outgoing s.old ++ brought.draft.sends) }
     ensures same { OnErr result (SeesSame s.old s.new) }

@@ -46,7 +46,8 @@ fn add_conn<R: Relation>(s: &mut State<R>, moment: u64) -> u32
     id
 }
 
-/// Opens a connection at this moment.
+/// Opens a connection at this moment. There have to be places for its Opened and its Shut, beside those
+/// that are held for the other connections and the Sealed.
 pub fn open<R: Relation>(s: &mut State<R>, moment: u64) -> Result<u32, OpenFault>
     requires sound { IsSound s.old }
     requires later { s.old.moment ≤ moment }
@@ -64,6 +65,7 @@ pub fn open<R: Relation>(s: &mut State<R>, moment: u64) -> Result<u32, OpenFault
         seal(s, moment);
         return Err(OpenFault::Sealed);
     }
+    s.journal.make_room(s.conns.len() + 3)?;
     s.conns.try_reserve(1)?;
     let id = add_conn(s, moment);
     Ok(id)

@@ -179,14 +179,13 @@ pub fn pass<R: Relation>(s: &mut State<R>, passing: Passing<R>, moment: u64)
     requires ready { AreTurns moment passing.gone.items
         s.old.endpoints.links s.old.endpoints.rooms passing.turns.items }
     requires places { HasPlaces s.old passing.draft }
-    requires room { length passing.draft.entries ≤ s.old.journal.room }
     requires few { length s.old.journal.entries + length passing.draft.entries ≤ MAX_ENTRIES }
     requires ordered { IsOrdered (state_of s.old) }
     ensures state { state_of s.new ≡ moved_on moment (is_among passing.gone.items)
         passing.over.items passing.still.exchanges passing.draft (state_of s.old) }
     ensures bytes { s.new.bytes
         ≡ capped (s.old.bytes + capped (sum_by entry_size passing.draft.entries)) }
-    ensures room { s.new.journal.room + length passing.draft.entries ≡ s.old.journal.room }
+    ensures held { length s.old.conns.items + 1 ≤ s.new.journal.room }
     ensures answers { given_in s.new ≡ given_in s.old ++ passing.draft.answers }
     ensures sends { outgoing s.new ≡ outgoing s.old ++ passing.draft.sends }
 {

@@ -5,7 +5,7 @@
 //! which changes nothing where it is refused, and takes no snapshot; one who makes several steps for
 //! an input does.
 
-ghost use Rattle.std.specs.Prelude.{◌≡◌, ◌≤◌, ◌+◌, length, map, take, IfOk};
+ghost use Rattle.std.specs.Prelude.{◌≡◌, ◌≤◌, ◌+◌, length, map, min, take, IfOk};
 ghost use Rattle.exchange_core.specs.Answering.{given_of};
 ghost use Rattle.exchange_core.specs.Snapshots.{IsOf, restored};
 ghost use Rattle.exchange_core.specs.Sound.{IsSound};
@@ -132,7 +132,8 @@ pub fn put_back<R: Relation>(s: &mut State<R>, snapshot: Snapshot<R>)
         ≡ restored (take snapshot.count s.old.journal.entries) snapshot }
     ensures bytes { s.new.bytes ≡ snapshot.bytes }
     ensures room { snapshot.count ≤ length s.old.journal.entries
-        → s.new.journal.room + snapshot.count ≡ s.old.journal.room + length s.old.journal.entries }
+        → min (s.old.journal.room + length s.old.journal.entries) (snapshot.count + 1024)
+        ≤ s.new.journal.room + snapshot.count }
     ensures answers { given_in s.new ≡ snapshot.answers }
     ensures sends { outgoing s.new ≡ snapshot.unsent }
 {

@@ -142,12 +142,15 @@ fn put_sends(sends: &mut VecDeque<Datagram>, more: VecDeque<Datagram>)
     }
 }
 
-/// Makes places for the datagrams and the answers of a draft.
+/// Makes places for the entries, the datagrams and the answers of a draft. Behind the entries a place is
+/// held for the Shut of each connection, and one for the Sealed.
 pub fn make_places<R: Relation>(s: &mut State<R>, draft: &Draft<R>) -> Result<(), AllocError>
     ensures same { SeesSame s.old s.new }
     ensures endpoints { s.new.endpoints ≡ s.old.endpoints }
     ensures places { OnOk result (HasPlaces s.new draft.now) }
 {
+    let held = s.conns.len().saturating_add(1);
+    s.journal.make_room(draft.len().saturating_add(held))?;
     s.answers.try_reserve(draft.answer_count())?;
     s.sends.reserve(draft.send_count())?;
     Ok(())
@@ -156,12 +159,11 @@ pub fn make_places<R: Relation>(s: &mut State<R>, draft: &Draft<R>) -> Result<()
 /// Adds what was drafted at this moment, for which there are places.
 pub fn commit<R: Relation>(s: &mut State<R>, draft: Draft<R>, moment: u64)
     requires places { HasPlaces s.old draft }
-    requires room { length draft.entries ≤ s.old.journal.room }
     requires few { length s.old.journal.entries + length draft.entries ≤ MAX_ENTRIES }
     requires ordered { IsOrdered (state_of s.old) }
     ensures state { state_of s.new ≡ with_draft moment draft (state_of s.old) }
     ensures bytes { s.new.bytes ≡ capped (s.old.bytes + capped (sum_by entry_size draft.entries)) }
-    ensures room { s.new.journal.room + length draft.entries ≡ s.old.journal.room }
+    ensures held { length s.old.conns.items + 1 ≤ s.new.journal.room }
     ensures answers { given_in s.new ≡ given_in s.old ++ draft.answers }
     ensures sends { outgoing s.new ≡ outgoing s.old ++ draft.sends }
     ensures fewer { vec_len s.new.readers ≤ vec_len s.old.readers }

@@ -9,6 +9,7 @@ pub use Rattle.exchange_model.proofs.Entered.{entered-both, entries-more, sent-b
 pub use Rattle.exchange_model.proofs.Grown.{asks-add, asks-answer, conns-both, hears-add, hears-answer, opens-add, opens-alone, ticks-add, ticks-answer}
 pub use Rattle.exchange_model.proofs.Heeded.{garbled-enters, message-enters, given-conns, next-conns}
 pub use Rattle.exchange_model.proofs.Heeding.{is-bytes}
+pub use Rattle.exchange_model.proofs.Held.{held-before}
 pub use Rattle.exchange_model.proofs.InRoom.{asks-in-room, fits-parts, hears-in-room, opens-in-room, shuts-in-room, start-in-room, ticks-in-room, ticks-promptly, within-limits}
 pub use Rattle.exchange_model.proofs.Known.{readers-known, readers-rise, store-heard}
 pub use Rattle.exchange_model.proofs.Readers.{Apart}

@@ -81,5 +81,6 @@ mod Alone
 mod InRoom
 mod Grown
 mod Numbered
+mod Held
 mod OverTold
 mod Works

@@ -16,11 +16,11 @@ above : (k a n : ℕ) → k < a → AllByRecursion (λ (m : ℕ). k < m) (range_
 above k a zero h = tt
 above k a (suc n) h = (h, above k (a + 1) n (omega (arith, h)))
 
-range-rises : (a n : ℕ) → Rising (range_with_len a n)
+pub range-rises : (a n : ℕ) → Rising (range_with_len a n)
 range-rises a zero = tt
 range-rises a (suc n) = (above a (a + 1) n (omega arith), range-rises (a + 1) n)
 
-rise : (xs : List Conn) → Rising (map id_of xs) → Rise xs
+pub rise : (xs : List Conn) → Rising (map id_of xs) → Rise xs
 rise [] h = tt
 rise (x ∷ xs) h = (all-mapped id_of (λ (n : ℕ). x.id < n) xs h.0, rise xs h.1)
 

@@ -4,7 +4,7 @@ use Rattle.exchange_core.specs.Places.{IsOrdered}
 use Rattle.exchange_core.specs.States.{state_of}
 use Rattle.exchange_core.proofs.BeginSound.{issued-below, leaves}
 use Rattle.exchange_core.proofs.Ordered.{conns-ordered, ordered}
-use Rattle.exchange_core.proofs.Sounding.{room-for}
+use Rattle.exchange_core.proofs.Sounding.{few-for}
 use Rattle.exchange_core.proofs.beginning.enter.Goals as goal
 
 pub add_exchange-requires-clause-issued : goal.add_exchange-requires-clause-issued
@@ -13,17 +13,10 @@ add_exchange-requires-clause-issued g c =
     let lt = issued-below _ _ _ _ c.requires.sound in
     omega (arith, is, lt)
 
-pub add_exchange-requires-clause-room : goal.add_exchange-requires-clause-room
-add_exchange-requires-clause-room g c =
-    let fit = sym (c.in_ok-taken.ensures c.args.moment) ∙ c.if-not-taken.false in
-    let left = (room-for c.args.moment (state_of c.args.s.now) _ _ _ c.args.draft c.requires.sound fit).0 in
-    let room = c.make_all_places.ensures.same.room in
-    omega (arith, left, room)
-
 pub add_exchange-requires-clause-few : goal.add_exchange-requires-clause-few
 add_exchange-requires-clause-few g c =
     let fit = sym (c.in_ok-taken.ensures c.args.moment) ∙ c.if-not-taken.false in
-    let left = (room-for c.args.moment (state_of c.args.s.now) _ _ _ c.args.draft c.requires.sound fit).1 in
+    let left = few-for c.args.moment (state_of c.args.s.now) c.args.draft fit in
     let same = ap (λ (S : State). length S.entries) c.make_all_places.ensures.same.state in
     omega (arith, left, same)
 
@@ -46,5 +39,5 @@ returns g c =
     let e = c.add_exchange.ensures in (
       sym (c.in_ok-taken.ensures c.args.moment) ∙ c.if-not-taken.false,
       leaves c.args.moment c.args.exchange c.args.reader c.args.submission.waiting c.args.draft c.args.s.now c.make_all_places.new.s c.add_exchange.new.s c.make_all_places.ensures.same
-          (record { state = e.state; bytes = e.bytes; room = e.room; answers = e.answers; sends = e.sends }),
+          (record { state = e.state; bytes = e.bytes; held = e.held; answers = e.answers; sends = e.sends }),
     )

@@ -9,7 +9,7 @@ use Rattle.exchange_core.proofs.Heard.{next-timed}
 use Rattle.exchange_core.proofs.Heeds.{bytes-small}
 use Rattle.exchange_core.proofs.HeardSteps.{newest-in, sound-sealed, seen-sealed, sound-heard, seen-heard, tells-so}
 use Rattle.exchange_core.proofs.Readers.{few-readers}
-use Rattle.exchange_core.proofs.Sounding.{room-for}
+use Rattle.exchange_core.proofs.Sounding.{few-for}
 use Rattle.exchange_core.proofs.hearing.take.Goals as goal
 
 pub matter_of-requires-clause-few : goal.matter_of-requires-clause-few
@@ -56,15 +56,10 @@ add_heard-requires-clause-follows g c = c.in_ok-matter.ensures.follows
 pub add_heard-requires-clause-known : goal.add_heard-requires-clause-known
 add_heard-requires-clause-known g c = c.requires.hears.known
 
-pub add_heard-requires-clause-room : goal.add_heard-requires-clause-room
-add_heard-requires-clause-room g c =
-    (room-for c.args.moment (state_of c.args.s.now) _ _ _ c.in_ok-brought.brought.draft c.requires.sound
-    (sym (c.in_ok-taken.ensures c.args.moment) ∙ c.if-not-taken.false)).0
-
 pub add_heard-requires-clause-few : goal.add_heard-requires-clause-few
 add_heard-requires-clause-few g c =
-    (room-for c.args.moment (state_of c.args.s.now) _ _ _ c.in_ok-brought.brought.draft c.requires.sound
-    (sym (c.in_ok-taken.ensures c.args.moment) ∙ c.if-not-taken.false)).1
+    few-for c.args.moment (state_of c.args.s.now) c.in_ok-brought.brought.draft
+    (sym (c.in_ok-taken.ensures c.args.moment) ∙ c.if-not-taken.false)
 
 pub returns-then-not-taken-clause-sound : goal.returns-then-not-taken-clause-sound
 returns-then-not-taken-clause-sound g c =
@@ -98,7 +93,7 @@ returns-clause-sound g c =
     c.requires.hears refl c.in_ok-matter.matter made
     c.in_ok-brought.brought.draft (c.in_ok-brought.ensures.drafted made.numbers _ made.is) _ _ _ _
     (sym (c.in_ok-taken.ensures c.args.moment) ∙ c.if-not-taken.false)
-    (e.state made.numbers _ made.is (c.in_ok-brought.ensures.put made.numbers _ made.is)) e.bytes e.room e.answers
+    (e.state made.numbers _ made.is (c.in_ok-brought.ensures.put made.numbers _ made.is)) e.bytes e.held e.answers
 
 pub returns-clause-heard : goal.returns-clause-heard
 returns-clause-heard g c =

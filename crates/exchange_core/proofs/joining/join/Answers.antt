@@ -10,7 +10,7 @@ use Rattle.exchange_core.specs.States.{state_of, given_in, outgoing, with_draft}
 use Rattle.exchange_core.specs.Values.{Outgoing}
 use Rattle.exchange_core.proofs.Joins.{join-sealed, join-seals, join-sound, join-steps, reader_of, with_reader}
 use Rattle.exchange_core.proofs.Ordered.{conns-ordered, ordered}
-use Rattle.exchange_core.proofs.Sounding.{room-for}
+use Rattle.exchange_core.proofs.Sounding.{few-for}
 use Rattle.exchange_core.proofs.joining.join.Goals as goal
 
 pub takes-requires-clause-ordered : goal.takes-requires-clause-ordered
@@ -32,17 +32,10 @@ returns-then-not-taken-clause-is g c = λ ne n.
     _ _ _ (outgoing c.args.s.now) c.requires.sound c.requires.unsealed c.requires.joins c.in_ok-draft.ensures.answers
     (state_of c.seal.new.s) (given_in c.seal.new.s) (outgoing c.seal.new.s) n fit e.state e.answers e.sends
 
-pub commit-requires-clause-room : goal.commit-requires-clause-room
-commit-requires-clause-room g c =
-    let t = c.args.moment in
-    let left = (room-for t (state_of c.args.s.now) _ _ _ c.in_ok-draft.draft c.requires.sound (sym (c.in_ok-taken.ensures t) ∙ c.if-not-taken.false)).0 in
-    let same = c.make_places.ensures.same.room in
-    omega (arith, left, same)
-
 pub commit-requires-clause-few : goal.commit-requires-clause-few
 commit-requires-clause-few g c =
     let t = c.args.moment in
-    let left = (room-for t (state_of c.args.s.now) _ _ _ c.in_ok-draft.draft c.requires.sound (sym (c.in_ok-taken.ensures t) ∙ c.if-not-taken.false)).1 in
+    let left = few-for t (state_of c.args.s.now) c.in_ok-draft.draft (sym (c.in_ok-taken.ensures t) ∙ c.if-not-taken.false) in
     let same = ap (λ (V : State). length V.entries) c.make_places.ensures.same.state in
     omega (arith, left, same)
 
@@ -77,7 +70,7 @@ returns-clause-sound g c =
     _ _ _ (outgoing c.args.s.now) c.requires.sound c.requires.unsealed c.requires.joins c.in_ok-draft.ensures.answers
     _ _ _ _ c.requires.early fit new
     (e.bytes ∙ ap (λ (b : ℕ). capped (b + capped (sum_by entry_size d.entries))) m.bytes)
-    (e.room ∙ m.room) (e.answers ∙ ap (λ (gs : List Given). gs ++ d.answers) m.answers)
+    (let held = e.held in let conns = ap (λ (V : State). length V.conns) m.state in omega (arith, held, conns)) (e.answers ∙ ap (λ (gs : List Given). gs ++ d.answers) m.answers)
 
 pub returns-clause-is : goal.returns-clause-is
 returns-clause-is g c = λ ne n.

@@ -15,7 +15,7 @@ use Rattle.exchange_core.specs.States.{state_of, given_in, outgoing, with_draft,
 use Rattle.exchange_core.specs.Values.{Outgoing, stepped}
 use Rattle.exchange_core.proofs.Ordered.{conns-ordered, ordered}
 use Rattle.exchange_core.proofs.Refusals.{asks-entered, asks-sealed, refusal-so}
-use Rattle.exchange_core.proofs.Sounding.{sound-drafted, room-for, sound-seal, first-of, second-of}
+use Rattle.exchange_core.proofs.Sounding.{sound-drafted, few-for, sound-seal, first-of, second-of}
 use Rattle.exchange_core.proofs.Stepping.{committed, stepped-seal, with-draft, same-core}
 use Rattle.exchange_core.proofs.refusing.refuse.Goals as goal
 
@@ -27,7 +27,7 @@ returns-then-not-taken-clause-sound g c =
     let U : State = entered_all t (refusal_deeds c.args.conn (ask_of (arc_value c.args.mapped)) c.args.cause S) S in
     let is = with-draft t S _ _ c.in_ok-draft.draft c.in_ok-draft.ensures.drafts in
     let fit = sym (ap fits is) ∙ sym (c.in_ok-taken.ensures t) ∙ c.if-not-taken.true in
-    sound-seal t S _ _ _ _ _ _ _ c.requires.sound (second-of (fits U) U (seals t S) fit c.requires.refused.kept)
+    sound-seal t S _ _ _ _ _ _ _ c.requires.sound c.requires.unsealed (second-of (fits U) U (seals t S) fit c.requires.refused.kept)
     c.requires.early e.state e.bytes e.room e.answers
 
 pub returns-then-not-taken-clause-is : goal.returns-then-not-taken-clause-is
@@ -43,17 +43,10 @@ returns-then-not-taken-clause-is g c = λ ne n.
     ∙ ap (λ (V : State). stepped V (core_of S (given_in c.args.s.now) (outgoing c.args.s.now)))
     (sym (asks-sealed t c.args.conn (ask_of (arc_value c.args.mapped)) n S U c.requires.unsealed (c.requires.refused.is n) fit))
 
-pub commit-requires-clause-room : goal.commit-requires-clause-room
-commit-requires-clause-room g c =
-    let t = c.args.moment in
-    let left = (room-for t (state_of c.args.s.now) _ _ _ c.in_ok-draft.draft c.requires.sound (sym (c.in_ok-taken.ensures t) ∙ c.if-not-taken.false)).0 in
-    let same = c.make_places.ensures.same.room in
-    omega (arith, left, same)
-
 pub commit-requires-clause-few : goal.commit-requires-clause-few
 commit-requires-clause-few g c =
     let t = c.args.moment in
-    let left = (room-for t (state_of c.args.s.now) _ _ _ c.in_ok-draft.draft c.requires.sound (sym (c.in_ok-taken.ensures t) ∙ c.if-not-taken.false)).1 in
+    let left = few-for t (state_of c.args.s.now) c.in_ok-draft.draft (sym (c.in_ok-taken.ensures t) ∙ c.if-not-taken.false) in
     let same = ap (λ (V : State). length V.entries) c.make_places.ensures.same.state in
     omega (arith, left, same)
 
@@ -82,7 +75,7 @@ returns-clause-sound g c =
     (ap (λ (V : State). V.entries) (sym is)) c.requires.early (ap (λ (V : State). V.conns) (sym is))
     (first-of (fits U) U (seals t S) fit c.requires.refused.kept) (record { once = drained.once; out = drained.out })
     (e.bytes ∙ ap (λ (b : ℕ). capped (b + capped (sum_by entry_size d.entries))) m.bytes)
-    (e.room ∙ m.room) (e.answers ∙ ap (λ (gs : List Given). gs ++ d.answers) m.answers))
+    (let held = e.held in let conns = ap (λ (V : State). length V.conns) m.state in omega (arith, held, conns)) (e.answers ∙ ap (λ (gs : List Given). gs ++ d.answers) m.answers))
 
 pub returns-clause-is : goal.returns-clause-is
 returns-clause-is g c = λ ne n.

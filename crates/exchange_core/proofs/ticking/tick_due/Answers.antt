@@ -21,7 +21,7 @@ use Rattle.exchange_core.proofs.Stepping.{committed, same-core}
 use Rattle.exchange_core.proofs.TickSound.{sees-sound}
 use Rattle.exchange_core.proofs.TickSteps.{when-fits, when-full, fits-in-room, tick-drained, tick-fits, tick-moved}
 use Rattle.exchange_core.proofs.Ordered.{exchanges-ordered, ordered}
-use Rattle.exchange_core.proofs.Sounding.{room-for, sound-drafted}
+use Rattle.exchange_core.proofs.Sounding.{few-for, sound-drafted}
 use Rattle.exchange_core.proofs.ticking.tick_due.Goals as goal
 
 pub takes-requires-clause-unsealed : goal.takes-requires-clause-unsealed
@@ -101,18 +101,6 @@ pass-requires-clause-rising g c =
     (rise-filter opening_of (expires c.args.moment S.links) S.exchanges
     (exchanges-ordered S c.requires.sound.kept.kept))
 
-pub pass-requires-clause-room : goal.pass-requires-clause-room
-pass-requires-clause-room g c =
-    let t = c.args.moment in
-    let same = c.in_ok-passing.ensures.same in
-    let d = c.in_ok-passing.passing.draft in
-    let fit = ap (λ (V : State). fits (with_draft t d V)) (sym same.state)
-    ∙ sym (c.in_ok-taken.ensures t) ∙ c.if-not-taken.false in
-    let left = (room-for t (state_of c.args.s.now) _ _ _ d c.requires.sound fit).0 in
-    let there = c.in_ok-make_places.ensures.same.room in
-    let before = same.room in
-    omega (arith, left, there, before)
-
 pub pass-requires-clause-few : goal.pass-requires-clause-few
 pass-requires-clause-few g c =
     let t = c.args.moment in
@@ -120,7 +108,7 @@ pass-requires-clause-few g c =
     let d = c.in_ok-passing.passing.draft in
     let fit = ap (λ (V : State). fits (with_draft t d V)) (sym same.state)
     ∙ sym (c.in_ok-taken.ensures t) ∙ c.if-not-taken.false in
-    let left = (room-for t (state_of c.args.s.now) _ _ _ d c.requires.sound fit).1 in
+    let left = few-for t (state_of c.args.s.now) d fit in
     let there = ap (λ (V : State). length V.entries) c.in_ok-make_places.ensures.same.state in
     let before = ap (λ (V : State). length V.entries) same.state in
     omega (arith, left, there, before)
@@ -164,7 +152,7 @@ returns-clause-sound g c =
     (subst KeptInRoom (sym is) (fits-in-room t S q.sound.kept q.later q.unsealed fit))
     (subst IsDrained (sym is) (tick-drained t S may q.sound.drained q.due))
     (c.pass.ensures.bytes ∙ rw (there.bytes, same.bytes) refl)
-    (c.pass.ensures.room ∙ there.room ∙ same.room)
+    (let held = c.pass.ensures.held in let conns = ap (λ (V : State). length V.conns) (there.state ∙ same.state) in omega (arith, held, conns))
     (c.pass.ensures.answers ∙ rw (there.answers, same.answers) refl))
 
 pub returns-clause-ticks : goal.returns-clause-ticks

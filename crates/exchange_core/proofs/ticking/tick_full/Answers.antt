@@ -9,22 +9,10 @@ use Rattle.exchange_core.specs.Sound.{SoundState}
 use Rattle.exchange_core.specs.States.{state_of, seen, given_in, outgoing, with_draft, core_of}
 use Rattle.exchange_core.specs.Values.{stepped}
 use Rattle.exchange_core.proofs.Ordered.{ordered}
-use Rattle.exchange_core.proofs.Sounding.{room-in, sound-drafted}
+use Rattle.exchange_core.proofs.Sounding.{few-in, sound-drafted}
 use Rattle.exchange_core.proofs.Stepping.{committed}
 use Rattle.exchange_core.proofs.TickSound.{sealed-late, seals-drained, seals-late-in-room}
 use Rattle.exchange_core.proofs.ticking.tick_full.Goals as goal
-
-pub commit-requires-clause-room : goal.commit-requires-clause-room
-commit-requires-clause-room g c =
-    let t = c.args.moment in
-    let S : State = state_of c.args.s.now in
-    let q = c.requires in
-    let d = c.in_ok-draft.draft in
-    let is = sealed-late t S d c.in_ok-draft.ensures.drafts in
-    let room = (room-in S (let U = with_draft t d S in record U { sealed = true }) _ _ _ d q.sound refl
-    (subst KeptInRoom (sym is) (seals-late-in-room t S q.sound.kept q.later q.unsealed q.full))).0 in
-    let same = c.in_ok-make_places.ensures.same.room in
-    omega (arith, room, same)
 
 pub commit-requires-clause-few : goal.commit-requires-clause-few
 commit-requires-clause-few g c =
@@ -33,8 +21,8 @@ commit-requires-clause-few g c =
     let q = c.requires in
     let d = c.in_ok-draft.draft in
     let is = sealed-late t S d c.in_ok-draft.ensures.drafts in
-    let few = (room-in S (let U = with_draft t d S in record U { sealed = true }) _ _ _ d q.sound refl
-    (subst KeptInRoom (sym is) (seals-late-in-room t S q.sound.kept q.later q.unsealed q.full))).1 in
+    let few = few-in S (let U = with_draft t d S in record U { sealed = true }) d refl
+    (subst KeptInRoom (sym is) (seals-late-in-room t S q.sound.kept q.later q.unsealed q.full)) in
     let same = ap (λ (V : State). length V.entries) c.in_ok-make_places.ensures.same.state in
     omega (arith, few, same)
 
@@ -57,7 +45,8 @@ returns-clause-sound g c =
     c.in_ok-draft.ensures refl q.early refl
     (subst KeptInRoom (sym is) (seals-late-in-room t S q.sound.kept q.later q.unsealed q.full))
     (subst IsDrained (sym is) (seals-drained t S q.sound.drained))
-    (c.commit.ensures.bytes ∙ rw (same.bytes) refl) (c.commit.ensures.room ∙ same.room)
+    (c.commit.ensures.bytes ∙ rw (same.bytes) refl)
+    (let held = c.commit.ensures.held in let conns = ap (λ (V : State). length V.conns) same.state in omega (arith, held, conns))
     (c.commit.ensures.answers ∙ rw (same.answers) refl))
 
 pub returns-clause-ticks : goal.returns-clause-ticks

@@ -9,7 +9,7 @@ use Rattle.exchange_core.specs.Sound.{SoundState}
 use Rattle.exchange_core.specs.States.{state_of, seen, given_in, outgoing, with_draft, core_of}
 use Rattle.exchange_core.specs.Values.{stepped}
 use Rattle.exchange_core.proofs.Ordered.{ordered}
-use Rattle.exchange_core.proofs.Sounding.{room-in, sound-drafted}
+use Rattle.exchange_core.proofs.Sounding.{few-in, sound-drafted}
 use Rattle.exchange_core.proofs.Stepping.{committed, stepped-same}
 use Rattle.exchange_core.proofs.TickSound.{with-none, with-some, late-is, late-drained, late-in-room}
 use Rattle.exchange_core.proofs.ticking.tick_sealed.Goals as goal
@@ -24,20 +24,6 @@ returns-then-len-eq0-clause-ticks g c =
     sym (ap (λ (V : State). stepped V (seen c.args.s.now)) stays
     ∙ stepped-same S (given_in c.args.s.now) (outgoing c.args.s.now))
 
-pub commit-requires-clause-room : goal.commit-requires-clause-room
-commit-requires-clause-room g c =
-    let t = c.args.moment in
-    let S : State = state_of c.args.s.now in
-    let d = c.in_ok-draft.draft in
-    let count : c.len.result ≡ length d.entries = c.len.ensures.len in
-    let other = c.if-len-eq0.false in
-    let some : 0 < length d.entries = omega (arith, count, other) in
-    let is = with-some t S (late_deeds t S) d c.in_ok-draft.ensures.drafts some ∙ sym (late-is t S) in
-    let room = (room-in S (with_draft t d S) _ _ _ d c.requires.sound refl
-    (subst KeptInRoom (sym is) (late-in-room t S c.requires.sound.kept c.requires.later c.requires.sealed))).0 in
-    let same = c.in_ok-make_places.ensures.same.room in
-    omega (arith, room, same)
-
 pub commit-requires-clause-few : goal.commit-requires-clause-few
 commit-requires-clause-few g c =
     let t = c.args.moment in
@@ -47,8 +33,8 @@ commit-requires-clause-few g c =
     let other = c.if-len-eq0.false in
     let some : 0 < length d.entries = omega (arith, count, other) in
     let is = with-some t S (late_deeds t S) d c.in_ok-draft.ensures.drafts some ∙ sym (late-is t S) in
-    let few = (room-in S (with_draft t d S) _ _ _ d c.requires.sound refl
-    (subst KeptInRoom (sym is) (late-in-room t S c.requires.sound.kept c.requires.later c.requires.sealed))).1 in
+    let few = few-in S (with_draft t d S) d refl
+    (subst KeptInRoom (sym is) (late-in-room t S c.requires.sound.kept c.requires.later c.requires.sealed)) in
     let same = ap (λ (V : State). length V.entries) c.in_ok-make_places.ensures.same.state in
     omega (arith, few, same)
 
@@ -72,7 +58,8 @@ returns-clause-sound g c =
     (sound-drafted t S (with_draft t d S) _ _ _ _ _ _ _ d q.sound c.in_ok-draft.ensures refl q.early refl
     (subst KeptInRoom (sym is) (late-in-room t S q.sound.kept q.later q.sealed))
     (subst IsDrained (sym is) (late-drained t S q.sound.drained))
-    (c.commit.ensures.bytes ∙ rw (same.bytes) refl) (c.commit.ensures.room ∙ same.room)
+    (c.commit.ensures.bytes ∙ rw (same.bytes) refl)
+    (let held = c.commit.ensures.held in let conns = ap (λ (V : State). length V.conns) same.state in omega (arith, held, conns))
     (c.commit.ensures.answers ∙ rw (same.answers) refl))
 
 pub returns-clause-ticks : goal.returns-clause-ticks
