@@ -31,7 +31,8 @@ use Rattle.three_parties.specs.declared.story.Execution.{Execution}
 use Rattle.three_parties.specs.declared.turn.Turn.{Turn}
 use Rattle.three_parties.proofs.Calls.{is-given}
 use Rattle.three_parties.proofs.Lists.{all-from}
-use Rattle.three_parties.proofs.Telling.{IsBroughtBy, IsDone, IsDoneBy, Tale, no-tale, turns-told}
+use Rattle.three_parties.proofs.Tales.{IsBroughtBy, IsDone, IsDoneBy, Tale, no-tale}
+use Rattle.three_parties.proofs.Telling.{turns-told}
 
 module _ (R : Relation) (first : Device) (s : Scene) (tale : Tale R first s) (stands : Stands s.world.core.state.entries)
     (punctual : ArePunctual stands.reading) (entered : AreEntered s.world.core.state.entries s.flights) where

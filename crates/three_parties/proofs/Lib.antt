@@ -1,5 +1,8 @@
 pub mod Lists
 pub mod Calls
+pub mod Tales
+pub mod Giving
+pub mod Calling
 pub mod Telling
 pub mod Executing
 pub mod Sending
