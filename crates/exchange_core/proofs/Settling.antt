@@ -69,39 +69,39 @@ settled-put ws (Some e) f ps =
 
 -- what is told, as it is stored
 
-content-told : (ws : List Written) (t n : ℕ) (how : Ending) (sending : Option ℕ) (r : Reader)
-    → stored_for ws t (told_as how) (grounds_for how n sending r) ≡ content_by ws t how
-content-told ws t n (Whole w []) sending r = refl
-content-told ws t n (Whole w (x ∷ xs)) sending r = refl
-content-told ws t n NotUnderstood sending r = refl
-content-told ws t n Reset sending r = refl
-content-told ws t n TimedOut sending r = refl
-content-told ws t n Turned sending r = refl
+content-told : (ws : List Written) (t o n : ℕ) (how : Ending) (sending : Option ℕ) (r : Reader)
+    → stored_for ws t o (told_as how) (grounds_for how n sending r) ≡ content_by ws t o how
+content-told ws t o n (Whole w []) sending r = refl
+content-told ws t o n (Whole w (x ∷ xs)) sending r = refl
+content-told ws t o n NotUnderstood sending r = refl
+content-told ws t o n Reset sending r = refl
+content-told ws t o n TimedOut sending r = refl
+content-told ws t o n Turned sending r = refl
 
-none_told : (ws : List Written) (t : ℕ) (w : Response) (g : Grounds) (b : Bool) → cond b (Some w) None ≡ None → eqb w.code 69 ≡ b → stored_for ws t (Tells w) g ≡ None
-none_told ws t w g true e is = absurd cc
-none_told ws t w (Live []) false e is = refl
-none_told ws t w (Live (j ∷ js)) false e is = rw (is) refl
-none_told ws t w (Kept js) false e is = refl
-none_told ws t w (Fault c k) false e is = refl
+none_told : (ws : List Written) (t o : ℕ) (w : Response) (g : Grounds) (b : Bool) → cond b (Some w) None ≡ None → eqb w.code 69 ≡ b → stored_for ws t o (Tells w) g ≡ None
+none_told ws t o w g true e is = absurd cc
+none_told ws t o w (Live []) false e is = refl
+none_told ws t o w (Live (j ∷ js)) false e is = rw (is) refl
+none_told ws t o w (Kept js) false e is = refl
+none_told ws t o w (Fault c k) false e is = refl
 
-pub stored-none : (ws : List Written) (t : ℕ) (told : Told) (g : Grounds) → content_told told ≡ None → stored_for ws t told g ≡ None
-stored-none ws t (Fails cause) g e = refl
-stored-none ws t (Tells w) g e = none_told ws t w g (eqb w.code 69) e refl
+pub stored-none : (ws : List Written) (t o : ℕ) (told : Told) (g : Grounds) → content_told told ≡ None → stored_for ws t o told g ≡ None
+stored-none ws t o (Fails cause) g e = refl
+stored-none ws t o (Tells w) g e = none_told ws t o w g (eqb w.code 69) e refl
 
-some_told : (ws : List Written) (t : ℕ) (w v : Response) (j : ℕ) (js : List ℕ) (b : Bool) → cond b (Some w) None ≡ Some v
-    → cond b (Some (stored_of w (moment_in ws t j) (j ∷ js))) None ≡ Some (stored_of v (moment_in ws t j) (j ∷ js))
-some_told ws t w v j js true e = ap (λ (u : Option Response). stored_by u) e
+some_told : (ws : List Written) (t o : ℕ) (w v : Response) (j : ℕ) (js : List ℕ) (b : Bool) → cond b (Some w) None ≡ Some v
+    → cond b (Some (stored_of w o (moment_in ws t j) (j ∷ js))) None ≡ Some (stored_of v o (moment_in ws t j) (j ∷ js))
+some_told ws t o w v j js true e = ap (λ (u : Option Response). stored_by u) e
   where
     stored_by : Option Response → Option Stored
     stored_by None = None
-    stored_by (Some u) = Some (stored_of u (moment_in ws t j) (j ∷ js))
-some_told ws t w v j js false e = absurd cc
+    stored_by (Some u) = Some (stored_of u o (moment_in ws t j) (j ∷ js))
+some_told ws t o w v j js false e = absurd cc
 
-pub stored-some : (ws : List Written) (t : ℕ) (told : Told) (v : Response) (j : ℕ) (js : List ℕ) → content_told told ≡ Some v
-    → stored_for ws t told (Live (j ∷ js)) ≡ Some (stored_of v (moment_in ws t j) (j ∷ js))
-stored-some ws t (Fails cause) v j js e = absurd cc
-stored-some ws t (Tells w) v j js e = some_told ws t w v j js (eqb w.code 69) e
+pub stored-some : (ws : List Written) (t o : ℕ) (told : Told) (v : Response) (j : ℕ) (js : List ℕ) → content_told told ≡ Some v
+    → stored_for ws t o told (Live (j ∷ js)) ≡ Some (stored_of v o (moment_in ws t j) (j ∷ js))
+stored-some ws t o (Fails cause) v j js e = absurd cc
+stored-some ws t o (Tells w) v j js e = some_told ws t o w v j js (eqb w.code 69) e
 
 -- what is put
 
@@ -109,17 +109,17 @@ some_reader : Reader
 some_reader = record { ask = 0; conn = 0; opening = 0 }
 
 pub put-ended : (n t : ℕ) (ws : List Written) (e : Exchange) (f : Found) (how : Ending) → IsEnded n (How.Found f) how
-    → put_for ws (Some e) (stored_for ws t f.told f.grounds) ≡ put_for ws (Some e) (content_by ws t how)
+    → put_for ws (Some e) (stored_for ws t e.opening f.told f.grounds) ≡ put_for ws (Some e) (content_by ws t e.opening how)
 put-ended n t ws e f how i =
-    ap (λ (g : Found). put_for ws (Some e) (stored_for ws t g.told g.grounds)) (i None some_reader)
-    ∙ ap (put_for ws (Some e)) (content-told ws t n how None some_reader)
+    ap (λ (g : Found). put_for ws (Some e) (stored_for ws t e.opening g.told g.grounds)) (i None some_reader)
+    ∙ ap (put_for ws (Some e)) (content-told ws t e.opening n how None some_reader)
 
 pair-none : (key : Option CacheKey) → pair_of key None ≡ None
 pair-none None = refl
 pair-none (Some key) = refl
 
-pub put-turned : (t : ℕ) (ws : List Written) (e : Exchange) (how : Ending) → how ≡ Turned → None ≡ put_for ws (Some e) (content_by ws t how)
-put-turned t ws e how is = sym (ap (λ (u : Ending). put_for ws (Some e) (content_by ws t u)) is ∙ pair-none (key_ended ws (Some e)))
+pub put-turned : (t : ℕ) (ws : List Written) (e : Exchange) (how : Ending) → how ≡ Turned → None ≡ put_for ws (Some e) (content_by ws t e.opening how)
+put-turned t ws e how is = sym (ap (λ (u : Ending). put_for ws (Some e) (content_by ws t e.opening u)) is ∙ pair-none (key_ended ws (Some e)))
 
 -- the store after it
 
@@ -127,7 +127,7 @@ pub stored-over : (n t : ℕ) (ws : List Written) (new : Numbers) (e : Exchange)
     → put ≡ put_in ws t x → settled_with ws (Some e) put ps ≡ store_by ws t x ps
 stored-over n t ws new e ended x put ps i is =
     ap (λ (o : Option Pair). settled_with ws (Some e) o ps) (is ∙ ap (put_in ws t) i.1)
-    ∙ (sym (settled-put ws (Some e) (content_by ws t i.0) ps) ∙ sym (ap (λ (y : Matter). store_by ws t y ps) i.1))
+    ∙ (sym (settled-put ws (Some e) (content_by ws t e.opening i.0) ps) ∙ sym (ap (λ (y : Matter). store_by ws t y ps) i.1))
 
 pub stored-nothing : (n t : ℕ) (ws : List Written) (new : Numbers) (x : Matter) (ps : List Pair) → IsMatter n new M.Nothing x → ps ≡ store_by ws t x ps
 stored-nothing n t ws new x ps i = sym (ap (λ (y : Matter). store_by ws t y ps) i)

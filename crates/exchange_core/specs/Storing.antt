@@ -20,10 +20,10 @@ content_told (Tells w) = if w.code == content then Some w else None
 content_told (Fails cause) = None
 
 -- the whole 2.05 that is told, which counts from the moment of its first reply
-abbrev pub stored_for : List Written → ℕ → Told → Grounds → Option Stored
-stored_for ws t (Tells w) (Live (j ∷ js)) =
-    if w.code == content then Some (stored_of w (moment_in ws t j) (j ∷ js)) else None
-stored_for ws t told grounds = None
+abbrev pub stored_for : List Written → ℕ → ℕ → Told → Grounds → Option Stored
+stored_for ws t o (Tells w) (Live (j ∷ js)) =
+    if w.code == content then Some (stored_of w o (moment_in ws t j) (j ∷ js)) else None
+stored_for ws t o told grounds = None
 
 -- the key of a GET whose exchange has ended and wasn't outrun
 abbrev pub key_got : CoapRequest → Option CacheKey
@@ -44,7 +44,7 @@ put_for ws ended found = pair_of (key_ended ws ended) found
 
 -- what a message puts into the store, which is this to the exchanges
 abbrev pub put_in : List Written → ℕ → Matter → Option Pair
-put_in ws t (Over e how) = put_for ws (Some e) (content_by ws t how)
+put_in ws t (Over e how) = put_for ws (Some e) (content_by ws t e.opening how)
 put_in ws t x = None
 
 -- what is stored after that, or after the end of an exchange that puts nothing

@@ -46,16 +46,17 @@ fn reading_in<'a, R: Relation>(journal: &'a Journal<R>, ended: &Exchange) -> Opt
     asked(journal, ended.opening)?.reading()
 }
 
-/// The whole 2.05 that was found, as it is stored: it counts from the moment of its first reply. It
-/// shares the response.
+/// The whole 2.05 that was found by the exchange with this opening, as it is stored: it counts from the
+/// moment of its first reply. It shares the response.
 fn stored_for<R: Relation>(
     alloc: Global,
     journal: &Journal<R>,
+    opening: u32,
     finding: &Finding,
     moment: u64,
 ) -> Result<Option<StoredResponse>, AllocError>
     ensures { IfOk result (λ o. o
-        ≡ stored_for journal.now.entries moment finding.now.told finding.now.grounds) }
+        ≡ stored_for journal.now.entries moment opening finding.now.told finding.now.grounds) }
 {
     let Some(response) = content_in(finding) else {
         return Ok(None);
@@ -69,7 +70,7 @@ fn stored_for<R: Relation>(
     let heard = first_moment(journal, finding.grounds(), moment);
     let shared = Arc::try_clone(response)?;
     let list = Vec::from_slice(alloc, numbers.as_slice())?;
-    Ok(Some(StoredResponse::new(alloc, shared, heard, list)?))
+    Ok(Some(StoredResponse::new(alloc, shared, opening, heard, list)?))
 }
 
 /// What the exchange puts into the store that ends with what was found: a whole 2.05 to a GET that no
@@ -82,12 +83,13 @@ fn put_found<R: Relation>(
     moment: u64,
 ) -> Result<Option<Pair>, AllocError>
     ensures { IfOk result (λ o. o ≡ put_for journal.now.entries (Some ended.now)
-        (stored_for journal.now.entries moment finding.now.told finding.now.grounds)) }
+        (stored_for journal.now.entries moment ended.now.opening finding.now.told
+        finding.now.grounds)) }
 {
     let Some(reading) = reading_in(journal, ended) else {
         return Ok(None);
     };
-    let Some(stored) = stored_for(alloc, journal, finding, moment)? else {
+    let Some(stored) = stored_for(alloc, journal, ended.opening, finding, moment)? else {
         return Ok(None);
     };
     Ok(Some(Pair {
@@ -106,7 +108,7 @@ fn put_ended<R: Relation>(
 ) -> Result<Option<Pair>, AllocError>
     ensures { (n : ℕ) (how : Ending) → IsEnded n ended.now how
         → IfOk result (λ o. o ≡ put_for journal.now.entries (Some exchange.now)
-        (content_by journal.now.entries moment how)) }
+        (content_by journal.now.entries moment exchange.now.opening how)) }
 {
     match ended {
         Ended::Found(finding) => put_found(alloc, journal, exchange, finding, moment),

@@ -119,7 +119,7 @@ module _ (l : List Noted) (t : ℕ) (p : Peer) (d : List ℕ) (m : Content) (n :
             (λ f a. kept-one l t p (link_of S.links p) d m r.legal f (outrun_by S.entries (e ∷ []) f).current a.0.0
             (other-unhit l t p d m S h none room e over.it f a.0.0 a.1) (current-now x l S r (e ∷ []) ends legal f a.0.0)) others each-other;
         pieces_are = pieces-left;
-        store_is = subst (λ (u : Ending). StoreIn (x ∷ l) (settled S.entries (Some e) (content_by S.entries t u) S.store)) (sym over.same)
+        store_is = subst (λ (u : Ending). StoreIn (x ∷ l) (settled S.entries (Some e) (content_by S.entries t e.opening u) S.store)) (sym over.same)
             (store-settled x l S r legal e over.it.has ends over.real over.ends tt);
         tokens_are = r.tokens_are;
         waiting_are = left-all (λ (f : Exchange). WaitsUnder (link_of _ f.peer).waiting f) (λ f k. k) S.entries (e ∷ []) others

@@ -111,7 +111,7 @@ module _ (x : Noted) (l : List Noted) (S : State) (r : Reads l S) (legal : Legal
 
     -- the pair that it stores
     abbrev pair_of : Response → Reply → List Reply → Pair
-    pair_of w first more = record { key = asked_key q; stored = stored_of w (moment_in S.entries x.written.moment first.number) (numbers (first ∷ more)) }
+    pair_of w first more = record { key = asked_key q; stored = stored_of w e.opening (moment_in S.entries x.written.moment first.number) (numbers (first ∷ more)) }
 
     stored-now : (w : Response) (first : Reply) (more : List Reply) → Ends (x ∷ l) e.opening (length l) (Whole w (first ∷ more)) → w.code ≡ content → is_get q ≡ true → e.current ≡ true
         → PairIn (x ∷ l) (pair_of w first more)
@@ -130,6 +130,7 @@ module _ (x : Noted) (l : List Noted) (S : State) (r : Reads l S) (legal : Legal
         entry = stands.entry;
         heard_in = stands.stands;
         heard = stands.moment;
+        origin = refl;
         list = refl;
       };
     }
@@ -355,23 +356,23 @@ module _ (x : Noted) (l : List Noted) (S : State) (r : Reads l S) (legal : Legal
       other-than u c none get = stays get (λ w rs so g k. no-whole (length l) u w rs (none w rs) (sym c ∙ so.ended))
 
       comes : eqb q.method 1 ≡ true → is_get q ≡ true → e.current ≡ true → (u : Ending) → Ends (x ∷ l) e.opening (length l) u
-          → StoreIn (x ∷ l) (put_by (content_by S.entries x.written.moment (bare_ending u)) (asked_key q) S.store)
+          → StoreIn (x ∷ l) (put_by (content_by S.entries x.written.moment e.opening (bare_ending u)) (asked_key q) S.store)
       comes get is_g current NotUnderstood c = other-than NotUnderstood c (λ w rs f. absurd (cc (f))) get
       comes get is_g current Reset c = other-than Reset c (λ w rs f. absurd (cc (f))) get
       comes get is_g current TimedOut c = other-than TimedOut c (λ w rs f. absurd (cc (f))) get
       comes get is_g current Turned c = other-than Turned c (λ w rs f. absurd (cc (f))) get
       comes get is_g current (Whole w []) c = absurd (rests-on-some (x ∷ l) e.opening (length l) w c)
       comes get is_g current (Whole w (first ∷ more)) c = elim (eqb_tells w.code content) [
-        | inl same ↦ rw (same.0) (subst (λ (ns : List ℕ). StoreIn (x ∷ l) (put_by (Some (stored_of w (moment_in S.entries x.written.moment first.number) (first.number ∷ ns))) (asked_key q) S.store))
+        | inl same ↦ rw (same.0) (subst (λ (ns : List ℕ). StoreIn (x ∷ l) (put_by (Some (stored_of w e.opening (moment_in S.entries x.written.moment first.number) (first.number ∷ ns))) (asked_key q) S.store))
             (sym (numbers-bare more)) (lasting get is_g current w first more c same.1 (lifetime w.max_age == 0) refl))
         | inr other ↦ rw (other.0) (stays get (λ u us so g k. other.1 (ap (λ (z : Response). z.code) (whole-is (length l) w u (first ∷ more) us (sym c ∙ so.ended)) ∙ so.code)))
       ]
 
-      pub store-settled : StoreIn (x ∷ l) (settled S.entries (Some e) (content_by S.entries x.written.moment (bare_ending real)) S.store)
+      pub store-settled : StoreIn (x ∷ l) (settled S.entries (Some e) (content_by S.entries x.written.moment e.opening (bare_ending real)) S.store)
       store-settled = subst (λ (u : Option CoapRequest). StoreIn (x ∷ l) (settled_by u e.current found S.store)) (sym (asked-here l S r e a)) (of (eqb q.method 1) refl)
         where
           found : Option Stored
-          found = content_by S.entries x.written.moment (bare_ending real)
+          found = content_by S.entries x.written.moment e.opening (bare_ending real)
 
           of : (b : Bool) → eqb q.method 1 ≡ b
               → StoreIn (x ∷ l) (cond b (cond (is_get q && e.current) (put_by found (asked_key q) S.store) S.store) (filter (is_elsewhere (asked_place q)) S.store))

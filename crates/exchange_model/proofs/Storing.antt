@@ -46,6 +46,7 @@ stored-stays x l q s legal spares a = record {
   entry = a.entry;
   heard_in = at-keeps x l a.first.number _ a.heard_in;
   heard = a.heard;
+  origin = a.origin;
   list = a.list;
 }
   where
@@ -95,6 +96,7 @@ stored-alike l q r s get other keys a = record {
   entry = a.entry;
   heard_in = a.heard_in;
   heard = a.heard;
+  origin = a.origin;
   list = a.list;
 }
 
@@ -117,6 +119,7 @@ stored-was x l q s legal writes a other = record {
     | inr w ↦ w
   ];
   heard = a.heard;
+  origin = a.origin;
   list = a.list;
 }
   where
@@ -164,7 +167,7 @@ stored-one l q s u legal a b =
     let how = whole-same s.response u.response (a.first ∷ a.more) (b.first ∷ b.more) (ap (λ (e : End). e.how) ends) in
     let first = first-of a.first b.first a.more b.more how.1 in
     let entry : a.entry ≡ b.entry = some-is _ _ (sym a.heard_in ∙ (ap (λ (r : Reply). at l r.number) first ∙ b.heard_in)) in
-    alike s u how.0 (a.heard ∙ (ap (λ (x : Noted). x.written.moment) entry ∙ sym b.heard)) (a.list ∙ (ap numbers how.1 ∙ sym b.list))
+    alike s u how.0 (a.origin ∙ (opening ∙ sym b.origin)) (a.heard ∙ (ap (λ (x : Noted). x.written.moment) entry ∙ sym b.heard)) (a.list ∙ (ap numbers how.1 ∙ sym b.list))
   where
     is-last : (rs : List Reply) (r : Reply) (all : List Reply) → all ≡ rs ++ r ∷ [] → Contains all r
     is-last rs r all e = subst (λ (v : List Reply). Contains v r) (sym e) (Contains-append_right rs (r ∷ []) r (zero, omega arith, refl))
@@ -175,11 +178,12 @@ stored-one l q s u legal a b =
     first-of : (f g : Reply) (fs gs : List Reply) → (f ∷ fs) ≡ (g ∷ gs) → f ≡ g
     first-of f g fs gs e = cc
 
-    alike : (s u : Stored) → s.response ≡ u.response → s.heard ≡ u.heard → s.list ≡ u.list → s ≡ u
-    alike s u e f g =
-        ap (λ (w : Response). record { response = w; heard = s.heard; list = s.list }) e
-        ∙ (ap (λ (t : ℕ). record { response = u.response; heard = t; list = s.list }) f
-        ∙ ap (λ (js : List ℕ). record { response = u.response; heard = u.heard; list = js }) g)
+    alike : (s u : Stored) → s.response ≡ u.response → s.opening ≡ u.opening → s.heard ≡ u.heard → s.list ≡ u.list → s ≡ u
+    alike s u e o f g =
+        ap (λ (w : Response). record { response = w; opening = s.opening; heard = s.heard; list = s.list }) e
+        ∙ (ap (λ (n : ℕ). record { response = u.response; opening = n; heard = s.heard; list = s.list }) o
+        ∙ (ap (λ (t : ℕ). record { response = u.response; opening = u.opening; heard = t; list = s.list }) f
+        ∙ ap (λ (js : List ℕ). record { response = u.response; opening = u.opening; heard = u.heard; list = js }) g))
 
     said : (t v : ℕ) (p r : Peer) (c d : List ℕ) (m n : Content) (i j : ℕ) (f g : Notice) → noted t (Hears p c) (Says m (Some i) f) ≡ noted v (Hears r d) (Says n (Some j) g) → i ≡ j
     said t v p r c d m n i j f g e = says (ap (λ (x : Noted). x.note) e)

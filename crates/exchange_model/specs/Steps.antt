@@ -296,14 +296,14 @@ link_with t (Some w) s = queued t w s
 abbrev pub moment_in : List Written → ℕ → ℕ → ℕ
 moment_in ws t n = option_map_or (λ (w : Written). w.moment) (slice_get ws n) t
 
-abbrev pub stored_by : List Written → ℕ → Response → List Reply → Option Stored
-stored_by ws t w [] = None
-stored_by ws t w (r ∷ rs) =
-    if w.code == content then Some (stored_of w (moment_in ws t r.number) (numbers (r ∷ rs))) else None
+abbrev pub stored_by : List Written → ℕ → ℕ → Response → List Reply → Option Stored
+stored_by ws t o w [] = None
+stored_by ws t o w (r ∷ rs) =
+    if w.code == content then Some (stored_of w o (moment_in ws t r.number) (numbers (r ∷ rs))) else None
 
-abbrev pub content_by : List Written → ℕ → Ending → Option Stored
-content_by ws t (Whole w rs) = stored_by ws t w rs
-content_by ws t how = None
+abbrev pub content_by : List Written → ℕ → ℕ → Ending → Option Stored
+content_by ws t o (Whole w rs) = stored_by ws t o w rs
+content_by ws t o how = None
 
 abbrev pub put_by : Option Stored → CacheKey → List Pair → List Pair
 put_by None key ps = ps
@@ -330,7 +330,7 @@ retired ws [] ps = ps
 retired ws (e ∷ es) ps = retired ws es (settled ws (Some e) None ps)
 
 abbrev pub store_by : List Written → ℕ → Matter → List Pair → List Pair
-store_by ws t (Over e how) ps = settled ws (Some e) (content_by ws t how) ps
+store_by ws t (Over e how) ps = settled ws (Some e) (content_by ws t e.opening how) ps
 store_by ws t matter ps = ps
 
 -- The entry of a message, and all that it does but for what goes out and is answered then.

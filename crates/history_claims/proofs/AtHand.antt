@@ -51,6 +51,7 @@ for-equal l q r s same it =
       entry = it.entry;
       heard_in = it.heard_in;
       heard = it.heard;
+      origin = it.origin;
       list = it.list;
     }
   where

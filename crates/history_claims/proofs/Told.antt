@@ -241,7 +241,7 @@ module _ (l : List Noted) (legal : Legal l) (q : CoapRequest) (o n : ℕ) (js : 
 
   -- what is stored
   abbrev pub stored : Stored
-  stored = record { response = w; heard = was.since; list = numbers rs }
+  stored = record { response = w; opening = x; heard = was.since; list = numbers rs }
 
   pub listed-so : stored.list ≡ js
   listed-so = sym grounds.6
@@ -356,7 +356,7 @@ module _ (l : List Noted) (legal : Legal l) (q : CoapRequest) (o n : ℕ) (js : 
       -- It is stored, where nothing that came later ended with what may answer the GET.
       pub stored-then : ((y : ℕ) (b : Begun) → e < y → y < m → begun l y ≡ Some b → asks_same q b.request ≡ true → ⊥) → IsStored (before l m) q stored
       stored-then none_opened =
-          subst (λ (rs : List Reply). IsStored (before l m) q (record { response = w; heard = was.since; list = numbers rs })) (sym start.all)
+          subst (λ (rs : List Reply). IsStored (before l m) q (record { response = w; opening = x; heard = was.since; list = numbers rs })) (sym start.all)
           (record {
             opening = x;
             ending = e;
@@ -368,6 +368,7 @@ module _ (l : List Noted) (legal : Legal l) (q : CoapRequest) (o n : ℕ) (js : 
             entry = heard.0;
             heard_in = heard.1;
             heard = heard.2;
+            origin = refl;
             list = refl;
           })
         where

@@ -61,7 +61,7 @@ abbrev reply-of-once : Reply
 reply-of-once = record { number = 3; sending = 2; message = non_message }
 
 abbrev stored-once : Stored
-stored-once = record { response = response_of non_message; heard = 700; list = 3 ∷ [] }
+stored-once = record { response = response_of non_message; opening = 1; heard = 700; list = 3 ∷ [] }
 
 -- the one exchange of that journal ended so
 ends-once : (o e : ℕ) (how : Ending) → 1 ≡ o → end_of read_once o ≡ Some (record { number = e; how = how })
@@ -85,6 +85,7 @@ is-stored-once =
       entry = _;
       heard_in = refl;
       heard = refl;
+      origin = refl;
       list = refl;
     }
 

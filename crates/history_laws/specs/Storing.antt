@@ -37,6 +37,7 @@ pub record IsStored (l : List Noted) (q : CoapRequest) (s : Stored) : Type 0 whe
   pub entry : Noted
   pub heard_in : at l first.number ≡ Some entry
   pub heard : s.heard ≡ entry.written.moment
+  pub origin : s.opening ≡ opening
   pub list : s.list ≡ numbers (first ∷ more)
 
 -- What is stored under a key is used when it is stored, and each time when it is served.

@@ -2,15 +2,17 @@
 use Rattle.std.specs.Prelude.{ℕ, ◌+◌, ◌*◌, Bool, List, Option, unwrap_or, nat_lt, ◌==◌}
 use Rattle.resp_cache.specs.declared.response.Response.{Response}
 
--- A response, the moment from which its freshness counts, and the numbers of the entries that it
--- rests on.
+-- A response, the number of the entry that opened its exchange, the moment from which its freshness
+-- counts, and the numbers of the entries that it rests on.
 pub record Stored : Type 0 where
   pub response : Response
+  pub opening : ℕ
   pub heard : ℕ
   pub list : List ℕ
 
-abbrev pub stored_of : Response → ℕ → List ℕ → Stored
-stored_of r heard list = record { response = r; heard = heard; list = list }
+abbrev pub stored_of : Response → ℕ → ℕ → List ℕ → Stored
+stored_of r opening heard list =
+    record { response = r; opening = opening; heard = heard; list = list }
 
 -- in milliseconds; Max-Age is in seconds, and 60 where it is absent (RFC 7252 section 5.10.5)
 abbrev pub lifetime : Option ℕ → ℕ

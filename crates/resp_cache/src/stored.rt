@@ -15,6 +15,7 @@ const DEFAULT_MAX_AGE: u32 = 60;
 #[derive(Drop)]
 struct Record {
     response: Arc<Response>,
+    opening: u32,
     heard: u64,
     list: Vec<u32>,
 }
@@ -33,6 +34,7 @@ impl Model for StoredResponse {
 
     ghost view = { λ s. record {
       response = arc_value (arc_value s.record).response;
+      opening = (arc_value s.record).opening;
       heard = (arc_value s.record).heard;
       list = (arc_value s.record).list.items;
     } };
@@ -49,18 +51,21 @@ impl StoredResponse {
     ghost use Rattle.std.specs.Arc.{arc_value};
     ghost use Rattle.resp_cache.specs.Stored.{stored_of};
 
-    /// A response, which isn't copied, the moment in milliseconds from which its freshness counts, and
-    /// the numbers of the journal's entries that it rests on.
+    /// A response, which isn't copied, the number of the journal's entry that opened its exchange, the
+    /// moment in milliseconds from which its freshness counts, and the numbers of the entries that it
+    /// rests on.
     pub fn new(
         alloc: Global,
         response: Arc<Response>,
+        opening: u32,
         heard: u64,
         list: Vec<u32>,
     ) -> Result<StoredResponse, AllocError>
-        ensures { IfOk result (λ s. s ≡ stored_of (arc_value response) heard list.items) }
+        ensures { IfOk result (λ s. s ≡ stored_of (arc_value response) opening heard list.items) }
     {
         let record = Record {
             response,
+            opening,
             heard,
             list,
         };
@@ -81,6 +86,13 @@ impl StoredResponse {
         ensures { arc_value result.now ≡ self.now.response }
     {
         &self.record.response
+    }
+
+    /// The number of the journal's entry that opened its exchange.
+    pub fn opening(&self) -> u32
+        ensures { result ≡ self.now.opening }
+    {
+        self.record.opening
     }
 
     /// The moment from which its freshness counts, in milliseconds.

@@ -47,7 +47,7 @@ pub fn key(alloc: Global, accept: u16) -> Result<Key, AllocError> {
     key_of(alloc, "light", Some(accept))
 }
 
-/// 2.05 with the body `on`, which rests on the journal's entry 3.
+/// 2.05 with the body `on`, which rests on the journal's entry 3, and was asked for by entry 1.
 pub fn response(
     alloc: Global,
     heard: u64,
@@ -65,7 +65,7 @@ pub fn response(
         body: Bytes::of(Vec::from_slice(alloc, b"on")?),
     };
     let shared = Arc::new(alloc, response)?;
-    StoredResponse::new(alloc, shared, heard, Vec::from_slice(alloc, &[3])?)
+    StoredResponse::new(alloc, shared, 1, heard, Vec::from_slice(alloc, &[3])?)
 }
 
 /// Puts a response that is fresh until 60,000 under the key with this Accept. True where nothing
