@@ -249,9 +249,9 @@ capped-small n small = omega (arith, small)
 -- the copies of a journal that is given out
 pub sound-turned : (t : ℕ) (S S1 : State) (bytes bytes1 room room1 : ℕ) (gs gs1 : List Given)
     → SoundState S bytes room gs → S.moment ≤ t → t ≤ 2 ^ 62 → fault_of t S ≡ None → S1 ≡ turned t S
-    → bytes1 ≡ capped (sum_by entry_size S1.entries) → 65536 ≤ room1 + length S1.entries → gs1 ≡ []
+    → bytes1 ≡ capped (sum_by entry_size S1.entries) → 0 < room1 → gs1 ≡ []
     → SoundState S1 bytes1 room1 gs1
-sound-turned t S S1 bytes bytes1 room room1 gs gs1 s later early fit is count places none =
+sound-turned t S S1 bytes bytes1 room room1 gs gs1 s later early fit is count place none =
     let kept : KeptInRoom S1 = subst KeptInRoom (sym is) (rotates-in-room t S s.kept later fit) in
     record {
       kept = kept;
@@ -260,7 +260,8 @@ sound-turned t S S1 bytes bytes1 room room1 gs gs1 s later early fit is count pl
       few = let cs = ap (λ (U : State). length U.conns) is in omega (arith, cs);
       count = count ∙ (let small = (within-limits S1 kept).1 in capped-small (sum_by entry_size S1.entries) small);
       places =
-          let e = (fits-parts S1 kept.fit).0 in
-          let p = places in omega (arith, e, p);
+          let closed = ap (λ (U : State). length U.conns) is in
+          let unsealed = ap (λ (U : State). seals_left U.sealed) is in
+          omega (arith, closed, unsealed, place);
       given = subst (AllByRecursion (IsGiven S1.entries)) (sym none) tt;
     }

@@ -1,9 +1,9 @@
 //! The turn from a sealed journal to the next one.
 
-ghost use Rattle.std.specs.Prelude.{◌≡◌, ◌≤◌, ◌+◌, [], None, Some, length, map, not, if◌then◌else◌, sum_by, IfErr, IfOk, IfSome, OnOk};
+ghost use Rattle.std.specs.Prelude.{◌≡◌, ◌≤◌, ◌<◌, ◌+◌, [], None, Some, length, map, not, if◌then◌else◌, sum_by, IfErr, IfOk, IfSome, OnOk};
 ghost use Rattle.std.specs.List.{list_all};
 ghost use Rattle.ask_model.specs.Sizes.{capped};
-ghost use Rattle.limits.specs.declared.TheConstants.{LAST_MOMENT, MAX_ENTRIES};
+ghost use Rattle.limits.specs.declared.TheConstants.{LAST_MOMENT};
 ghost use Rattle.journal_book.specs.Entries.{entry_size};
 ghost use Rattle.journal_copies.specs.Copying.{AreCounted};
 ghost use Rattle.endpoint_table.specs.Keeping.{is_any};
@@ -95,7 +95,7 @@ fn turn<R: Relation>(
     ensures state { state_of s.new ≡ turned moment (state_of s.old) }
     ensures given { result.entries ≡ s.old.journal.entries }
     ensures bytes { s.new.bytes ≡ capped (sum_by entry_size s.new.journal.entries) }
-    ensures places { MAX_ENTRIES ≤ s.new.journal.room + length s.new.journal.entries }
+    ensures place { 0 < s.new.journal.room }
     ensures answers { given_in s.new ≡ [] }
     ensures sends { outgoing s.new ≡ [] }
 {

@@ -40,6 +40,14 @@ impl Bell {
     }
 }
 
+/// The connection that the entry with this number answers.
+fn answered_at<R: Relation>(journal: &Journal<R>, number: usize) -> Option<u32> {
+    match &journal.get(number)?.event {
+        Event::Answered { conn, .. } => Some(*conn),
+        _ => None,
+    }
+}
+
 /// One for each of 256 connections that follow each other: an answer wakes its own session, and
 /// hardly another one.
 #[derive(Drop)]
@@ -74,14 +82,13 @@ impl Bells {
     /// and answers its connection: who is woken while the lock is held has to wait for it once
     /// more.
     pub fn ring<R: Relation>(&self, journal: &Journal<R>, from: usize) -> Option<u32> {
-        let entries = journal.entries();
         let mut first = None;
-        'each: for entry in &entries[from.min(entries.len())..] {
-            if let Event::Answered { conn, .. } = &entry.event {
+        'each: for number in from..journal.len() {
+            if let Some(conn) = answered_at(journal, number) {
                 if first.is_none() {
-                    first = Some(*conn);
+                    first = Some(conn);
                 } else {
-                    self.of(*conn).rings.notify_all();
+                    self.of(conn).rings.notify_all();
                 }
             }
         }

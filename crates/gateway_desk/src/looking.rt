@@ -62,7 +62,7 @@ impl<R: Relation, C: Clock, L: Ledger> LockedDesk<R, C, L> {
                 return Ok(None);
             }
             let journal = guard.journal();
-            if search.go_on(journal.entries()) {
+            if search.go_on(journal) {
                 let found = numbered_of(journal, search.chosen(), entries)?;
                 return Ok(Some(found));
             }

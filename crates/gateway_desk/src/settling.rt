@@ -1,6 +1,6 @@
 //! Whether one journal justifies what all sessions noted.
 
-ghost use Rattle.std.specs.Prelude.{ℕ, ◌≡◌, ◌≢◌, ◌↔◌, ◌==◌, ◌≤◌, ◌^◌, ◌++◌, not, true, if◌then◌else◌, None, Err, IfOk, IfSome, OnOk, IsTrue, length, map, count_by, sum_by};
+ghost use Rattle.std.specs.Prelude.{ℕ, ◌≡◌, ◌≢◌, ◌↔◌, ◌==◌, ◌≤◌, ◌^◌, ◌++◌, not, true, if◌then◌else◌, None, Err, IfOk, IfSome, OnOk, IsTrue, length, map, sum_by};
 ghost use Rattle.std.specs.List.{All};
 ghost use Rattle.std.specs.Ordering.{nat_cmp};
 ghost use Rattle.std.specs.BTreeSet.{contains};
@@ -114,18 +114,20 @@ fn is_ask<R: Relation>(entry: &Entry<R>) -> bool
     }
 }
 
-/// How many of the entries ask.
-fn count_in<R: Relation>(entries: &[Entry<R>]) -> u64
-    ensures { result ≡ count_by is_ask (map item_of entries.now) }
-{
-    entries.iter().filter(|entry| is_ask(entry)).count() as u64
-}
-
 /// How many asks the journal has.
 fn count_asks<R: Relation>(journal: &Journal<R>) -> u64
     ensures { result ≡ asks_of journal.now.entries }
 {
-    count_in(journal.entries())
+    let mut asks: u64 = 0;
+    'each: for number in 0..journal.len() {
+        let Some(entry) = journal.get(number) else {
+            unreachable!()
+        };
+        if is_ask(entry) {
+            asks += 1;
+        }
+    }
+    asks
 }
 
 /// How many asks the shares of the passes count. None above 2^64.

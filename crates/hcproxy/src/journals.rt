@@ -2,7 +2,7 @@
 
 use crate::notes::Notes;
 use gateway_server::Archive;
-use journal_book::{Entry, Journal};
+use journal_book::Journal;
 use journal_lines::{Payloads, write_entry};
 use log::{info, warn};
 use route_bank::Profile;
@@ -32,7 +32,7 @@ impl Folder {
     fn write(&self, path: &str, journal: &Journal<Profile>) -> io::Result<()> {
         let alloc = self.rt.alloc();
         let part = format!(in alloc; "{path}.part")?;
-        let written = self.write_lines(part.as_str(), journal.entries());
+        let written = self.write_lines(part.as_str(), journal);
         let moved = match written {
             Ok(()) => fs::rename(&self.rt, part.as_str(), path),
             Err(error) => Err(error),
@@ -43,12 +43,15 @@ impl Folder {
         moved
     }
 
-    /// Writes the lines of the entries to a file.
-    fn write_lines(&self, path: &str, entries: &[Entry<Profile>]) -> io::Result<()> {
+    /// Writes the lines of its entries to a file.
+    fn write_lines(&self, path: &str, journal: &Journal<Profile>) -> io::Result<()> {
         let alloc = self.rt.alloc();
         let file = fs::create(&self.rt, path)?;
         let mut writer = BufWriter::new(alloc, file)?;
-        for (number, entry) in entries.iter().enumerate() {
+        for number in 0..journal.len() {
+            let Some(entry) = journal.get(number) else {
+                break;
+            };
             if write_entry(alloc, &mut writer, number, entry, Payloads::Shown).is_err() {
                 return Err(io::Error::from(ErrorKind::WriteZero));
             }

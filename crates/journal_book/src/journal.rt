@@ -1,27 +1,36 @@
 //! A list of entries, to which more are added at its end.
 
-ghost use Rattle.std.specs.Prelude.{◌≡◌, ◌≤◌, ◌<◌, ◌+◌, ◌==◌, ◌∷◌, ◌++◌, [], Some, length, map, MatchOption, IfOk, OnOk, slice_get, take};
+ghost use Rattle.std.specs.Prelude.{◌≡◌, ◌≤◌, ◌<◌, ◌+◌, ◌-◌, ◌==◌, ◌∷◌, ◌++◌, [], Some, length, map, MatchOption, IfOk, OnOk, OnErr, slice_get, take};
 ghost use Rattle.journal_book.specs.Views.{item_of};
 
 use crate::entry::Entry;
+use crate::segments::{MAX_SEGMENTS, SEGMENT_LEN, begin_segment, entry_at, put_entry, take_entry};
 use std::alloc::{AllocError, Global};
 use std::marker::Model;
 use transformers::Relation;
 
-/// Entries in their order, to which more are added at the end, or which is cut to the first of them.
+/// Entries in their order, to which more are added at the end, or which is cut to the first of them. They
+/// stand in segments, whose places are made as they are needed: no entry is moved when more come.
 #[derive(Drop)]
 pub struct Journal<R: Relation> {
-    entries: Vec<Entry<R>>,
+    alloc: Global,
+    segments: Vec<Vec<Entry<R>>>,
+    len: usize,
 }
 
 impl<R: Relation> Model for Journal<R> {
-    ghost use Rattle.std.specs.Prelude.{map, vec_len, vec_capacity, ◌-◌};
+    ghost use Rattle.std.specs.Prelude.{◌≤◌, ◌-◌, ◌*◌, ◌^◌, vec_len};
     ghost use Rattle.journal_book.specs.Entries.{JournalValue};
-    ghost use Rattle.journal_book.specs.Views.{item_of};
+    ghost use Rattle.journal_book.specs.Segments.{AreFilled, entries_in};
 
     ghost Value = { JournalValue };
 
-    ghost view = { λ j. record { entries = map item_of j.entries.items; room = vec_capacity j.entries - vec_len j.entries } };
+    ghost view = { λ j. record {
+      entries = entries_in j.segments.items;
+      room = 1024 * vec_len j.segments - j.len;
+    } };
+
+    ghost invariant = { λ j. AreFilled j.segments.items j.len × (vec_len j.segments ≤ 2 ^ 53) };
 }
 
 impl<R: Relation> Journal<R> {
@@ -30,7 +39,9 @@ impl<R: Relation> Journal<R> {
         ensures { result.entries ≡ [] }
     {
         Journal {
-            entries: Vec::new(alloc),
+            alloc,
+            segments: Vec::new(alloc),
+            len: 0,
         }
     }
 
@@ -38,28 +49,40 @@ impl<R: Relation> Journal<R> {
     pub fn len(&self) -> usize
         ensures { result ≡ length self.now.entries }
     {
-        self.entries.len()
+        self.len
     }
 
     /// Whether there is none.
     pub fn is_empty(&self) -> bool
         ensures { result ≡ (length self.now.entries == 0) }
     {
-        self.entries.is_empty()
+        self.len == 0
     }
 
     /// The entry with this number, counted from 0.
     pub fn get(&self, number: usize) -> Option<&Entry<R>>
         ensures { MatchOption result (length self.now.entries ≤ number) (λ e. slice_get self.now.entries number ≡ Some (item_of e.now)) }
     {
-        self.entries.get(number)
+        entry_at(&self.segments, number)
     }
 
-    /// All entries, oldest first.
-    pub fn entries(&self) -> &[Entry<R>]
-        ensures { map item_of result.now ≡ self.now.entries }
+    /// How many entries there are places for.
+    fn room(&self) -> usize
+        ensures { result ≡ self.now.room }
     {
-        self.entries.as_slice()
+        self.segments.len() * SEGMENT_LEN - self.len
+    }
+
+    /// Makes the places of one more segment.
+    fn begin(&mut self) -> Result<(), AllocError>
+        ensures same { self.new.entries ≡ self.old.entries }
+        ensures ok { OnOk result (self.new.room ≡ self.old.room + 1024) }
+        ensures err { OnErr result (self.new.room ≡ self.old.room) }
+    {
+        if self.segments.len() >= MAX_SEGMENTS {
+            return Err(AllocError);
+        }
+        begin_segment(self.alloc, &mut self.segments)
     }
 
     /// Makes room for n more entries, with which adding them takes no memory.
@@ -68,7 +91,9 @@ impl<R: Relation> Journal<R> {
         ensures ok { OnOk result (n ≤ self.new.room) }
         ensures kept { self.old.room ≤ self.new.room }
     {
-        self.entries.try_reserve(n)?;
+        'each: while self.room() < n {
+            self.begin()?;
+        }
         Ok(())
     }
 
@@ -78,7 +103,19 @@ impl<R: Relation> Journal<R> {
         ensures entries { self.new.entries ≡ self.old.entries ++ item_of entry ∷ [] }
         ensures room { self.new.room + 1 ≡ self.old.room }
     {
-        self.entries.push_reserved(entry);
+        put_entry(&mut self.segments, self.len, entry);
+        self.len += 1;
+    }
+
+    /// Takes the last entry out.
+    fn take_last(&mut self)
+        requires { 0 < length self.old.entries }
+        ensures entries { self.new.entries
+            ≡ take (length self.old.entries - 1) self.old.entries }
+        ensures room { self.new.room ≡ self.old.room + 1 }
+    {
+        take_entry(&mut self.segments, self.len);
+        self.len -= 1;
     }
 
     /// Keeps the first n entries, for one who takes back what added the others.
@@ -87,17 +124,22 @@ impl<R: Relation> Journal<R> {
         ensures room { self.old.room ≤ self.new.room }
         ensures whole { n ≤ length self.old.entries → self.new.room + n ≡ self.old.room + length self.old.entries }
     {
-        self.entries.truncate(n);
+        'each: while self.len() > n {
+            self.take_last();
+        }
     }
 
     /// A journal with equal entries.
     pub fn copy(&self) -> Result<Journal<R>, AllocError>
         ensures { IfOk result (λ j. j.entries ≡ self.now.entries) }
     {
-        let mut entries = Vec::new(*self.entries.allocator());
-        'each: for entry in &self.entries {
-            entries.push(entry.copy()?)?;
+        let mut copy = Journal::new(self.alloc);
+        copy.make_room(self.len())?;
+        'each: for number in 0..self.len() {
+            if let Some(entry) = self.get(number) {
+                copy.add(entry.copy()?);
+            }
         }
-        Ok(Journal { entries })
+        Ok(copy)
     }
 }

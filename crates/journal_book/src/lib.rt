@@ -8,6 +8,7 @@
 mod entry;
 mod journal;
 mod numbers;
+mod segments;
 mod size;
 
 pub use entry::{Done, Entry, Event, Grounds, Mark};

@@ -207,14 +207,6 @@ counted-bytes es w = let more = sum_by_push entry_size es w in by (sum_by entry_
     by : (a b c : ℕ) → c ≡ a + b → capped (capped a + capped b) ≡ capped c
     by a b c e = omega (arith, e)
 
-pub few-more : (b : Bool) (n : ℕ) (w : Written) (es : List Written) → length (es ++ copied_if b n w) ≤ length es + 1
-few-more true n w es = by (carried_as n Past w)
-  where
-    by : (o : Option Written) → length (es ++ option_to_list o) ≤ length es + 1
-    by None = let same = length-append es [] in omega (arith, same)
-    by (Some v) = let more = length-append es (v ∷ []) in omega (arith, more)
-few-more false n w es = let same = length-append es [] in omega (arith, same)
-
 -- The peers of copies.
 
 pub peers-more : (ws vs : List Written) → peers_in (ws ++ vs) ≡ peers_in ws ++ peers_in vs

@@ -1,8 +1,7 @@
 -- What of a journal is copied.
-use Rattle.std.specs.Prelude.{◌≡◌, ℕ, ◌+◌, ◌≤◌, Bool, true, false, List, [], ◌∷◌, ◌++◌, length, sum_by, Option, Some, None}
+use Rattle.std.specs.Prelude.{◌≡◌, ℕ, ◌+◌, ◌<◌, Bool, true, false, List, [], ◌∷◌, ◌++◌, sum_by, Option, Some, None}
 use Rattle.std.specs.Option.{option_to_list}
 use Rattle.std.specs.HashMap.{HashMap}
-use Rattle.limits.specs.declared.TheConstants.{MAX_ENTRIES}
 use Rattle.ask_model.specs.Sizes.{capped}
 use Rattle.uri_map.specs.declared.peer.Peer.{Peer}
 use Rattle.journal_book.specs.Entries.{Past, Done, Sent, Heard, done_of, carried_as, Deed, Carries, Written, entry_size}
@@ -51,8 +50,8 @@ pub record Looks {S : Type 0} (t n : ℕ) (w : Written) (old : List Seen) (m : H
   pub kept_is : copy_of t (seen_by n w.moment (done_of w.deed) old) n w.moment (done_of w.deed)
       ≡ copied_if kept n w
 
--- These are the copies, counted, with the peers of each, and places for more.
+-- These are the copies, counted, with the peers of each, and a place for one more entry.
 pub record AreCounted {R : Type 0} (c : Copies R) : Type 0 where
   pub bytes : c.bytes ≡ capped (sum_by entry_size c.journal.entries)
   pub peers : c.peers.items ≡ peers_in c.journal.entries
-  pub places : MAX_ENTRIES ≤ c.journal.room + length c.journal.entries
+  pub place : 0 < c.journal.room

@@ -12,12 +12,12 @@ ghost use Rattle.journal_copies.specs.Knowing.{AreBefore, Knows};
 use crate::seen::{SeenMessages, is_fresh};
 use coap_codec::Bytes;
 use journal_book::{Done, Entry, Event, Journal, Mark};
-use limits::{MAX_ENTRIES, MESSAGE_ID_LIFETIME};
+use limits::MESSAGE_ID_LIFETIME;
 use std::alloc::{AllocError, Global};
 use transformers::Relation;
 use uri_map::Peer;
 
-/// A journal that begins with copies, and has places for all the entries that it may have.
+/// A journal that begins with copies, and has a place for one more entry.
 #[derive(Drop)]
 pub struct Copies<R: Relation> {
     pub journal: Journal<R>,
@@ -119,7 +119,7 @@ impl<R: Relation> Copies<R> {
         ensures counted { IfOk result (λ c. AreCounted c) }
     {
         let mut journal = Journal::new(alloc);
-        journal.make_room(MAX_ENTRIES as usize)?;
+        journal.make_room(1)?;
         Ok(Copies {
             journal,
             bytes: 0,
@@ -127,14 +127,14 @@ impl<R: Relation> Copies<R> {
         })
     }
 
-    /// Adds a copy, for which there is a place.
+    /// Adds a copy, and makes the place of the next entry.
     fn push(&mut self, copy: Entry<R>) -> Result<(), AllocError>
-        requires room { 0 < self.old.journal.room }
-        requires counted { AreCounted self.old }
+        requires { AreCounted self.old }
         ensures entries { OnOk result (self.new.journal.entries
             ≡ self.old.journal.entries ++ item_of copy ∷ []) }
         ensures counted { OnOk result (AreCounted self.new) }
     {
+        self.journal.make_room(2)?;
         push_peer(&mut self.peers, &copy.event)?;
         self.bytes = self.bytes.saturating_add(copy.size());
         self.journal.add(copy);
@@ -143,8 +143,7 @@ impl<R: Relation> Copies<R> {
 
     /// Adds a copy of the entry, which has this number in its journal.
     fn add(&mut self, entry: &Entry<R>, number: u32) -> Result<(), AllocError>
-        requires room { 0 < self.old.journal.room }
-        requires counted { AreCounted self.old }
+        requires { AreCounted self.old }
         ensures entries { OnOk result (self.new.journal.entries
             ≡ self.old.journal.entries ++ copied_if true number (item_of entry.now)) }
         ensures counted { OnOk result (AreCounted self.new) }
@@ -168,9 +167,10 @@ pub fn copies_of<R: Relation>(
 {
     let mut seen = SeenMessages::new(alloc);
     let mut copies = Copies::new(alloc)?;
-    let entries = journal.entries();
-    'each: for number in 0..entries.len() {
-        let entry = &entries[number];
+    'each: for number in 0..journal.len() {
+        let Some(entry) = journal.get(number) else {
+            unreachable!()
+        };
         if is_remembered(&mut seen, entry, moment)? {
             copies.add(entry, number as u32)?;
         }

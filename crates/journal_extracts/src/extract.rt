@@ -1,6 +1,6 @@
 //! Entries of a journal, copied for who looks at it.
 
-ghost use Rattle.std.specs.Prelude.{◌≡◌, ◌≤◌, ◌<◌, ◌+◌, ◌++◌, length, map, slice_get, IfOk, OnOk};
+ghost use Rattle.std.specs.Prelude.{◌≡◌, ◌≤◌, ◌<◌, ◌+◌, ◌-◌, ◌++◌, length, map, take, drop, slice_get, IfOk, OnOk};
 ghost use Rattle.journal_book.specs.Views.{item_of};
 ghost use Rattle.journal_extracts.specs.Extracts.{IsExtract, entries_at, place_of, placed};
 
@@ -29,21 +29,32 @@ pub struct Numbered<R: Relation> {
     pub entry: Entry<R>,
 }
 
-/// How many of the entries are copied: the first, and those with it that count no more together than may
-/// be copied.
-fn copied_count<R: Relation>(entries: &[Entry<R>]) -> usize
-    ensures within { result ≤ length entries.now }
-    ensures few { result ≤ 256 }
-    ensures some { 0 < length entries.now → 0 < result }
+/// What an entry counts, where there is one.
+fn size_at<R: Relation>(journal: &Journal<R>, number: usize) -> u64 {
+    match journal.get(number) {
+        Some(entry) => entry.size(),
+        None => 0,
+    }
+}
+
+/// Where the copied entries end that begin at this number: the first of them is copied, and those with it
+/// that count no more together than may be copied.
+fn copied_end<R: Relation>(journal: &Journal<R>, from: usize) -> usize
+    requires { from ≤ length journal.now.entries }
+    ensures begin { from ≤ result }
+    ensures within { result ≤ length journal.now.entries }
+    ensures few { result ≤ from + 256 }
+    ensures some { from < length journal.now.entries → from < result }
 {
     let mut bytes: u64 = 0;
-    'each: for (place, entry) in entries.iter().enumerate() {
-        bytes = bytes.saturating_add(entry.size());
-        if place == MOST_COPIED || (place > 0 && bytes > MOST_COPIED_LEN) {
-            return place;
+    let most = journal.len().min(from.saturating_add(MOST_COPIED));
+    'each: for number in from..most {
+        bytes = bytes.saturating_add(size_at(journal, number));
+        if number > from && bytes > MOST_COPIED_LEN {
+            return number;
         }
     }
-    entries.len().min(MOST_COPIED)
+    most
 }
 
 /// The entries from this number on, which come into this list in place of what is there.
@@ -54,26 +65,35 @@ pub fn extract_of<R: Relation>(
 ) -> Result<Extract<R>, AllocError>
     ensures { IfOk result (IsExtract journal.now.entries from) }
 {
-    let (_, rest) = journal.entries().split_at(from.min(journal.len()));
-    let (chosen, _) = rest.split_at(copied_count(rest));
+    let first = from.min(journal.len());
+    let end = copied_end(journal, first);
     let mut entries = entries;
     entries.clear();
-    add_copies(&mut entries, chosen)?;
+    add_copies(&mut entries, journal, first, end)?;
     Ok(Extract {
         total: journal.len(),
         entries,
     })
 }
 
-/// Adds copies of the entries to an empty list.
+/// Adds copies of the entries from one number to another to an empty list.
 fn add_copies<R: Relation>(
     entries: &mut Vec<Entry<R>>,
-    chosen: &[Entry<R>],
+    journal: &Journal<R>,
+    from: usize,
+    to: usize,
 ) -> Result<(), AllocError>
-    requires { length entries.old.items ≡ 0 }
-    ensures { OnOk result (map item_of entries.new.items ≡ map item_of chosen.now) }
+    requires empty { length entries.old.items ≡ 0 }
+    requires order { from ≤ to }
+    requires within { to ≤ length journal.now.entries }
+    ensures copied { OnOk result (map item_of entries.new.items
+        ≡ take (to - from) (drop from journal.now.entries)) }
+    ensures count { OnOk result (from + length entries.new.items ≡ to) }
 {
-    'each: for entry in chosen {
+    'each: for number in from..to {
+        let Some(entry) = journal.get(number) else {
+            unreachable!()
+        };
         entries.push(entry.copy()?)?;
     }
     Ok(())

@@ -3,7 +3,7 @@
 ghost use Rattle.std.specs.Prelude.{◌≤◌, length, vec_capacity, vec_len};
 
 use crate::extract::{MOST_COPIED, MOST_COPIED_LEN};
-use journal_book::{Entry, Event, Grounds};
+use journal_book::{Entry, Event, Grounds, Journal};
 use std::alloc::{AllocError, Global};
 use transformers::Relation;
 use uri_map::{Peer, is_same_peer};
@@ -89,39 +89,39 @@ impl Search {
         &self.chosen
     }
 
-    /// Goes on, over these entries. Whether it has ended.
-    pub fn go_on<R: Relation>(&mut self, entries: &[Entry<R>]) -> bool {
+    /// Goes on, over this journal. Whether it has ended.
+    pub fn go_on<R: Relation>(&mut self, journal: &Journal<R>) -> bool {
         match self.stage {
-            Stage::Answer(from) => self.find_answer(entries, from),
-            Stage::Opened(request, before) => self.find_opened(entries, request, before),
-            Stage::Choosing(request, from) => self.choose_between(entries, request, from),
+            Stage::Answer(from) => self.find_answer(journal, from),
+            Stage::Opened(request, before) => self.find_opened(journal, request, before),
+            Stage::Choosing(request, from) => self.choose_between(journal, request, from),
             Stage::Done => {}
         }
         matches!(self.stage, Stage::Done)
     }
 
     /// Looks for the answer, from this entry on.
-    fn find_answer<R: Relation>(&mut self, entries: &[Entry<R>], from: usize) {
-        let Some(start) = start_at(entries, self.number) else {
+    fn find_answer<R: Relation>(&mut self, journal: &Journal<R>, from: usize) {
+        let Some(start) = start_at(journal, self.number) else {
             self.stage = Stage::Done;
             return;
         };
-        let to = from.saturating_add(MOST_SEEN).min(entries.len());
-        let answer = answer_in(entries, start, self.number, from, to);
-        if answer.is_none() && to < entries.len() {
+        let to = from.saturating_add(MOST_SEEN).min(journal.len());
+        let answer = answer_in(journal, start, self.number, from, to);
+        if answer.is_none() && to < journal.len() {
             self.stage = Stage::Answer(to);
             return;
         }
-        self.stage = match request_of(entries, self.number, answer) {
+        self.stage = match request_of(journal, self.number, answer) {
             Some(request) => Stage::Opened(request, request.ask),
             None => Stage::Done,
         };
     }
 
     /// Looks for the entry of the connection, before this one, and chooses what stands before the request.
-    fn find_opened<R: Relation>(&mut self, entries: &[Entry<R>], request: Request, before: usize) {
+    fn find_opened<R: Relation>(&mut self, journal: &Journal<R>, request: Request, before: usize) {
         let from = before.saturating_sub(MOST_SEEN);
-        let opened = opened_in(entries, request.conn, from, before);
+        let opened = opened_in(journal, request.conn, from, before);
         if opened.is_none() && from > 0 {
             self.stage = Stage::Opened(request, from);
             return;
@@ -130,19 +130,19 @@ impl Search {
             opened: opened.unwrap_or(request.ask),
             ..request
         };
-        self.choose_before(entries, request);
+        self.choose_before(journal, request);
         self.stage = Stage::Choosing(request, request.ask.saturating_add(1));
     }
 
     /// Chooses what goes between the gateway and the device, from this entry on until the request is
     /// answered, and the answer.
-    fn choose_between<R: Relation>(&mut self, entries: &[Entry<R>], request: Request, from: usize) {
+    fn choose_between<R: Relation>(&mut self, journal: &Journal<R>, request: Request, from: usize) {
         let to = from.saturating_add(MOST_SEEN).min(request.end);
-        let cause = cause_at(entries, request);
+        let cause = cause_at(journal, request);
         'each: for number in from..to {
-            if let Some(entry) = entries.get(number) {
+            if let Some(entry) = journal.get(number) {
                 if is_of(entry, &request.device) || cause == Some(number) {
-                    self.choose_datagram(entries, number);
+                    self.choose_datagram(journal, number);
                 }
             }
         }
@@ -151,14 +151,14 @@ impl Search {
             return;
         }
         if let Some(answer) = request.answer {
-            self.choose(entries, answer);
+            self.choose(journal, answer);
         }
         self.stage = Stage::Done;
     }
 
     /// Chooses an entry, where there is one.
-    fn choose<R: Relation>(&mut self, entries: &[Entry<R>], number: usize) {
-        if number < entries.len() && self.chosen.len() < MOST_COPIED {
+    fn choose<R: Relation>(&mut self, journal: &Journal<R>, number: usize) {
+        if number < journal.len() && self.chosen.len() < MOST_COPIED {
             if let Ok(number) = u32::try_from(number) {
                 self.chosen.push_reserved(number);
             }
@@ -166,38 +166,38 @@ impl Search {
     }
 
     /// Chooses a datagram, where there is room for it and for the connection, the request and the answer.
-    fn choose_datagram<R: Relation>(&mut self, entries: &[Entry<R>], number: usize) {
-        let Some(entry) = entries.get(number) else {
+    fn choose_datagram<R: Relation>(&mut self, journal: &Journal<R>, number: usize) {
+        let Some(entry) = journal.get(number) else {
             return;
         };
         let bytes = self.bytes.saturating_add(entry.size());
         if bytes <= MOST_COPIED_LEN && self.chosen.len() <= MOST_COPIED - 4 {
             self.bytes = bytes;
-            self.choose(entries, number);
+            self.choose(journal, number);
         }
     }
 
     /// Chooses of what the answer rests on what stands between these numbers.
     fn choose_grounds<R: Relation>(
         &mut self,
-        entries: &[Entry<R>],
+        journal: &Journal<R>,
         request: Request,
         from: usize,
         to: usize,
     ) {
-        match grounds_of(entries, request) {
+        match grounds_of(journal, request) {
             Some(Grounds::Live(numbers) | Grounds::Kept(numbers)) => {
                 'each: for number in numbers.as_slice() {
                     let number = *number as usize;
                     if from <= number && number < to {
-                        self.choose_datagram(entries, number);
+                        self.choose_datagram(journal, number);
                     }
                 }
             }
             Some(Grounds::Fault(_, number)) => {
                 let number = *number as usize;
                 if from <= number && number < to {
-                    self.choose_datagram(entries, number);
+                    self.choose_datagram(journal, number);
                 }
             }
             None => {}
@@ -205,20 +205,20 @@ impl Search {
     }
 
     /// Chooses what stands before the request: its connection, and what its answer rests on; and itself.
-    fn choose_before<R: Relation>(&mut self, entries: &[Entry<R>], request: Request) {
+    fn choose_before<R: Relation>(&mut self, journal: &Journal<R>, request: Request) {
         let (opened, ask) = (request.opened, request.ask);
-        self.choose_grounds(entries, request, 0, opened);
+        self.choose_grounds(journal, request, 0, opened);
         if opened < ask {
-            self.choose(entries, opened);
-            self.choose_grounds(entries, request, opened.saturating_add(1), ask);
+            self.choose(journal, opened);
+            self.choose_grounds(journal, request, opened.saturating_add(1), ask);
         }
-        self.choose(entries, ask);
+        self.choose(journal, ask);
     }
 }
 
 /// What the entry with this number is, where there is one.
-fn start_at<R: Relation>(entries: &[Entry<R>], number: usize) -> Option<Start> {
-    Some(match &entries.get(number)?.event {
+fn start_at<R: Relation>(journal: &Journal<R>, number: usize) -> Option<Start> {
+    Some(match &journal.get(number)?.event {
         Event::Asked(_, _) => Start::Ask,
         Event::Answered { .. } => Start::Answer,
         _ => Start::Ground,
@@ -252,14 +252,14 @@ fn rests_on(grounds: &Grounds, number: usize) -> bool {
 
 /// The number of the answer that is looked for, where it is between these numbers.
 fn answer_in<R: Relation>(
-    entries: &[Entry<R>],
+    journal: &Journal<R>,
     start: Start,
     number: usize,
     from: usize,
     to: usize,
 ) -> Option<usize> {
     'each: for place in from..to {
-        if is_answer(entries.get(place)?, start, number) {
+        if is_answer(journal.get(place)?, start, number) {
             return Some(place);
         }
     }
@@ -267,8 +267,8 @@ fn answer_in<R: Relation>(
 }
 
 /// The number of the request that is answered there.
-fn ask_of<R: Relation>(entries: &[Entry<R>], answer: usize) -> Option<usize> {
-    match &entries.get(answer)?.event {
+fn ask_of<R: Relation>(journal: &Journal<R>, answer: usize) -> Option<usize> {
+    match &journal.get(answer)?.event {
         Event::Answered { ask, .. } => Some(*ask as usize),
         _ => None,
     }
@@ -276,22 +276,22 @@ fn ask_of<R: Relation>(entries: &[Entry<R>], answer: usize) -> Option<usize> {
 
 /// The request that is answered there, or that the entry with this number is, where it isn't answered.
 fn request_of<R: Relation>(
-    entries: &[Entry<R>],
+    journal: &Journal<R>,
     number: usize,
     answer: Option<usize>,
 ) -> Option<Request> {
     let ask = match answer {
-        Some(answer) => ask_of(entries, answer)?,
+        Some(answer) => ask_of(journal, answer)?,
         None => number,
     };
-    match &entries.get(ask)?.event {
+    match &journal.get(ask)?.event {
         Event::Asked(conn, mapped) => Some(Request {
             ask,
             conn: *conn,
             opened: ask,
             device: mapped.peer(),
             answer,
-            end: answer.unwrap_or(entries.len()),
+            end: answer.unwrap_or(journal.len()),
         }),
         _ => None,
     }
@@ -299,13 +299,13 @@ fn request_of<R: Relation>(
 
 /// The number of the entry of a connection, where it is between these numbers.
 fn opened_in<R: Relation>(
-    entries: &[Entry<R>],
+    journal: &Journal<R>,
     conn: u32,
     from: usize,
     to: usize,
 ) -> Option<usize> {
     'each: for place in from..to {
-        if let Some(entry) = entries.get(place) {
+        if let Some(entry) = journal.get(place) {
             if matches!(&entry.event, Event::Opened(opened) if *opened == conn) {
                 return Some(place);
             }
@@ -324,16 +324,16 @@ fn is_of<R: Relation>(entry: &Entry<R>, device: &Option<Peer>) -> bool {
 }
 
 /// What the answer to a request rests on, where it is answered.
-fn grounds_of<R: Relation>(entries: &[Entry<R>], request: Request) -> Option<&Grounds> {
-    match &entries.get(request.answer?)?.event {
+fn grounds_of<R: Relation>(journal: &Journal<R>, request: Request) -> Option<&Grounds> {
+    match &journal.get(request.answer?)?.event {
         Event::Answered { grounds, .. } => Some(grounds),
         _ => None,
     }
 }
 
 /// The entry that the answer to a request names as its cause.
-fn cause_at<R: Relation>(entries: &[Entry<R>], request: Request) -> Option<usize> {
-    match grounds_of(entries, request)? {
+fn cause_at<R: Relation>(journal: &Journal<R>, request: Request) -> Option<usize> {
+    match grounds_of(journal, request)? {
         Grounds::Fault(_, cause) => Some(*cause as usize),
         Grounds::Live(_) | Grounds::Kept(_) => None,
     }

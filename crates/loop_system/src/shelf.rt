@@ -76,9 +76,11 @@ impl Shelf {
 /// How many requests it has.
 fn asks_in<R: Relation>(journal: &Journal<R>) -> usize {
     let mut asks: usize = 0;
-    for entry in journal.entries() {
-        if let Event::Asked(_, _) = entry.event {
-            asks = asks.saturating_add(1);
+    for number in 0..journal.len() {
+        if let Some(entry) = journal.get(number) {
+            if let Event::Asked(_, _) = &entry.event {
+                asks = asks.saturating_add(1);
+            }
         }
     }
     asks

@@ -65,7 +65,7 @@ fn copied(journal: &Journal<Nothing>) -> Option<Journal<Nothing>> {
 }
 
 fn count(journal: &Journal<Nothing>) -> usize {
-    journal.entries().len()
+    journal.len()
 }
 
 /// The entry of the moment 7 at this place, and its copy, have this size.

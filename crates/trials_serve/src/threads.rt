@@ -10,7 +10,7 @@ use crate::rows::{Trial, crossed, held, late, leaver, lost, shut, stored, strang
 use crate::sample::{Nothing, shared_settings};
 use ask_model::Settings;
 use gateway_desk::{LockedDesk, Note, Pass, Shop, settle};
-use journal_book::Event;
+use journal_book::{Event, Journal};
 use sessions::{Done, Gateway, serve, tick_loop, udp_loop};
 use std::alloc::Global;
 use std::marker::Brand;
@@ -191,13 +191,22 @@ fn goes<W: Threads + Wait + std::rt::Clock + Sync>(
     run::<Brand, W>(rt, alloc, Blank::new(4294967295), trial) == Some(true)
 }
 
+/// The connection that the entry with this number closes.
+fn closed_at(journal: &Journal<Nothing>, number: usize) -> Option<u32> {
+    match &journal.get(number)?.event {
+        Event::Shut(conn) => Some(*conn),
+        _ => None,
+    }
+}
+
 /// Whether the sessions' connections were closed one after the other, each once, and then that which was opened first.
 fn are_closed_in_turn<L: Ledger>(shop: &Shop<Nothing, L>) -> bool {
     let mut closed: u32 = 0;
-    'each: for entry in shop.journal().entries() {
-        if let Event::Shut(conn) = &entry.event {
+    let journal = shop.journal();
+    'each: for number in 0..journal.len() {
+        if let Some(conn) = closed_at(journal, number) {
             closed = closed.saturating_add(1);
-            if *conn != closed % (SESSIONS + 1) {
+            if conn != closed % (SESSIONS + 1) {
                 return false;
             }
         }

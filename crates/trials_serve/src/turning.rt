@@ -57,8 +57,8 @@ fn handed_back<L: Ledger, W: Wait>(
 /// The number of the connection that was opened last.
 fn last_opened(journal: &Journal<Nothing>) -> Option<u32> {
     let mut last = None;
-    'each: for entry in journal.entries() {
-        if let Event::Opened(conn) = &entry.event {
+    'each: for number in 0..journal.len() {
+        if let Event::Opened(conn) = &journal.get(number)?.event {
             last = Some(*conn);
         }
     }

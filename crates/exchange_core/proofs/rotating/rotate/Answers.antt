@@ -13,4 +13,4 @@ returns-clause-sound g c =
     sound-turned c.args.moment S _ _ _ _ _ _ _ c.requires.sound c.requires.later c.requires.early
     (fit-few c.args.moment S c.in_ok-next.next.journal.entries (c.fault.ensures.none c.in_default.is) c.in_ok-next.ensures.entries (sym c.has_few.ensures ∙ c.if-not-has_few.false))
     (e.state ∙ ap (λ (xs : List PeerLink). turned c.args.moment (record S { links = xs })) c.prepare_keep.ensures.same)
-    e.bytes e.places e.answers
+    e.bytes e.place e.answers

@@ -12,21 +12,17 @@ pub returns-clause-counted : goal.returns-clause-counted
 returns-clause-counted g c =
     let es : List Written = c.args.self.now.journal.entries in
     let w : Written = item_of c.args.copy in
-    let added = c.add.ensures.entries in
+    let same = c.in_ok-make_room.ensures.same in
+    let added = c.add.ensures.entries ∙ ap (λ (ws : List Written). ws ++ w ∷ []) same in
     record {
       bytes =
           c.saturating_add-self.ensures
-          ∙ (ap (λ (k : ℕ). capped (k + c.size.result)) c.requires.counted.bytes
+          ∙ (ap (λ (k : ℕ). capped (k + c.size.result)) c.requires.bytes
           ∙ (ap (λ (k : ℕ). capped (capped (sum_by entry_size es) + k)) c.size.ensures
           ∙ (counted-bytes es w ∙ ap (λ (ws : List Written). capped (sum_by entry_size ws)) (sym added))));
       peers =
           c.in_ok-push_peer.ensures
-          ∙ (ap (λ (ps : List Peer). ps ++ option_to_list (peer_of w.deed)) c.requires.counted.peers
+          ∙ (ap (λ (ps : List Peer). ps ++ option_to_list (peer_of w.deed)) c.requires.peers
           ∙ (sym (peers-push es w) ∙ ap peers_in (sym added)));
-      places =
-          let places = c.requires.counted.places in
-          let len = ap length added in
-          let more = length-append es (w ∷ []) in
-          let room = c.add.ensures.room in
-          omega (arith, places, len, more, room);
+      place = omega (arith, c.in_ok-make_room.ensures.ok, c.add.ensures.room);
     }
