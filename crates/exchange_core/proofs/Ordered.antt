@@ -1,6 +1,5 @@
 -- Connections and exchanges stand in the order of their numbers.
-use Rattle.std.proofs.Common.{◌≡◌, ℕ, ◌<◌, zero, suc, inl, inr, Bool, true, false, cond, eqb, Option, Some, None, List, [], ◌∷◌, length, map, get_or, refl, sym, ap, subst, ◌∙◌, arith}
-use Rattle.std.specs.Prelude.{IfSome, IsTrue, IsFalse, is_some}
+use Rattle.std.proofs.Common.{◌≡◌, ℕ, ◌<◌, zero, suc, inl, inr, Bool, true, false, cond, eqb, Option, List, [], ◌∷◌, length, map, get_or, refl, sym, ap, subst, ◌∙◌, arith}
 use Rattle.std.proofs.Math.ListN.{set}
 use Rattle.std.proofs.lemmas.Bool.{eqb-true, eq-eqb, false≢true}
 use Rattle.history_laws.specs.Numbering.{token_number}
@@ -18,8 +17,9 @@ use Rattle.exchange_model.specs.Growing.{Rise, RiseByAsk}
 use Rattle.exchange_model.specs.Keeping.{Kept}
 use Rattle.exchange_model.specs.Room.{KeptInRoom}
 use Rattle.exchange_model.proofs.CallerLemmas.{conns-rise, readers-rise, OpenIn, open-ones}
-use Rattle.exchange_core.specs.Places.{IsOrdered, ask_in, has_ask, has_id, id_of}
+use Rattle.exchange_core.specs.Places.{IsOrdered, has_id, id_of}
 use Rattle.exchange_table.specs.Places.{RiseBy, IsNowhere, IsOnlyAt}
+use Rattle.exchange_table.specs.Readers.{ask_in}
 use Rattle.exchange_table.specs.Tables.{IsLatest, opening_of}
 use Rattle.exchange_table.proofs.CallerLemmas.{map-none, map-only, only-is, rise-map, Tells}
 
@@ -27,9 +27,6 @@ use Rattle.exchange_table.proofs.CallerLemmas.{map-none, map-only, only-is, rise
 
 pub id-tells : (c : ℕ) → Tells id_of c (has_id c)
 id-tells c x e = eqb-true x.id c e
-
-pub ask-tells : (k : ℕ) → Tells ask_in k (has_ask k)
-ask-tells k x e = eqb-true x.ask k e
 
 -- the order of a core's tables
 
@@ -44,8 +41,11 @@ by-ask : (rs : List Reader) → RiseByAsk rs → RiseBy ask_in rs
 by-ask [] r = tt
 by-ask (x ∷ xs) r = (r.0, by-ask xs r.1)
 
+pub asks-ordered : (S : State) → KeptInRoom S → RiseBy ask_in S.readers
+asks-ordered S k = by-ask S.readers (readers-rise S k)
+
 pub ordered : (S : State) → KeptInRoom S → IsOrdered S
-ordered S k = record { conns = conns-ordered S k; readers = by-ask S.readers (readers-rise S k) }
+ordered S k = record { conns = conns-ordered S k; readers = asks-ordered S k }
 
 -- Exchanges stand in the order of their openings.
 
@@ -117,11 +117,3 @@ pub has-none : (c : ℕ) (cs : List Conn) → IsNowhere (has_id c) cs → (p : O
 has-none c [] h p k = absurd k
 has-none c (x ∷ xs) h p (inl k) = absurd (false≢true (sym h.0 ∙ eq-eqb x.id c k.0))
 has-none c (x ∷ xs) h p (inr k) = has-none c xs h.1 p k
-
-pub has-found : (c : ℕ) (cs : List Conn) (o : Option ℕ) (b : Bool) → b ≡ is_some o → IfSome o (IsOnlyAt (has_id c) cs) → IsTrue b → (p : Option ℕ) × HasConn cs c p
-has-found c cs None b e h t = absurd (false≢true (sym e ∙ t))
-has-found c cs (Some i) b e h t = (_, has-only c cs i (record { id = 0; pending = None }) h)
-
-pub has-missed : (c : ℕ) (cs : List Conn) (o : Option ℕ) (b : Bool) → b ≡ is_some o → (o ≡ None → IsNowhere (has_id c) cs) → IsFalse b → (p : Option ℕ) → HasConn cs c p → ⊥
-has-missed c cs None b e h t = has-none c cs (h refl)
-has-missed c cs (Some i) b e h t = absurd (false≢true (sym t ∙ e))

@@ -1,5 +1,5 @@
 -- Who waits for an exchange, and what they are told.
-use Rattle.std.proofs.Common.{◌≡◌, ℕ, ◌+◌, ◌<◌, ◌≤◌, suc, zero, List, [], ◌∷◌, length, map, Option, Some, None, refl, ap, arith}
+use Rattle.std.proofs.Common.{◌≡◌, ℕ, ◌+◌, ◌<◌, ◌≤◌, suc, zero, List, [], ◌∷◌, length, map, Option, Some, None, refl, sym, ap, subst, ◌∙◌, arith}
 use Rattle.std.specs.Prelude.{filter_map, option_map, slice_get}
 use Rattle.std.specs.List.{AllByRecursion, cons_option}
 use Rattle.journal_book.specs.Entries.{Deed, Written}
@@ -11,7 +11,8 @@ use Rattle.exchange_model.specs.Entering.{answer_of}
 use Rattle.exchange_model.specs.Growing.{IsKnown, RiseByAsk}
 use Rattle.exchange_model.specs.Room.{KeptInRoom}
 use Rattle.exchange_model.specs.State.{State}
-use Rattle.exchange_model.proofs.CallerLemmas.{readers-known, readers-rise, within-limits}
+use Rattle.exchange_model.specs.Resting.{HasConn}
+use Rattle.exchange_model.proofs.CallerLemmas.{conns-tell, kept-served, readers-known, readers-rise, within-limits}
 use Rattle.exchange_core.specs.Asked.{IsAskedIn}
 use Rattle.exchange_core.specs.Ending.{IsTold, deed_of, late_of, out_of_time}
 
@@ -21,6 +22,16 @@ asked-by S r k = record { moment = k.moment; ask = k.ask; request = k.request; s
 
 pub all-asked : (S : State) → KeptInRoom S → AllByRecursion (IsAskedIn S.entries) S.readers
 all-asked S k = all-more (IsKnown S) (IsAskedIn S.entries) (asked-by S) S.readers (readers-known S k)
+
+-- A connection on which somebody waits is known to wait for the answer to just that ask.
+pub waits-on : (S : State) (c : ℕ) (p : Option ℕ) → KeptInRoom S → HasConn S.conns c p → AllByRecursion (λ (r : Reader). r.conn ≡ c → p ≡ Some r.ask) S.readers
+waits-on S c p k has =
+    let l = k.kept.reading in
+    let reads = k.kept.rests.reads in
+    let tells = (conns-tell l S c reads).1 in
+    all-more (λ (r : Reader). HasConn S.conns r.conn (Some r.ask)) (λ (r : Reader). r.conn ≡ c → p ≡ Some r.ask)
+    (λ r waits on. sym (tells p has).1 ∙ (tells (Some r.ask) (subst (λ (d : ℕ). HasConn S.conns d (Some r.ask)) on waits)).1)
+    S.readers (kept-served l S reads).waits
 
 -- There are no more than entries.
 

@@ -1,9 +1,8 @@
 -- What is gone back to is sound, and has the places that it has to have.
-use Rattle.std.proofs.Common.{◌≡◌, ℕ, ◌+◌, ◌≤◌, min, List, ◌++◌, length, take, sym, ap, subst, ◌∙◌, arith, length-append}
+use Rattle.std.proofs.Common.{◌≡◌, ℕ, ◌+◌, ◌≤◌, min, List, ◌++◌, length, take, sym, ap, ◌∙◌, arith, length-append}
 use Rattle.std.proofs.lemmas.List.{take_at}
 use Rattle.journal_book.specs.Entries.{Written}
 use Rattle.exchange_model.specs.State.{State}
-use Rattle.exchange_model.specs.Room.{seals_left}
 use Rattle.exchange_model.proofs.CallerLemmas.{held-before}
 use Rattle.exchange_core.specs.Answering.{Given}
 use Rattle.exchange_core.specs.Snapshots.{SnapshotValue, IsOf, MayRestore, restored}

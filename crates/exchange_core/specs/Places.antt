@@ -3,21 +3,15 @@ use Rattle.std.specs.Prelude.{ℕ, ◌≤◌, Bool, ◌==◌, List, [], ◌∷�
 use Rattle.std.specs.List.{AllByRecursion}
 use Rattle.exchange_model.specs.declared.kept.Conn.{Conn}
 use Rattle.exchange_model.specs.declared.kept.Exchange.{Exchange}
-use Rattle.exchange_model.specs.declared.kept.Reader.{Reader}
 use Rattle.exchange_model.specs.State.{State}
 use Rattle.exchange_table.specs.Places.{RiseBy}
+use Rattle.exchange_table.specs.Readers.{ask_in}
 
 abbrev pub id_of : Conn → ℕ
 id_of x = x.id
 
 abbrev pub has_id : ℕ → Conn → Bool
 has_id c x = x.id == c
-
-abbrev pub ask_in : Reader → ℕ
-ask_in r = r.ask
-
-abbrev pub has_ask : ℕ → Reader → Bool
-has_ask k r = r.ask == k
 
 pub record IsOrdered (S : State) : Type 0 where
   pub conns : RiseBy id_of S.conns

@@ -1,6 +1,6 @@
 //! Asks that begin an exchange.
 
-ghost use Rattle.std.specs.Prelude.{◌≡◌, ◌≤◌, ◌<◌, ◌+◌, ◌^◌, ◌∷◌, ◌++◌, [], List, None, true, false, length, sum_by, vec_capacity, vec_len, IfOk, IfErr, OnOk, Ok, Err, Some};
+ghost use Rattle.std.specs.Prelude.{◌≡◌, ◌≤◌, ◌<◌, ◌+◌, ◌^◌, ◌∷◌, ◌++◌, [], List, None, true, false, length, sum_by, IfOk, IfErr, OnOk, Ok, Err, Some};
 ghost use Rattle.std.specs.Arc.{arc_value};
 ghost use Rattle.limits.specs.declared.TheConstants.{LAST_MOMENT, MAX_ENTRIES, MAX_EXCHANGES, MAX_REQUEST_SIZE};
 ghost use Rattle.ask_model.specs.Datagrams.{asked_peer};
@@ -112,7 +112,7 @@ fn add_exchange<R: Relation>(
     requires few { length s.old.journal.entries + length draft.entries ≤ MAX_ENTRIES }
     requires ordered { IsOrdered (state_of s.old) }
     requires exchange { s.old.exchanges.room ≡ true }
-    requires reader { vec_len s.old.readers < vec_capacity s.old.readers }
+    requires reader { s.old.readers.room ≡ true }
     requires latest { IsLatest exchange s.old.exchanges.exchanges }
     requires may { MaySubmit moment (link_at s.old.endpoints exchange.peer) submission }
     ensures state { state_of s.new ≡ with_exchange moment exchange reader submission.waiting
@@ -127,7 +127,7 @@ fn add_exchange<R: Relation>(
     s.issued += 1;
     s.endpoints.submit(peer, submission, moment);
     commit(s, draft, moment);
-    s.readers.push_reserved(reader);
+    s.readers.push_in_room(reader);
 }
 
 /// The code of the request that is asked, or 0 where none is.
@@ -188,11 +188,11 @@ fn make_all_places<R: Relation>(s: &mut State<R>, draft: &Draft<R>) -> Result<()
     ensures endpoints { s.new.endpoints ≡ s.old.endpoints }
     ensures places { OnOk result (HasPlaces s.new draft.now) }
     ensures exchange { OnOk result (s.new.exchanges.room ≡ true) }
-    ensures reader { OnOk result (vec_len s.new.readers < vec_capacity s.new.readers) }
+    ensures reader { OnOk result (s.new.readers.room ≡ true) }
 {
     make_places(s, draft)?;
     s.exchanges.make_room()?;
-    s.readers.try_reserve(1)?;
+    s.readers.make_room()?;
     Ok(())
 }
 

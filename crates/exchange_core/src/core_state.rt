@@ -30,7 +30,7 @@ use crate::{asking, due, hearing, opening, rotating, serving, snapshot, taking, 
 use ask_model::Mapped;
 use endpoint_table::Endpoints;
 use exchange_model::{Conn, Exchange};
-use exchange_table::{Exchanges, Fetched};
+use exchange_table::{Exchanges, Fetched, Readers};
 use journal_book::Journal;
 use limits::LAST_MOMENT;
 use resp_cache::Store;
@@ -88,7 +88,7 @@ impl<R: Relation> Core<R> {
                 conns: Vec::new(alloc),
                 exchanges: Exchanges::new(alloc),
                 fetched: Fetched::new(alloc),
-                readers: Vec::new(alloc),
+                readers: Readers::new(alloc),
                 store: Store::new(alloc),
                 endpoints,
                 answers: Vec::new(alloc),

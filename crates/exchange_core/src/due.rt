@@ -88,7 +88,7 @@ pub fn next_tick<R: Relation>(s: &State<R>) -> Option<u64>
     ensures { result ≡ next_tick (state_of s.now) }
 {
     if s.sealed {
-        return next_late(s.exchanges.as_slice(), &s.readers);
+        return next_late(s.exchanges.as_slice(), s.readers.as_slice());
     }
     next_due(s)
 }

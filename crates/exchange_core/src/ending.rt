@@ -20,6 +20,7 @@ use crate::requests::request_of;
 use ask_model::Cause;
 use exchange_model::{Exchange, Reader};
 use exchange_progress::Ended;
+use exchange_table::Readers;
 use journal_book::{Grounds, Journal};
 use reply_reading::Finding;
 use std::alloc::{AllocError, Global};
@@ -49,19 +50,18 @@ pub fn readers_told(
     alloc: Global,
     exchange: &Exchange,
     ended: &Ended,
-    readers: &[Reader],
+    readers: &Readers,
 ) -> Result<VecDeque<Telling>, AllocError>
     ensures { (n : ℕ) (how : Ending) → IsEnded n ended.now how
-        → IfOk result (λ v. v.items ≡ readers_told how n exchange.now readers.now) }
+        → IfOk result (λ v. v.items ≡ readers_told how n exchange.now readers.now.items) }
 {
+    let waiting = readers.of(exchange.opening);
     let mut told = VecDeque::new(alloc);
-    'each: for reader in readers {
-        if reader.opening == exchange.opening {
-            told.push_back(Telling {
-                reader: *reader,
-                finding: finding_for(ended, reader)?,
-            })?;
-        }
+    'each: for reader in waiting {
+        told.push_back(Telling {
+            reader: *reader,
+            finding: finding_for(ended, reader)?,
+        })?;
     }
     Ok(told)
 }

@@ -30,8 +30,7 @@ use crate::sending::draft_first;
 use crate::state::{State, commit, make_places, start};
 use crate::storing::{make_room_for, put_of, settle};
 use coap_codec::{Bytes as Whole, Token};
-use exchange_model::Reader;
-use exchange_table::{Exchanges, Fetched};
+use exchange_table::{Exchanges, Fetched, Readers};
 use journal_book::{Entry, Event, Journal};
 use message_layer::{Bytes, FirstSending, Hearing, Heeding, News, Submission};
 use resp_cache::{Pair, Store};
@@ -100,10 +99,10 @@ fn draft_link<R: Relation>(
 fn told_of(
     alloc: Global,
     matter: &Matter,
-    readers: &[Reader],
+    readers: &Readers,
 ) -> Result<VecDeque<Telling>, AllocError>
     ensures { (n : ℕ) (new : Numbers) (x : ModelMatter) → IsMatter n new matter.now x
-        → IfOk result (λ v. v.items ≡ told_of n x readers.now) }
+        → IfOk result (λ v. v.items ≡ told_of n x readers.now.items) }
 {
     match matter {
         Matter::Over(exchange, ended) => readers_told(alloc, exchange, ended, readers),

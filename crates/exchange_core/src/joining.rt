@@ -110,9 +110,9 @@ pub fn join<R: Relation>(
         return Err(AskFault::Sealed);
     }
     make_places(s, &draft)?;
-    s.readers.try_reserve(1)?;
+    s.readers.make_room()?;
     commit(s, draft, moment);
-    s.readers.push_reserved(Reader { ask, conn, opening });
+    s.readers.push_in_room(Reader { ask, conn, opening });
     Ok(Ticket {
         conn,
         number: ask,

@@ -1,16 +1,18 @@
 //! What entries do to the connections, and to those who wait.
 
-ghost use Rattle.std.specs.Prelude.{◌≡◌, ◌==◌, ◌+◌, ◌≤◌, filter, length, map, not, vec_capacity, vec_len};
+ghost use Rattle.std.specs.Prelude.{◌≡◌, ◌==◌, ◌+◌, ◌≤◌, filter, length, map, not, true};
 ghost use Rattle.std.specs.VecDeque.{deque_len};
 ghost use Rattle.journal_book.specs.Views.{event_of, item_of};
 ghost use Rattle.exchange_model.specs.Growing.{conns_with};
 ghost use Rattle.exchange_model.specs.State.{conns_after, pend, readers_after};
 ghost use Rattle.exchange_table.specs.Places.{RiseBy};
+ghost use Rattle.exchange_table.specs.Readers.{ask_in};
 ghost use Rattle.exchange_core.specs.Drafts.{AllKeep, KeepsConns};
-ghost use Rattle.exchange_core.specs.Places.{ask_in, id_of};
+ghost use Rattle.exchange_core.specs.Places.{id_of};
 
-use crate::places::{conn_place, reader_place};
-use exchange_model::{Conn, Reader};
+use crate::places::conn_place;
+use exchange_model::Conn;
+use exchange_table::Readers;
 use journal_book::{Entry, Event};
 use std::collections::VecDeque;
 use transformers::Relation;
@@ -63,37 +65,17 @@ pub fn drop_conn(conns: &mut Vec<Conn>, id: u32)
     }
 }
 
-/// Takes out who waits for the answer to this ask.
-fn drop_reader(readers: &mut Vec<Reader>, ask: u32)
-    requires { RiseBy ask_in readers.old.items }
-    ensures readers { readers.new.items ≡ filter (λ r. not (r.ask == ask)) readers.old.items }
-    ensures fewer { vec_len readers.new ≤ vec_len readers.old }
-    ensures capacity { vec_capacity readers.new ≡ vec_capacity readers.old }
-{
-    if let Some(place) = reader_place(readers.as_slice(), ask) {
-        readers.remove(place);
-    }
-}
-
-/// Takes out who waits on this connection.
-pub fn drop_readers(readers: &mut Vec<Reader>, conn: u32)
-    ensures { readers.new.items ≡ filter (λ r. not (r.conn == conn)) readers.old.items }
-{
-    readers.retain(|r| r.conn != conn);
-}
-
 /// What an entry does to those who wait, where it shuts no connection.
-pub fn note_readers<R: Relation>(readers: &mut Vec<Reader>, event: &Event<R>)
+pub fn note_readers<R: Relation>(readers: &mut Readers, event: &Event<R>)
     requires ordered { RiseBy ask_in readers.old.items }
     requires keeps { KeepsConns (event_of event.now) }
     ensures readers { readers.new.items ≡ readers_after readers.old.items (event_of event.now) }
     ensures ordered { RiseBy ask_in readers.new.items }
-    ensures fewer { vec_len readers.new ≤ vec_len readers.old }
-    ensures capacity { vec_capacity readers.new ≡ vec_capacity readers.old }
+    ensures place { readers.old.room ≡ true → readers.new.room ≡ true }
 {
     match event {
         Event::Shut(_) => {}
-        Event::Answered { ask, .. } => drop_reader(readers, *ask),
+        Event::Answered { ask, .. } => readers.drop_ask(*ask),
         _ => {}
     }
 }

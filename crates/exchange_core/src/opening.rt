@@ -1,18 +1,21 @@
 //! Connections: they are opened and closed.
 
-ghost use Rattle.std.specs.Prelude.{ℕ, ◌≡◌, ◌≤◌, ◌<◌, ◌+◌, ◌^◌, Option, IsTrue, IsFalse, vec_len, vec_capacity};
+ghost use Rattle.std.specs.Prelude.{ℕ, ◌≡◌, ◌≤◌, ◌<◌, ◌+◌, ◌^◌, Option, None, Some, IfSome, IsTrue, IsFalse, vec_len, vec_capacity};
+ghost use Rattle.std.specs.List.{AllByRecursion};
 ghost use Rattle.limits.specs.declared.TheConstants.{LAST_MOMENT};
 ghost use Rattle.ask_model.specs.Sizes.{capped};
+ghost use Rattle.exchange_model.specs.declared.kept.Reader.{Reader};
 ghost use Rattle.exchange_model.specs.Resting.{HasConn};
 ghost use Rattle.exchange_model.specs.Steps.{opens, shuts};
 ghost use Rattle.exchange_core.specs.Calls.{IsOpened, IsClosed, IsUnknown};
 ghost use Rattle.exchange_core.specs.Places.{id_of};
 ghost use Rattle.exchange_table.specs.Places.{RiseBy};
+ghost use Rattle.exchange_table.specs.Readers.{ask_in};
 ghost use Rattle.exchange_core.specs.Sound.{IsSound};
 ghost use Rattle.exchange_core.specs.States.{state_of, given_in, outgoing, seen};
 
 use crate::fault::OpenFault;
-use crate::noting::{drop_conn, drop_readers};
+use crate::noting::drop_conn;
 use crate::places::conn_place;
 use crate::room;
 use crate::sealing::seal;
@@ -71,19 +74,24 @@ pub fn open<R: Relation>(s: &mut State<R>, moment: u64) -> Result<u32, OpenFault
     Ok(id)
 }
 
-/// Whether the connection with this number is open.
-fn has_conn(conns: &[Conn], id: u32) -> bool
+/// What the connection with this number waits for, if it is open.
+fn find_pending(conns: &[Conn], id: u32) -> Option<Option<u32>>
     requires { RiseBy id_of conns.now }
-    ensures some { IsTrue result → (p : Option ℕ) × HasConn conns.now id p }
-    ensures none { IsFalse result → (p : Option ℕ) → HasConn conns.now id p → ⊥ }
+    ensures some { IfSome result (HasConn conns.now id) }
+    ensures none { result ≡ None → (p : Option ℕ) → HasConn conns.now id p → ⊥ }
 {
-    conn_place(conns, id).is_some()
+    let place = conn_place(conns, id)?;
+    Some(conns[place].pending)
 }
 
-/// Takes a connection out, with who waits on it, and adds its entry.
-fn take_conn<R: Relation>(s: &mut State<R>, moment: u64, conn: u32)
+/// Takes a connection out, with who waits on it, and adds its entry. It waits for the answer to this
+/// ask, or for none.
+fn take_conn<R: Relation>(s: &mut State<R>, moment: u64, conn: u32, pending: Option<u32>)
     requires room { 0 < s.old.journal.room }
-    requires ordered { RiseBy id_of s.old.conns.items }
+    requires conns { RiseBy id_of s.old.conns.items }
+    requires readers { RiseBy ask_in s.old.readers.items }
+    requires waits { AllByRecursion (λ (r : Reader). r.conn ≡ conn → pending ≡ Some r.ask)
+        s.old.readers.items }
     ensures state { state_of s.new ≡ shuts moment conn (state_of s.old) }
     ensures room { s.new.journal.room + 1 ≡ s.old.journal.room }
     ensures bytes { s.new.bytes ≡ capped (s.old.bytes + 64) }
@@ -95,7 +103,7 @@ fn take_conn<R: Relation>(s: &mut State<R>, moment: u64, conn: u32)
         event: Event::Shut(conn),
     });
     drop_conn(&mut s.conns, conn);
-    drop_readers(&mut s.readers, conn);
+    s.readers.drop_conn(conn, pending);
     s.bytes = s.bytes.saturating_add(64);
     s.moment = moment;
 }
@@ -109,9 +117,9 @@ pub fn close<R: Relation>(s: &mut State<R>, moment: u64, conn: u32) -> bool
     ensures closed { IsTrue result → IsClosed moment conn (seen s.old) (seen s.new) }
     ensures unknown { IsFalse result → (seen s.new ≡ seen s.old) × IsUnknown conn (seen s.old) }
 {
-    if !has_conn(s.conns.as_slice(), conn) {
+    let Some(pending) = find_pending(s.conns.as_slice(), conn) else {
         return false;
-    }
-    take_conn(s, moment, conn);
+    };
+    take_conn(s, moment, conn, pending);
     true
 }

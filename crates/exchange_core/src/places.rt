@@ -1,11 +1,11 @@
-//! Where connections and readers stand: in the order of their numbers, so none is looked for by
-//! going through all.
+//! Where connections stand: in the order of their numbers, so none is looked for by going through
+//! all.
 
 ghost use Rattle.std.specs.Prelude.{◌≡◌, ◌<◌, None, IfSome, length, nat_lt};
-ghost use Rattle.exchange_core.specs.Places.{ask_in, has_ask, has_id, id_of};
+ghost use Rattle.exchange_core.specs.Places.{has_id, id_of};
 ghost use Rattle.exchange_table.specs.Places.{RiseBy, IsOnlyAt, IsNowhere};
 
-use exchange_model::{Conn, Reader};
+use exchange_model::Conn;
 
 /// The place of the connection with this number.
 pub fn conn_place(conns: &[Conn], id: u32) -> Option<usize>
@@ -21,20 +21,4 @@ pub fn conn_place(conns: &[Conn], id: u32) -> Option<usize>
     );
     let conn = conns.get(place)?;
     if conn.id == id { Some(place) } else { None }
-}
-
-/// The place of the reader of this ask.
-pub fn reader_place(readers: &[Reader], ask: u32) -> Option<usize>
-    requires { RiseBy ask_in readers.now }
-    ensures below { IfSome result (λ i. i < length readers.now) }
-    ensures some { IfSome result (IsOnlyAt (has_ask ask) readers.now) }
-    ensures none { result ≡ None → IsNowhere (has_ask ask) readers.now }
-{
-    let place = readers.partition_point(
-        |reader: &Reader| -> bool
-            ensures { result ≡ nat_lt reader.now.ask ask }
-        { reader.ask < ask },
-    );
-    let reader = readers.get(place)?;
-    if reader.ask == ask { Some(place) } else { None }
 }

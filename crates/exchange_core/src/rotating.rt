@@ -18,7 +18,7 @@ use crate::fault::RotateFault;
 use crate::state::State;
 use endpoint_table::Keeping;
 use exchange_model::Exchange;
-use exchange_table::{Exchanges, Fetched};
+use exchange_table::{Exchanges, Fetched, Readers};
 use journal_book::Journal;
 use journal_copies::{Copies, copies_of};
 use limits::{MAX_COPIES, MAX_COPIES_LEN, MAX_NUMBERED};
@@ -108,7 +108,7 @@ fn turn<R: Relation>(
     s.conns.clear();
     s.exchanges = Exchanges::new(alloc);
     s.fetched = Fetched::new(alloc);
-    s.readers.clear();
+    s.readers = Readers::new(alloc);
     s.store = Store::new(alloc);
     s.answers.clear();
     s.sends.clear();

@@ -16,8 +16,8 @@ use crate::answer::Answer;
 use crate::outgoing::Datagram;
 use crate::state::State;
 use endpoint_table::Endpoints;
-use exchange_model::{Conn, Reader};
-use exchange_table::{Exchanges, Fetched};
+use exchange_model::Conn;
+use exchange_table::{Exchanges, Fetched, Readers};
 use resp_cache::Store;
 use std::alloc::{AllocError, Global};
 use std::collections::VecDeque;
@@ -38,7 +38,7 @@ pub struct Snapshot<R: Relation> {
     conns: Vec<Conn>,
     exchanges: Exchanges,
     fetched: Fetched,
-    readers: Vec<Reader>,
+    readers: Readers,
     store: Store,
     endpoints: Endpoints,
     answers: Vec<Answer<R>>,
@@ -118,7 +118,7 @@ pub fn take_snapshot<R: Relation>(alloc: Global, s: &State<R>) -> Result<Snapsho
         conns: Vec::from_slice(alloc, &s.conns)?,
         exchanges: s.exchanges.copy(alloc)?,
         fetched: s.fetched.copy(alloc)?,
-        readers: Vec::from_slice(alloc, &s.readers)?,
+        readers: s.readers.copy(alloc)?,
         store: s.store.copy()?,
         endpoints: s.endpoints.copy()?,
         answers: copy_answers(alloc, &s.answers)?,

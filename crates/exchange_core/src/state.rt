@@ -1,6 +1,6 @@
 //! What a core keeps, and how what a step adds comes into it.
 
-ghost use Rattle.std.specs.Prelude.{ℕ, ◌≡◌, ◌≤◌, ◌<◌, ◌+◌, ◌∷◌, ◌++◌, [], map, length, vec_len, vec_capacity, sum_by, OnOk};
+ghost use Rattle.std.specs.Prelude.{ℕ, ◌≡◌, ◌≤◌, ◌<◌, ◌+◌, ◌∷◌, ◌++◌, [], map, length, true, vec_len, vec_capacity, sum_by, OnOk};
 ghost use Rattle.std.specs.VecDeque.{deque_len, deque_capacity};
 ghost use Rattle.ask_model.specs.Sizes.{capped};
 ghost use Rattle.journal_book.specs.Entries.{entry_size};
@@ -9,8 +9,9 @@ ghost use Rattle.limits.specs.declared.TheConstants.{MAX_ENTRIES};
 ghost use Rattle.exchange_model.specs.Growing.{conns_with};
 ghost use Rattle.exchange_model.specs.State.{conns_after, readers_after};
 ghost use Rattle.exchange_table.specs.Places.{RiseBy};
+ghost use Rattle.exchange_table.specs.Readers.{ask_in};
 ghost use Rattle.exchange_core.specs.Drafts.{AllKeep, Drafts, KeepsConns};
-ghost use Rattle.exchange_core.specs.Places.{IsOrdered, ask_in, id_of};
+ghost use Rattle.exchange_core.specs.Places.{IsOrdered, id_of};
 ghost use Rattle.exchange_core.specs.States.{state_of, outgoing, given_in, readers_with, with_draft, HasPlaces, SeesSame};
 
 use crate::answer::Answer;
@@ -18,8 +19,8 @@ use crate::draft::Draft;
 use crate::noting::{note_conns, note_readers};
 use crate::outgoing::Datagram;
 use endpoint_table::Endpoints;
-use exchange_model::{Conn, Reader};
-use exchange_table::{Exchanges, Fetched};
+use exchange_model::Conn;
+use exchange_table::{Exchanges, Fetched, Readers};
 use journal_book::{Entry, Journal};
 use resp_cache::Store;
 use std::alloc::{AllocError, Global};
@@ -44,7 +45,7 @@ pub struct State<R: Relation> {
     /// the pieces that they have fetched
     pub fetched: Fetched,
     /// who waits for an exchange, in the order of their asks
-    pub readers: Vec<Reader>,
+    pub readers: Readers,
     /// the responses that may be served again
     pub store: Store,
     pub endpoints: Endpoints,
@@ -68,7 +69,7 @@ pub fn start<R: Relation>(alloc: Global, s: &State<R>) -> Draft<R>
 fn add_entry<R: Relation>(
     journal: &mut Journal<R>,
     conns: &mut Vec<Conn>,
-    readers: &mut Vec<Reader>,
+    readers: &mut Readers,
     entry: Entry<R>,
 )
     requires room { 0 < journal.old.room }
@@ -84,8 +85,7 @@ fn add_entry<R: Relation>(
         ≡ readers_after readers.old.items (event_of entry.event) }
     ensures conns_rise { RiseBy id_of conns.new.items }
     ensures readers_rise { RiseBy ask_in readers.new.items }
-    ensures fewer { vec_len readers.new ≤ vec_len readers.old }
-    ensures capacity { vec_capacity readers.new ≡ vec_capacity readers.old }
+    ensures place { readers.old.room ≡ true → readers.new.room ≡ true }
 {
     note_conns(conns, journal.len() as u32, &entry.event);
     note_readers(readers, &entry.event);
@@ -97,7 +97,7 @@ fn add_entry<R: Relation>(
 fn add_all<R: Relation>(
     journal: &mut Journal<R>,
     conns: &mut Vec<Conn>,
-    readers: &mut Vec<Reader>,
+    readers: &mut Readers,
     entries: VecDeque<Entry<R>>,
 )
     requires room { deque_len entries ≤ journal.old.room }
@@ -111,8 +111,7 @@ fn add_all<R: Relation>(
         ≡ conns_with conns.old.items (length journal.old.entries) (map item_of entries.items) }
     ensures readers { readers.new.items
         ≡ readers_with readers.old.items (map item_of entries.items) }
-    ensures fewer { vec_len readers.new ≤ vec_len readers.old }
-    ensures capacity { vec_capacity readers.new ≡ vec_capacity readers.old }
+    ensures place { readers.old.room ≡ true → readers.new.room ≡ true }
 {
     let mut entries = entries;
     'each: while let Some(entry) = entries.pop_front() {
@@ -166,8 +165,7 @@ pub fn commit<R: Relation>(s: &mut State<R>, draft: Draft<R>, moment: u64)
     ensures held { length s.old.conns.items + 1 ≤ s.new.journal.room }
     ensures answers { given_in s.new ≡ given_in s.old ++ draft.answers }
     ensures sends { outgoing s.new ≡ outgoing s.old ++ draft.sends }
-    ensures fewer { vec_len s.new.readers ≤ vec_len s.old.readers }
-    ensures capacity { vec_capacity s.new.readers ≡ vec_capacity s.old.readers }
+    ensures place { s.old.readers.room ≡ true → s.new.readers.room ≡ true }
 {
     s.bytes = s.bytes.saturating_add(draft.bytes());
     s.moment = moment;

@@ -73,7 +73,7 @@ pub fn draft_timeouts<R: Relation>(
         → OnOk result (IsDrafted moment (state_of s.now)
         (ds ++ map answer_of (told_late exchanges.now s.now.readers.items)) draft.new) }
 {
-    let told = out_of_time(alloc, exchanges, &s.readers)?;
+    let told = out_of_time(alloc, exchanges, s.readers.as_slice())?;
     draft_tellings(draft, &s.journal, told, moment)
 }
 

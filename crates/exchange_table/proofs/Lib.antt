@@ -3,3 +3,4 @@ mod Standing
 mod Searching
 mod Indexed
 mod Outrun
+mod Grouping

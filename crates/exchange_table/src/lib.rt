@@ -3,20 +3,23 @@
 //! One contract: a table is the list of its exchanges, whatever stands behind it. An exchange is found
 //! by the token of its latest message through an index of its own, so that tokens needn't rise as
 //! openings do: an exchange of several messages has a new token for each. Beside the exchanges stand
-//! the pieces that those of several messages have fetched.
+//! the pieces that those of several messages have fetched, and who waits for them.
 //!
 //! The definitions stand in `specs/`, to be read in this order: `Places`, `Tables`,
-//! `Outrunning`, `Fetched`.
+//! `Outrunning`, `Fetched`, `Readers`.
 #![tactic(auto)]
 
 mod exchanges;
 mod fetched;
+mod groups;
 mod index;
 mod outrunning;
 mod places;
+mod readers;
 mod rows;
 
 pub use exchanges::Exchanges;
 pub use fetched::Fetched;
 pub use outrunning::asked;
+pub use readers::Readers;
 pub use rows::read_by;

@@ -21,7 +21,7 @@ draft_tellings-requires-clause-room g c =
     let S : State = state_of c.args.s.now in
     let k = c.requires.tells in
     let are : c.in_ok-told.told.items ≡ told_of (length S.entries) k.matter S.readers =
-    c.in_ok-told.ensures (length S.entries) k.numbers k.matter k.is ∙ ap (told_of (length S.entries) k.matter) c.deref.ensures.value in
+    c.in_ok-told.ensures (length S.entries) k.numbers k.matter k.is in
     let next = c.in_ok-draft.ensures.drafts.next in
     let few = c.requires.few in
     let link = link-few c.args.peer c.args.datagram.now c.args.heeding.now c.next_in-next.result.now in
@@ -36,7 +36,7 @@ draft_tellings-requires-clause-told g c =
     let S : State = state_of c.args.s.now in
     let k = c.requires.tells in
     let are : c.in_ok-told.told.items ≡ told_of (length S.entries) k.matter S.readers =
-    c.in_ok-told.ensures (length S.entries) k.numbers k.matter k.is ∙ ap (told_of (length S.entries) k.matter) c.deref.ensures.value in
+    c.in_ok-told.ensures (length S.entries) k.numbers k.matter k.is in
     let drafted : c.in_ok-draft.draft.entries ≡ map (written t) (link_deeds c.args.peer c.args.datagram.now c.args.heeding.now (next_in c.args.heeding.now c.args.matter.now)) =
     c.in_ok-draft.ensures.drafts.entries
     ∙ ap (λ v. map (written t) (link_deeds c.args.peer c.args.datagram.now c.args.heeding.now v)) c.next_in-next.ensures in
@@ -51,7 +51,7 @@ returns-clause-drafted g c = λ new x i.
     let ds = link_deeds c.args.peer c.args.datagram.now c.args.heeding.now in
     let now = c.next_in-next.result.now in
     let are : c.in_ok-told.told.items ≡ told_of n x S.readers =
-    c.in_ok-told.ensures n new x i ∙ ap (told_of n x) c.deref.ensures.value in
+    c.in_ok-told.ensures n new x i in
     subst (λ (es : List Deed). IsDrafted t S es c.draft_tellings.new.draft)
     (ap (λ (xs : List Telling). ds now ++ map deed_of xs) are
     ∙ (ap (λ (es : List Deed). ds now ++ es) (told-same n x S.readers)

@@ -52,7 +52,7 @@ after S S1 V rs c o k is more at =
 
 pub commit-requires-clause-ordered : goal.commit-requires-clause-ordered
 commit-requires-clause-ordered g c =
-    subst IsOrdered (sym (placed (state_of c.args.s.now) (state_of c.make_places.new.s) c.try_reserve.new.self.items c.make_places.ensures.same.state c.try_reserve.ensures.items))
+    subst IsOrdered (sym (placed (state_of c.args.s.now) (state_of c.make_places.new.s) c.make_room.new.self.items c.make_places.ensures.same.state c.make_room.ensures.same))
     (ordered (state_of c.args.s.now) c.requires.sound.kept)
 
 pub returns-clause-sound : goal.returns-clause-sound
@@ -63,9 +63,9 @@ returns-clause-sound g c =
     let S : State = state_of c.args.s.now in
     let d = c.in_ok-draft.draft in
     let fit = sym (c.in_ok-taken.ensures t) ∙ c.if-not-taken.false in
-    let made = placed S (state_of c.make_places.new.s) c.try_reserve.new.self.items m.state c.try_reserve.ensures.items in
-    let new = after S (state_of c.commit.new.s) (with_draft t d S) c.push_reserved.new.self.items c.args.conn c.args.opening c.len-ask.result
-    (e.state ∙ ap (λ (V : State). with_draft t d V) made) c.push_reserved.ensures.items c.len-ask.ensures in
+    let made = placed S (state_of c.make_places.new.s) c.make_room.new.self.items m.state c.make_room.ensures.same in
+    let new = after S (state_of c.commit.new.s) (with_draft t d S) c.push_in_room.new.self.items c.args.conn c.args.opening c.len-ask.result
+    (e.state ∙ ap (λ (V : State). with_draft t d V) made) c.push_in_room.ensures c.len-ask.ensures in
     join-sound t c.args.conn c.args.opening _ S d c.in_ok-draft.ensures.drafts
     _ _ _ (outgoing c.args.s.now) c.requires.sound c.requires.unsealed c.requires.joins c.in_ok-draft.ensures.answers
     _ _ _ _ c.requires.early fit new
@@ -80,9 +80,9 @@ returns-clause-is g c = λ ne n.
     let S : State = state_of c.args.s.now in
     let d = c.in_ok-draft.draft in
     let fit = sym (c.in_ok-taken.ensures t) ∙ c.if-not-taken.false in
-    let made = placed S (state_of c.make_places.new.s) c.try_reserve.new.self.items m.state c.try_reserve.ensures.items in
-    let new = after S (state_of c.commit.new.s) (with_draft t d S) c.push_reserved.new.self.items c.args.conn c.args.opening c.len-ask.result
-    (e.state ∙ ap (λ (V : State). with_draft t d V) made) c.push_reserved.ensures.items c.len-ask.ensures in
+    let made = placed S (state_of c.make_places.new.s) c.make_room.new.self.items m.state c.make_room.ensures.same in
+    let new = after S (state_of c.commit.new.s) (with_draft t d S) c.push_in_room.new.self.items c.args.conn c.args.opening c.len-ask.result
+    (e.state ∙ ap (λ (V : State). with_draft t d V) made) c.push_in_room.ensures c.len-ask.ensures in
     join-steps t c.args.conn c.args.opening _ S d c.in_ok-draft.ensures.drafts
     _ _ _ (outgoing c.args.s.now) c.requires.sound c.requires.unsealed c.requires.joins c.in_ok-draft.ensures.answers
     _ _ _ n fit new

@@ -1,10 +1,11 @@
-use Rattle.std.proofs.Common.{◌≡◌, ◌++◌, ◌+◌, ◌≤◌, length, map, vec_capacity, vec_len}
+use Rattle.std.proofs.Common.{◌≡◌, ◌++◌, ◌+◌, ◌≤◌, length, map, true}
 use Rattle.std.specs.VecDeque.{deque_len}
 use Rattle.journal_book.specs.Views.{item_of}
 use Rattle.exchange_model.specs.Growing.{conns_with}
 use Rattle.exchange_table.specs.Places.{RiseBy}
+use Rattle.exchange_table.specs.Readers.{ask_in}
 use Rattle.exchange_core.specs.Drafts.{AllKeep}
-use Rattle.exchange_core.specs.Places.{ask_in, id_of}
+use Rattle.exchange_core.specs.Places.{id_of}
 use Rattle.exchange_core.specs.States.{readers_with}
 use Rattle.exchange_core.proofs.state.add_all.Given as goal
 
@@ -21,8 +22,7 @@ invariant-each g l = record {
   keep : AllKeep (map item_of l.entries.items);
   conns_rise : RiseBy id_of l.conns.items;
   readers_rise : RiseBy ask_in l.readers.items;
-  fewer : vec_len l.readers ≤ vec_len l.initial.readers;
-  capacity : vec_capacity l.readers ≡ vec_capacity l.initial.readers;
+  place : l.initial.readers.room ≡ true → l.readers.room ≡ true;
 }
 
 abbrev pub decreases-each : goal.decreases-each

@@ -13,7 +13,7 @@ pub draft_tellings-requires-clause-room : goal.draft_tellings-requires-clause-ro
 draft_tellings-requires-clause-room g c =
     let rs = c.args.s.now.readers.items in
     let are : c.in_ok-told.told.items ≡ out_of_time c.args.exchanges.now rs =
-    c.in_ok-told.ensures ∙ rw (c.deref.ensures.value) refl in
+    c.in_ok-told.ensures ∙ rw (c.as_slice.ensures) refl in
     let count = ap (λ (xs : List Telling). length xs) are in
     let few = few-told (late_to c.args.exchanges.now) rs in
     let room = c.requires.room in
@@ -23,7 +23,7 @@ pub draft_tellings-requires-clause-told : goal.draft_tellings-requires-clause-to
 draft_tellings-requires-clause-told g c =
     let rs = c.args.s.now.readers.items in
     let are : c.in_ok-told.told.items ≡ out_of_time c.args.exchanges.now rs =
-    c.in_ok-told.ensures ∙ rw (c.deref.ensures.value) refl in
+    c.in_ok-told.ensures ∙ rw (c.as_slice.ensures) refl in
     subst (AllByRecursion (IsTold c.args.s.now.journal.entries c.args.draft.now.entries c.args.moment)) (sym are)
     (late-told c.args.s.now.journal.entries c.args.draft.now.entries c.args.moment c.args.exchanges.now rs c.requires.asked)
 
@@ -33,6 +33,6 @@ returns g c = λ ds h.
     let S = state_of c.args.s.now in
     let rs = c.args.s.now.readers.items in
     let are : c.in_ok-told.told.items ≡ out_of_time c.args.exchanges.now rs =
-    c.in_ok-told.ensures ∙ rw (c.deref.ensures.value) refl in
+    c.in_ok-told.ensures ∙ rw (c.as_slice.ensures) refl in
     subst (λ (es : List Deed). OnOk c.draft_tellings.result (IsDrafted t S (ds ++ es) c.draft_tellings.new.draft))
     (ap (map deed_of) are ∙ late-same c.args.exchanges.now rs) (c.draft_tellings.ensures S ds refl h)

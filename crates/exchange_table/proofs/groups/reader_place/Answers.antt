@@ -2,10 +2,10 @@ use Rattle.std.proofs.Common.{length, ltb, ltb-true, ltb-false, rules, sym}
 use Rattle.std.proofs.lemmas.Bool.{eq-eqb, ne_eqb}
 use Rattle.std.proofs.lemmas.List.Sorted.{IsPartitionedBy-ltb, IsPartitionPoint-from_clause}
 use Rattle.exchange_model.specs.declared.kept.Reader.{Reader}
-use Rattle.exchange_core.specs.Places.{ask_in, has_ask}
-use Rattle.exchange_table.proofs.CallerLemmas.{non-decreasing, none-past, none-there, only-at}
-use Rattle.exchange_core.proofs.Ordered.{ask-tells}
-use Rattle.exchange_core.proofs.places.reader_place.Goals as goal
+use Rattle.exchange_table.specs.Readers.{ask_in, has_ask}
+use Rattle.exchange_table.proofs.Standing.{non-decreasing, none-past, none-there, only-at}
+use Rattle.exchange_table.proofs.Grouping.{ask-tells}
+use Rattle.exchange_table.proofs.groups.reader_place.Goals as goal
 
 pub returns-in_err-reader-clause-none : goal.returns-in_err-reader-clause-none
 returns-in_err-reader-clause-none c =

@@ -1,0 +1,13 @@
+use Rattle.std.proofs.Common.{◌≡◌, ◌+◌, ◌∷◌, ◌++◌, [], rules, sym, subst}
+use Rattle.std.specs.Prelude.{insert}
+use Rattle.exchange_table.specs.Readers.{AreGrouped, IsFirstFrom}
+use Rattle.exchange_table.proofs.Grouping.{grouped-push}
+use Rattle.exchange_table.proofs.groups.put_last.Goals as goal
+
+pub returns : goal.returns
+returns c = λ rs grouped.
+    let groups = c.args.groups.now.items in
+    let r = c.args.reader in
+    let place : IsFirstFrom (r.opening + 1) groups c.first_from-place.result = rw (c.from.ensures, c.as_slice.ensures.value) at c.first_from-place.ensures in
+    let items : c.insert.new.self.items ≡ insert groups c.first_from-place.result r = search rules in
+    subst (AreGrouped (rs ++ r ∷ [])) (sym items) (grouped-push rs groups c.first_from-place.result r place grouped)

@@ -1,0 +1,77 @@
+//! Readers, those of each exchange together: so who waits for an exchange is found without going
+//! through all.
+
+ghost use Rattle.std.specs.Prelude.{◌≡◌, ◌≤◌, ◌<◌, ◌∷◌, ◌++◌, [], List, None, true, IfSome, filter, length, nat_lt, not, vec_capacity, vec_len};
+ghost use Rattle.std.specs.List.{AllByRecursion};
+ghost use Rattle.exchange_model.specs.declared.kept.Reader.{Reader as Row};
+ghost use Rattle.exchange_table.specs.Places.{RiseBy, IsOnlyAt, IsNowhere};
+ghost use Rattle.exchange_table.specs.Readers.{AreGrouped, Ascend, IsFirstFrom, ask_in, has_ask, opening_read, reads};
+
+use exchange_model::Reader;
+
+/// The place of the reader of this ask.
+pub fn reader_place(readers: &[Reader], ask: u32) -> Option<usize>
+    requires { RiseBy ask_in readers.now }
+    ensures below { IfSome result (λ i. i < length readers.now) }
+    ensures some { IfSome result (IsOnlyAt (has_ask ask) readers.now) }
+    ensures none { result ≡ None → IsNowhere (has_ask ask) readers.now }
+{
+    let place = readers.partition_point(
+        |reader: &Reader| -> bool
+            ensures { result ≡ nat_lt reader.now.ask ask }
+        { reader.ask < ask },
+    );
+    let reader = readers.get(place)?;
+    if reader.ask == ask { Some(place) } else { None }
+}
+
+/// The first place of those who read what the entry with this number opened, or a later one.
+fn first_from(groups: &[Reader], opening: u64) -> usize
+    requires { Ascend opening_read groups.now }
+    ensures { IsFirstFrom opening groups.now result }
+{
+    groups.partition_point(
+        |reader: &Reader| -> bool
+            ensures { result ≡ nat_lt reader.now.opening opening }
+        { u64::from(reader.opening) < opening },
+    )
+}
+
+/// Those who wait for the exchange with this opening.
+pub fn group_of(groups: &[Reader], opening: u32) -> &[Reader]
+    requires { Ascend opening_read groups.now }
+    ensures { result.now ≡ filter (reads opening) groups.now }
+{
+    let first = first_from(groups, u64::from(opening));
+    let end = first_from(groups, u64::from(opening) + 1);
+    &groups[first..end]
+}
+
+/// Puts the reader after those who wait for the same exchange, for which there is a place.
+pub fn put_last(groups: &mut Vec<Reader>, reader: Reader)
+    requires order { Ascend opening_read groups.old.items }
+    requires place { vec_len groups.old < vec_capacity groups.old }
+    ensures { (rs : List Row) → AreGrouped rs groups.old.items
+        → AreGrouped (rs ++ reader ∷ []) groups.new.items }
+{
+    let place = first_from(groups.as_slice(), u64::from(reader.opening) + 1);
+    if groups.insert(place, reader).is_err() {
+        unreachable!()
+    }
+}
+
+/// Takes out the reader of this ask, who waits for the exchange with this opening.
+pub fn take_out(groups: &mut Vec<Reader>, opening: u32, ask: u32)
+    requires order { Ascend opening_read groups.old.items }
+    requires asks { RiseBy ask_in (filter (reads opening) groups.old.items) }
+    requires there { AllByRecursion (λ (r : Row). has_ask ask r ≡ true → r.opening ≡ opening)
+        groups.old.items }
+    ensures items { groups.new.items ≡ filter (λ r. not (has_ask ask r)) groups.old.items }
+    ensures fewer { vec_len groups.new ≤ vec_len groups.old }
+    ensures capacity { vec_capacity groups.new ≡ vec_capacity groups.old }
+{
+    let first = first_from(groups.as_slice(), u64::from(opening));
+    if let Some(place) = reader_place(group_of(groups.as_slice(), opening), ask) {
+        groups.remove(first + place);
+    }
+}
