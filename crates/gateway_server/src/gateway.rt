@@ -2,16 +2,14 @@
 
 ghost use Rattle.std.specs.Prelude.{◌≡◌, ◌-◌, ◌^◌};
 
-use crate::options::Options;
 use crate::ports::Ports;
 use crate::shared::Shared;
 use crate::turning::turn_journals;
-use crate::watch::Watch;
-use crate::window::show_all;
 use ask_model::Settings;
 use exchange_core::OpenFault;
 use gateway_desk::{LockedDesk, Pass, Shop};
 use gateway_system::{Line, SystemClock};
+use gateway_window::{Options, Watch, show_all};
 use journal_archive::Archive;
 use log::{Log, info, warn};
 use route_bank::Profile;

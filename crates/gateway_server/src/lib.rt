@@ -7,20 +7,15 @@
 #![tactic(auto)]
 
 mod access;
-mod excerpts;
 mod gateway;
-mod options;
 mod ports;
 mod roll;
 mod shared;
-mod tally;
+mod showing;
 mod turning;
-mod watch;
-mod window;
 
 pub use gateway::run;
+pub use gateway_window::{Options, Payloads};
 pub use journal_archive::{Archive, NoArchive};
-pub use journal_lines::Payloads;
-pub use options::Options;
 pub use ports::Ports;
 pub use server_faults::ServeFault;

@@ -1,12 +1,11 @@
 //! What the threads of the gateway share.
 
 use crate::access::Access;
-use crate::options::Options;
 use crate::roll::Roll;
-use crate::watch::Watch;
 use ask_model::Settings;
 use gateway_desk::{LockedDesk, Pass};
 use gateway_system::{Client, DeviceSocket, Line, SystemClock, moment};
+use gateway_window::{Options, Watch};
 use log::{Log, info, warn};
 use route_bank::{Profile, store_for};
 use sessions::{Done, End, Gateway, serve};

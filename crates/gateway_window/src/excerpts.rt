@@ -1,16 +1,13 @@
-//! What is shown of the journal: its entries are copied under the desk's lock, and the lines made after.
+//! What is shown of the journal: its entries are copied first, and the lines made after.
 
-use crate::shared::Shared;
-use gateway_desk::Numbered;
+use crate::shown::Shown;
 use journal_book::Entry;
+use journal_extracts::Numbered;
 use journal_lines::{Payloads, Unwritten, write_entry};
 use route_bank::Profile;
 use status_page::Excerpt;
 use std::alloc::{AllocError, Global};
-use std::random::RandomSource;
-use std::rt::Clock;
 use std::sync::Wait;
-use std::sync::ledger::Ledger;
 
 /// What the journal has of what is asked for.
 #[derive(Drop)]
@@ -23,14 +20,14 @@ pub enum Found {
 }
 
 /// The journal from this entry on. The number of the next entry has an empty excerpt, and later ones none.
-pub fn found_from<W: Clock + RandomSource + Drop, L: Ledger, V: Wait>(
-    rt: &V,
+pub fn found_from<W: Wait, G: Shown>(
+    rt: &W,
     alloc: Global,
-    shared: &Shared<W, L>,
+    gateway: &G,
     from: u32,
 ) -> Result<Found, AllocError> {
     let from = from as usize;
-    let Some(extract) = shared.desk.entries_from(rt, alloc, from)? else {
+    let Some(extract) = gateway.entries_from(rt, alloc, from)? else {
         return Ok(Found::Turning);
     };
     if from > extract.total {
@@ -38,20 +35,20 @@ pub fn found_from<W: Clock + RandomSource + Drop, L: Ledger, V: Wait>(
     }
     let mut excerpt = Excerpt::new(alloc, from as u64);
     'each: for entry in &extract.entries {
-        add_line(alloc, &mut excerpt, entry, shared.options.payloads)?;
+        add_line(alloc, &mut excerpt, entry, gateway.payloads())?;
     }
     Ok(Found::Lines(excerpt))
 }
 
 /// What became of the request that this entry is or answers, or that was answered by it.
-pub fn found_about<W: Clock + RandomSource + Drop, L: Ledger, V: Wait>(
-    rt: &V,
+pub fn found_about<W: Wait, G: Shown>(
+    rt: &W,
     alloc: Global,
-    shared: &Shared<W, L>,
+    gateway: &G,
     number: u32,
 ) -> Result<Found, AllocError> {
     let number = number as usize;
-    let Some(entries) = shared.desk.entries_about(rt, alloc, number)? else {
+    let Some(entries) = gateway.entries_about(rt, alloc, number)? else {
         return Ok(Found::Turning);
     };
     if entries.is_empty() {
@@ -61,7 +58,7 @@ pub fn found_about<W: Clock + RandomSource + Drop, L: Ledger, V: Wait>(
     'each: for numbered in &entries {
         let Numbered { number, entry } = numbered;
         excerpt.next = u64::from(*number);
-        add_line(alloc, &mut excerpt, entry, shared.options.payloads)?;
+        add_line(alloc, &mut excerpt, entry, gateway.payloads())?;
     }
     Ok(Found::Lines(excerpt))
 }

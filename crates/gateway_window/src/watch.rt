@@ -1,18 +1,15 @@
 //! What is counted for those who look at the gateway, and what they are told.
 
-use crate::shared::Shared;
+use crate::figures::Figures;
+use crate::shown::Shown;
 use crate::tally::{CAUSES, MOST_DEVICES, Row, Tally};
+use answer_log::Given;
 use exchange_model::Exchange;
-use gateway_desk::Figures;
-use gateway_system::moment;
 use server_faults::ServeFault;
-use sessions::Told;
 use status_page::{Connections, Device, Fill, Last, Phase, Responses, Status};
 use std::alloc::{AllocError, Global};
-use std::random::RandomSource;
 use std::rt::Clock;
 use std::sync::atomic::{AtomicU64, Ordering};
-use std::sync::ledger::Ledger;
 use std::sync::{Mutex, Wait};
 use uri_map::is_same_peer;
 
@@ -30,6 +27,12 @@ pub struct Watch {
     turned: AtomicU64,
     /// how many look at the gateway
     viewers: AtomicU64,
+}
+
+/// The moment of the clock that never goes back, in milliseconds. None where it can't be read.
+pub fn moment<W: Clock>(rt: &W) -> Option<u64> {
+    let gone = rt.monotonic().ok()?;
+    Some(u64::try_from(gone.as_millis()).unwrap_or(u64::MAX))
 }
 
 impl Watch {
@@ -51,10 +54,10 @@ impl Watch {
     }
 
     /// Counts the answer to the request with this entry.
-    pub fn count_answer<W: Wait + Clock>(&self, rt: &W, told: &Told<'_>, ask: u32) {
+    pub fn count_answer<W: Wait + Clock>(&self, rt: &W, given: &Given<'_>, ask: u32) {
         let now = moment(rt).unwrap_or(self.begin);
         let turned = self.turned();
-        self.tally.lock(rt).count(told, ask, now, turned);
+        self.tally.lock(rt).count(given, ask, now, turned);
     }
 
     /// Counts a connection that was taken or turned away.
@@ -69,7 +72,7 @@ impl Watch {
     }
 
     /// How many journals were turned over.
-    fn turned(&self) -> u64 {
+    pub fn turned(&self) -> u64 {
         self.turned.load(Ordering::SeqCst)
     }
 
@@ -184,50 +187,35 @@ fn responses_of(alloc: Global, tally: &Tally) -> Result<Responses, AllocError> {
     })
 }
 
-/// Whether requests are taken. While the journal is turned over the desk may be held for long, so that it
-/// isn't locked then.
-pub fn phase_of<W: Clock + RandomSource + Drop, L: Ledger, V: Wait>(
-    rt: &V,
-    shared: &Shared<W, L>,
-) -> Phase {
-    if shared.desk.is_closing() {
-        Phase::Turning
-    } else if shared.desk.is_shut(rt) {
-        Phase::Stopping
-    } else {
-        Phase::Serving
-    }
-}
-
-/// What is told of the gateway where no figures are: the desk isn't locked while the journal is turned over.
-pub fn brief_status_of<W: Clock + RandomSource + Drop, L: Ledger, V: Wait + Clock>(
-    rt: &V,
+/// What is told of a gateway where no figures are: it isn't asked for any.
+pub fn brief_status_of<W: Wait + Clock, G: Shown>(
+    rt: &W,
     alloc: Global,
-    shared: &Shared<W, L>,
+    gateway: &G,
     watch: &Watch,
 ) -> Status {
-    Status::without_figures(alloc, phase_of(rt, shared), watch.now(rt))
+    Status::without_figures(alloc, gateway.phase(rt), watch.now(rt))
 }
 
-/// How the gateway does now. What it is told from is copied under locks, and the rest is done after.
-pub fn status_of<W: Clock + RandomSource + Drop, L: Ledger, V: Wait + Clock>(
-    rt: &V,
+/// How the gateway does now. What it is told from is copied first, and the rest is done after.
+pub fn status_of<W: Wait + Clock, G: Shown>(
+    rt: &W,
     alloc: Global,
-    shared: &Shared<W, L>,
+    gateway: &G,
     watch: &Watch,
 ) -> Result<Status, AllocError> {
-    let figures = shared.desk.figures(rt, alloc)?;
+    let figures = gateway.figures(rt, alloc)?;
     let tally = watch.tally(rt, alloc)?;
     Ok(Status {
-        phase: phase_of(rt, shared),
+        phase: gateway.phase(rt),
         started: watch.started,
         at: watch.now(rt),
         connections: watch.connections(&figures),
         exchanges: figures.exchanges.len() as u64,
         stored: figures.stored as u64,
         responses: responses_of(alloc, &tally)?,
-        sent: shared.devices.sent(),
-        heard: shared.devices.heard(),
+        sent: figures.sent,
+        heard: figures.heard,
         journal: Fill {
             entries: figures.entries as u64,
             bytes: figures.bytes,

@@ -4,20 +4,17 @@
 ghost use Rattle.std.specs.Prelude.{◌≤◌, length, IfSome};
 
 use crate::excerpts::{Found, found_about, found_from};
-use crate::shared::Shared;
-use crate::watch::{Watch, brief_status_of, phase_of, status_of};
+use crate::shown::Shown;
+use crate::watch::{Watch, brief_status_of, moment, status_of};
 use http_edge::{Edge, Incoming, Memory, answer_bytes};
-use log::Log;
 use status_page::{Excerpt, Phase, Status, View, answer_of, view_of};
 use std::alloc::Global;
 use std::io::{Read, Write};
 use std::net::{Shutdown, TcpListener, TcpStream};
-use std::random::RandomSource;
 use std::rt::Clock;
-use std::sync::ledger::Ledger;
 use std::sync::{Arc, Wait};
 use std::thread::{self, Threads};
-use std::time::{Duration, Instant};
+use std::time::Duration;
 
 /// How many look at a time. Others wait in the socket.
 const MOST_VIEWERS: u64 = 4;
@@ -32,20 +29,20 @@ const PAUSE: u64 = 10;
 /// As many bytes as an edge has room for.
 const ROOM: usize = 8192;
 
-/// Takes those who look, each in a thread of its own, until the desk is shut.
+/// Takes those who look, each in a thread of its own, until the gateway stops.
 pub fn show_all<
-    W: Threads + Wait + Log + Clock + RandomSource + Copy + Drop + Send + Sync + 'static,
-    L: Ledger + Send + Sync + 'static,
->(rt: W, alloc: Global, listener: &TcpListener, shared: &Arc<Shared<W, L>>) {
-    let Some(watch) = &shared.watch else { return };
+    W: Threads + Wait + Clock + Copy + Drop + Send + Sync + 'static,
+    G: Shown + Drop + Send + Sync + 'static,
+>(rt: W, alloc: Global, listener: &TcpListener, gateway: &Arc<G>) {
+    let Some(watch) = gateway.watch() else { return };
     for stream in listener.incoming() {
-        if phase_of(&rt, shared) == Phase::Stopping {
+        if gateway.phase(&rt) == Phase::Stopping {
             return;
         }
         match stream {
             Ok(stream) => {
                 await_place(&rt, watch);
-                show(rt, alloc, stream, shared, watch);
+                show(rt, alloc, stream, gateway, watch);
             }
             Err(_) => thread::sleep(&rt, Duration::from_millis(PAUSE)),
         }
@@ -64,12 +61,15 @@ fn await_place<W: Wait + Clock>(rt: &W, watch: &Watch) {
 
 /// Starts a thread for one who looks. Where it can't be started, the connection is closed.
 fn show<
-    W: Threads + Wait + Log + Clock + RandomSource + Copy + Drop + Send + Sync + 'static,
-    L: Ledger + Send + Sync + 'static,
->(rt: W, alloc: Global, stream: TcpStream, shared: &Arc<Shared<W, L>>, watch: &Watch) {
+    W: Threads + Wait + Clock + Copy + Drop + Send + Sync + 'static,
+    G: Shown + Drop + Send + Sync + 'static,
+>(rt: W, alloc: Global, stream: TcpStream, gateway: &Arc<G>, watch: &Watch) {
     watch.add_viewer();
-    let started = match Arc::try_clone(shared) {
-        Ok(mine) => thread::spawn(&rt, move || serve_view(&rt, alloc, &stream, &mine)).is_ok(),
+    let started = match Arc::try_clone(gateway) {
+        Ok(mine) => thread::spawn(
+            &rt,
+            move || serve_view::<W, G>(&rt, alloc, &stream, &mine),
+        ).is_ok(),
         Err(_) => false,
     };
     if !started {
@@ -78,17 +78,12 @@ fn show<
 }
 
 /// Answers one request, and closes the connection.
-fn serve_view<W: Wait + Clock + RandomSource + Drop, L: Ledger>(
-    rt: &W,
-    alloc: Global,
-    stream: &TcpStream,
-    shared: &Shared<W, L>,
-) {
-    let Some(watch) = &shared.watch else { return };
-    if let Ok(begin) = Instant::now(rt) {
+fn serve_view<W: Wait + Clock, G: Shown>(rt: &W, alloc: Global, stream: &TcpStream, gateway: &G) {
+    let Some(watch) = gateway.watch() else { return };
+    if let Some(begin) = moment(rt) {
         let view = Viewer { rt, stream, begin };
         if let Some(came) = view.read(alloc) {
-            if let Ok(bytes) = answer(rt, alloc, shared, watch, &came) {
+            if let Ok(bytes) = answer(rt, alloc, gateway, watch, &came) {
                 view.write(&bytes);
                 view.end();
             }
@@ -99,23 +94,23 @@ fn serve_view<W: Wait + Clock + RandomSource + Drop, L: Ledger>(
 
 /// The bytes of the answer to what came in. Nothing is counted for one that shows no figures, so that it
 /// waits for nobody.
-fn answer<W: Wait + Clock + RandomSource + Drop, L: Ledger>(
+fn answer<W: Wait + Clock, G: Shown>(
     rt: &W,
     alloc: Global,
-    shared: &Shared<W, L>,
+    gateway: &G,
     watch: &Watch,
     came: &Incoming,
 ) -> Result<Vec<u8>, Memory> {
     let found = match view_of(came) {
-        Ok(View::Journal(from)) => found_from(rt, alloc, shared, from)?,
-        Ok(View::Request(number)) => found_about(rt, alloc, shared, number)?,
+        Ok(View::Journal(from)) => found_from(rt, alloc, gateway, from)?,
+        Ok(View::Request(number)) => found_about(rt, alloc, gateway, number)?,
         Ok(View::People | View::Metrics) => {
-            let status = status_of(rt, alloc, shared, watch)?;
+            let status = status_of(rt, alloc, gateway, watch)?;
             return bytes_of(alloc, came, &status, None);
         }
         Ok(View::Health) | Err(_) => Found::Nothing,
     };
-    let mut status = brief_status_of(rt, alloc, shared, watch);
+    let mut status = brief_status_of(rt, alloc, gateway, watch);
     match &found {
         Found::Turning => {
             status.phase = Phase::Turning;
@@ -137,19 +132,18 @@ fn bytes_of(
     answer_bytes(alloc, &answer)
 }
 
-/// One who looks, since that moment.
+/// One who looks, since that moment in milliseconds.
 #[derive(Drop)]
 struct Viewer<'a, W: Clock> {
     rt: &'a W,
     stream: &'a TcpStream,
-    begin: Instant,
+    begin: u64,
 }
 
 impl<W: Clock> Viewer<'_, W> {
     /// How long it may look yet.
     fn left(&self) -> Option<Duration> {
-        let gone = self.begin.elapsed(self.rt).ok()?;
-        let gone = u64::try_from(gone.as_millis()).ok()?;
+        let gone = moment(self.rt)?.saturating_sub(self.begin);
         if gone < LONGEST_VIEW {
             Some(Duration::from_millis(LONGEST_VIEW - gone))
         } else {

@@ -2,11 +2,10 @@
 
 ghost use Rattle.std.specs.Prelude.{◌≤◌, ◌<◌, length};
 
-use crate::access::cause_of;
+use answer_log::Given;
 use ask_model::Cause;
 use http_edge::Incoming;
 use journal_book::Grounds;
-use sessions::Told;
 use status_page::Classes;
 use std::alloc::{AllocError, Global};
 use uri_map::{Peer, is_same_peer};
@@ -123,12 +122,10 @@ fn place_of(cause: Cause) -> usize
 
 /// The cause of an answer of the gateway's own. Where a device replied, that is that its response can't be
 /// passed on.
-fn cause_told(told: &Told<'_>) -> Option<Cause> {
-    match told.grounds {
+fn cause_given(given: &Given<'_>) -> Option<Cause> {
+    match given.grounds {
         Grounds::Fault(cause, _) => Some(*cause),
-        Grounds::Live(_) | Grounds::Kept(_) => {
-            cause_of(told.answer).map(|_| Cause::NotUnderstood)
-        }
+        Grounds::Live(_) | Grounds::Kept(_) => given.cause.map(|_| Cause::NotUnderstood),
     }
 }
 
@@ -169,10 +166,10 @@ impl Tally {
 
     /// Counts the answer to the request with this entry, which is given at this moment, after so many
     /// journals were turned over.
-    pub fn count(&mut self, told: &Told<'_>, ask: u32, now: u64, turned: u64) {
-        count_class(&mut self.classes, told.answer.status);
-        let cause = cause_told(told);
-        match (cause, told.grounds) {
+    pub fn count(&mut self, given: &Given<'_>, ask: u32, now: u64, turned: u64) {
+        count_class(&mut self.classes, given.status);
+        let cause = cause_given(given);
+        match (cause, given.grounds) {
             (Some(cause), _) => {
                 let place = place_of(cause);
                 self.causes[place] = self.causes[place].saturating_add(1);
@@ -180,14 +177,14 @@ impl Tally {
             (None, Grounds::Kept(_)) => self.kept = self.kept.saturating_add(1),
             (None, _) => {}
         }
-        let (Some(peer), Incoming::Request(request)) = (told.peer, told.came) else {
+        let (Some(peer), Incoming::Request(request)) = (given.peer, given.came) else {
             return;
         };
         self.add(Row {
             peer,
             answers: 1,
             timeouts: u64::from(cause == Some(Cause::Timeout)),
-            status: told.answer.status,
+            status: given.status,
             at: now,
             request: Excerpt::of(&request.method, &request.target),
             ask,

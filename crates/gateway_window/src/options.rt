@@ -6,12 +6,13 @@ use journal_lines::Payloads;
 const IDLE: u64 = 60;
 
 /// What an operator chooses of how the gateway runs.
-#[derive(Clone, Copy, Debug, PartialEq, Eq)]
+#[derive(Clone, Copy)]
 pub struct Options {
     /// Each answer is noted.
     pub access: bool,
-    /// For how many seconds, at least one, a client may stand still in a request; and how long a
-    /// connection is idle at least before it may be closed for another one.
+    /// For how many seconds, at least one, a client may stand still in a request, and an answer may
+    /// be on its way to it; and how long a connection is idle at least before it may be closed for
+    /// another one.
     pub idle: u64,
     /// Whoever looks at the journal sees what datagrams carry.
     pub payloads: Payloads,

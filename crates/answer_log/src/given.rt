@@ -1,0 +1,97 @@
+//! An answer that a client was given.
+
+ghost use Rattle.std.specs.Prelude.{◌≡◌, ◌≤◌, ◌+◌};
+
+use http_edge::{HttpAnswer, Incoming};
+use journal_book::Grounds;
+use uri_map::Peer;
+
+/// The field of an answer of the gateway's own.
+const CAUSE: &str = "HC-Cause";
+
+/// What comes before its value among the bytes of an answer.
+const CAUSE_LINE: &[u8] = b"\r\nHC-Cause: ";
+
+/// How many bytes come before the status among those of an answer.
+const BEFORE_STATUS: usize = 9;
+
+/// An answer that a client was given.
+#[derive(Clone, Copy)]
+pub struct Given<'a> {
+    /// what was asked
+    pub came: &'a Incoming,
+    /// the device that was to be asked, unless the request was refused
+    pub peer: Option<Peer>,
+    /// what the answer rests on
+    pub grounds: &'a Grounds,
+    pub status: u16,
+    /// what it has of a cause of the gateway's own
+    pub cause: Option<&'a [u8]>,
+    /// how many bytes it has; None where it couldn't be written
+    pub count: Option<usize>,
+}
+
+/// What the answer has of a cause of the gateway's own.
+pub fn cause_of(answer: &HttpAnswer) -> Option<&[u8]> {
+    'each: for field in &answer.fields {
+        if field.name == CAUSE {
+            return Some(field.value.as_slice());
+        }
+    }
+    None
+}
+
+/// What the head of an answer says first.
+#[derive(Clone, Copy)]
+pub struct Heading<'a> {
+    pub status: u16,
+    /// a cause of the gateway's own
+    pub cause: Option<&'a [u8]>,
+}
+
+/// What the bytes of an answer's head say.
+pub fn heading_of(head: &[u8]) -> Heading<'_> {
+    Heading {
+        status: status_in(head),
+        cause: cause_in(head),
+    }
+}
+
+/// The cause of the gateway's own, if there is one.
+fn cause_in(head: &[u8]) -> Option<&[u8]> {
+    'each: for at in 0..head.len() {
+        if let Some(rest) = head[at..].strip_prefix(CAUSE_LINE) {
+            return Some(line_of(rest));
+        }
+    }
+    None
+}
+
+/// What comes before the end of the line.
+fn line_of(bytes: &[u8]) -> &[u8] {
+    'each: for (at, byte) in bytes.iter().enumerate() {
+        if *byte == b'\r' {
+            return &bytes[..at];
+        }
+    }
+    bytes
+}
+
+/// The three digits of the status, as a number.
+fn status_in(head: &[u8]) -> u16 {
+    match head.get(BEFORE_STATUS..BEFORE_STATUS + 3) {
+        Some([a, b, c]) => digit(*a) * 100 + digit(*b) * 10 + digit(*c),
+        _ => 0,
+    }
+}
+
+/// The digit that this byte spells.
+fn digit(byte: u8) -> u16
+    ensures least { result ≤ 9 }
+    ensures spelled { 48 ≤ byte → byte ≤ 57 → byte ≡ 48 + result }
+{
+    match byte {
+        b'0'..=b'9' => u16::from(byte - b'0'),
+        _ => 0,
+    }
+}
