@@ -18,7 +18,7 @@ use std::time::{Duration, Instant};
 /// How long a client has to read its last answer, in milliseconds.
 const FAREWELL: u64 = 1000;
 
-/// How long an answer waits at most until the client reads more of it, in milliseconds.
+/// How long an answer may be on its way where clients aren't waited for any longer, in milliseconds.
 const LONGEST_WRITE: u64 = 10_000;
 
 /// How long a client that was answered, or has just connected, has to send a request before its
@@ -34,6 +34,9 @@ const IDLE: u64 = 1;
 /// It waits for the rest of a request.
 const READING: u64 = 2;
 
+/// It writes.
+const WRITING: u64 = 3;
+
 /// A connection over TCP that was taken, which its session shares with the one who closes it where
 /// nothing is in hand.
 #[derive(Drop)]
@@ -41,7 +44,8 @@ pub struct Line {
     stream: TcpStream,
     /// what the session does
     phase: AtomicU64,
-    /// when it was taken, its last answer was written, or its request began, in milliseconds of the clock
+    /// when it was taken, its request began, or its last answer began to be written or was, in
+    /// milliseconds of the clock
     since: AtomicU64,
     /// it is being closed from here
     ends: AtomicBool,
@@ -54,11 +58,9 @@ pub fn moment<W: Clock>(rt: &W) -> Option<u64> {
 }
 
 impl Line {
-    /// A connection that was taken. Its answers go out without delay, and one of which nobody reads
-    /// more for ten seconds fails.
+    /// A connection that was taken. Its answers go out without delay.
     pub fn new<W: Clock>(rt: &W, stream: TcpStream) -> Line {
         let _ = stream.set_nodelay(true);
-        let _ = stream.set_write_timeout(Some(Duration::from_millis(LONGEST_WRITE)));
         Line {
             stream,
             phase: AtomicU64::new(BUSY),
@@ -79,8 +81,9 @@ impl Line {
         }
     }
 
-    /// For how many milliseconds nothing was asked on it, at this moment, where its session waits for the
-    /// next request; or else for how many a request has been coming, where it waits for the rest of one.
+    /// For how many milliseconds nothing was asked on it, at this moment, where its session waits
+    /// for the next request; or else for how many a request has been coming, where it waits for the
+    /// rest of one.
     pub fn waits(&self, now: u64, rest: bool) -> Option<u64> {
         let phase = if rest { READING } else { IDLE };
         if self.phase.load(Ordering::SeqCst) != phase {
@@ -89,8 +92,8 @@ impl Line {
         Some(now.saturating_sub(self.since.load(Ordering::SeqCst)))
     }
 
-    /// Lets the client go that left while its session did something else than read: true where it closed
-    /// its end or is gone, and wasn't let go before.
+    /// Lets the client go that left while its session did something else than read: true where it
+    /// closed its end or is gone, and wasn't let go before.
     pub fn lets_go(&self) -> bool {
         if self.phase.load(Ordering::SeqCst) != BUSY || self.ends.load(Ordering::SeqCst) {
             return false;
@@ -103,17 +106,17 @@ impl Line {
         poll(&mut asked, 0) > 0 && !self.ends.swap(true, Ordering::SeqCst)
     }
 
-    /// Ends what comes in where the session has waited for the next request for a while, at this moment;
-    /// or, where none is waited for any longer, for the next one or the rest of one. What came before that
-    /// is still read.
+    /// Ends what comes in where the session has waited for the next request for a while, at this
+    /// moment; or, where none is waited for any longer, for the next one or the rest of one. What
+    /// came before that is still read. Where none is waited for any longer, an answer is cut off
+    /// too that has been on its way for long.
     pub fn end_reading(&self, longer: bool, now: u64) {
-        let ends = match self.phase.load(Ordering::SeqCst) {
-            IDLE => !longer || now.saturating_sub(self.since.load(Ordering::SeqCst)) >= GRACE,
-            READING => !longer,
-            _ => false,
-        };
-        if ends {
-            self.end();
+        let time = now.saturating_sub(self.since.load(Ordering::SeqCst));
+        match self.phase.load(Ordering::SeqCst) {
+            IDLE if !longer || time >= GRACE => self.end(),
+            READING if !longer => self.end(),
+            WRITING if !longer && time >= LONGEST_WRITE => self.cut_off(),
+            _ => {}
         }
     }
 
@@ -122,6 +125,12 @@ impl Line {
         self.ends.store(true, Ordering::SeqCst);
         let _ = self.stream.shutdown(Shutdown::Read);
     }
+
+    /// Ends what comes in and what goes out, so that a write that waits fails.
+    fn cut_off(&self) {
+        self.ends.store(true, Ordering::SeqCst);
+        let _ = self.stream.shutdown(Shutdown::Both);
+    }
 }
 
 /// A client's connection over TCP, as its session has it.
@@ -129,7 +138,7 @@ impl Line {
 pub struct Client<'a, W: Clock> {
     rt: &'a W,
     line: Arc<Line>,
-    /// how long a request that has begun may stand still
+    /// how long a request that has begun may stand still, and an answer may be on its way
     patience: Duration,
     /// reads end after that time
     hurries: bool,
@@ -139,8 +148,10 @@ pub struct Client<'a, W: Clock> {
 }
 
 impl<'a, W: Clock> Client<'a, W> {
-    /// The session's end of a connection, where a request that has begun may stand still for so long.
+    /// The session's end of a connection, where a request that has begun may stand still for so
+    /// long, and a client may take as long for an answer.
     pub fn new(rt: &'a W, line: Arc<Line>, patience: Duration) -> Client<'a, W> {
+        let _ = line.stream.set_write_timeout(Some(patience));
         Client {
             rt,
             line,
@@ -151,7 +162,8 @@ impl<'a, W: Clock> Client<'a, W> {
         }
     }
 
-    /// Whether the client was given up, since it stood still in a request, or read nothing of an answer.
+    /// Whether the client was given up, since it stood still in a request, or took too long for an
+    /// answer.
     pub fn gave_up(&self) -> bool {
         self.gave_up
     }
@@ -190,6 +202,44 @@ impl<'a, W: Clock> Client<'a, W> {
         }
     }
 
+    /// What is left of the client's time for an answer that began to be written at this moment.
+    fn left(&self, begin: u64) -> Option<Duration> {
+        let gone = moment(self.rt)?.saturating_sub(begin);
+        let left = self.patience.checked_sub(Duration::from_millis(gone))?;
+        (!left.is_zero()).then_some(left)
+    }
+
+    /// Writes the bytes, for which the client has its time in all. The system waits for so long in
+    /// one call, which then may have written a part.
+    fn write_in_time(&self, bytes: &[u8]) -> io::Result<()> {
+        let begin = moment(self.rt).unwrap_or(0);
+        self.line.since.store(begin, Ordering::SeqCst);
+        let rest = write_some(&self.line.stream, bytes)?;
+        if rest.is_empty() {
+            return Ok(());
+        }
+        let written = self.write_rest(rest, begin);
+        let _ = self.line.stream.set_write_timeout(Some(self.patience));
+        written
+    }
+
+    /// Writes the rest of an answer that began to be written at this moment. In the next call the
+    /// system would wait as long again, so each call has what is left of the time.
+    fn write_rest(&self, bytes: &[u8], begin: u64) -> io::Result<()> {
+        let mut rest = bytes;
+        'each: for _ in 0..u64::MAX {
+            let Some(left) = self.left(begin) else {
+                return Err(io::Error::from(ErrorKind::TimedOut));
+            };
+            self.line.stream.set_write_timeout(Some(left))?;
+            rest = write_some(&self.line.stream, rest)?;
+            if rest.is_empty() {
+                return Ok(());
+            }
+        }
+        Err(io::Error::from(ErrorKind::TimedOut))
+    }
+
     /// Ends the connection so that the client still reads what was written: what it sends meanwhile
     /// is read and dropped (RFC 9112, section 9.6). It takes two seconds at most.
     pub fn end(&mut self) {
@@ -212,6 +262,16 @@ impl<'a, W: Clock> Client<'a, W> {
                 },
             }
         }
+    }
+}
+
+/// Writes as much as the system takes, and answers what is left.
+fn write_some<'a>(mut stream: &TcpStream, bytes: &'a [u8]) -> io::Result<&'a [u8]> {
+    match stream.write(bytes) {
+        Ok(0) if !bytes.is_empty() => Err(io::Error::from(ErrorKind::WriteZero)),
+        Ok(count) => Ok(&bytes[count..]),
+        Err(error) if error.kind() == ErrorKind::Interrupted => Ok(bytes),
+        Err(error) => Err(error),
     }
 }
 
@@ -247,8 +307,10 @@ impl<W: Clock> Stream for Client<'_, W> {
     }
 
     fn write(&mut self, bytes: &[u8]) -> Result<(), Failed> {
-        let mut stream = &self.line.stream;
-        if let Err(error) = stream.write_all(bytes) {
+        self.line.phase.store(WRITING, Ordering::SeqCst);
+        let written = self.write_in_time(bytes);
+        self.line.phase.store(BUSY, Ordering::SeqCst);
+        if let Err(error) = written {
             self.gave_up = is_late(error.kind());
             self.faults = self.faults.saturating_add(1);
             return Err(Failed);
