@@ -212,7 +212,7 @@ asked-once t c a n S = sense a.sense
     sense (Requests q) = for (served_in q t S) q
 
 -- in room, or not
-fits-in : (b f : Bool) (t : ℕ) (S S1 : State) → S.sealed ≡ b → (cond b S (cond f S1 (seals t S))).sealed ≡ false
+pub fits-in : (b f : Bool) (t : ℕ) (S S1 : State) → S.sealed ≡ b → (cond b S (cond f S1 (seals t S))).sealed ≡ false
     → cond b S (cond f S1 (seals t S)) ≡ S1
 fits-in true f t S S1 is e = absurd (differ (sym is ∙ e))
   where

@@ -2,6 +2,7 @@
 use Rattle.std.specs.Prelude.{◌≡◌, ◌≢◌, ◌⊎◌, ⊤, ℕ, zero, suc, List, sum_by, None, Ok, Err}
 use Rattle.journal_book.specs.Entries.{Written}
 use Rattle.exchange_model.specs.Rotating.{fault_of}
+use Rattle.exchange_core.specs.declared.fault.OpenFault.{OpenFault}
 use Rattle.exchange_core.specs.declared.fault.OpenFault.TheVariants as Open
 use Rattle.exchange_core.specs.Calls.{now, IsOpened, IsClosed, IsUnknown}
 use Rattle.exchange_core.specs.Rotating.{IsRefused}
@@ -39,8 +40,12 @@ PassBy zero moment old new = new ≡ old
 PassBy (suc n) moment old new =
     (mid : CoreValue) × PassBy n moment old mid × PassesBy moment mid new
 
--- As many as the journal takes, and the next one finds it sealed.
-abbrev pub FillsUp : ℕ → CoreValue → CoreValue → Type 0
-FillsUp moment old new =
+-- As many as may be were, and the next one is refused for this.
+abbrev pub PassUntil : OpenFault → ℕ → CoreValue → CoreValue → Type 0
+PassUntil fault moment old new =
     (n : ℕ) × (mid : CoreValue) × PassBy n moment old mid
-    × IsOpened (Err Open.Sealed) (now mid.state.moment moment) mid new
+    × IsOpened (Err fault) (now mid.state.moment moment) mid new
+
+-- The next one finds the journal sealed.
+abbrev pub FillsUp : ℕ → CoreValue → CoreValue → Type 0
+FillsUp moment old new = PassUntil Open.Sealed moment old new

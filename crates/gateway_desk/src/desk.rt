@@ -1,6 +1,6 @@
 //! The desk: a shop that sessions share under one lock.
 
-ghost use Rattle.std.specs.Prelude.{◌≡◌, ◌+◌, ◌≤◌, ◌<◌, ◌++◌, ◌∷◌, [], length, take, sum_by, IfOk, IfErr, IfSome, IsTrue, IsFalse, OnOk, OnErr};
+ghost use Rattle.std.specs.Prelude.{◌≡◌, ◌≢◌, ◌+◌, ◌≤◌, ◌<◌, ◌++◌, ◌∷◌, [], length, take, sum_by, IfOk, IfErr, IfSome, IsTrue, IsFalse, OnOk, OnErr};
 ghost use Rattle.std.specs.Arc.{arc_value};
 ghost use Rattle.std.specs.List.{All};
 ghost use Rattle.history_laws.specs.Justified.{Stands};
@@ -177,7 +177,9 @@ impl<R: Relation, C: Clock, L: Ledger> LockedDesk<R, C, L> {
 
     /// Brings the journal to its seal by connections that are opened and closed at once. It is for a
     /// desk where nobody is connected, since 256 may be.
-    pub fn fill_up<W: Wait>(&self, rt: &W) -> Result<(), OpenFault> {
+    pub fn fill_up<W: Wait>(&self, rt: &W) -> Result<(), OpenFault>
+        ensures { IfErr result (λ fault. fault ≢ OpenFault.Sealed) }
+    {
         let mut guard = self.state.lock(rt);
         guard.fill_up()
     }

@@ -1,6 +1,6 @@
 //! What lies under the lock of a desk.
 
-ghost use Rattle.std.specs.Prelude.{◌≡◌, ◌⊎◌, ◌≤◌, ◌<◌, ◌++◌, ◌∷◌, [], length, take, Ok, Err, IfOk, IfErr, OnOk, OnErr, MatchResult, Some, None, is_some, not, option_map, sum_by, true, false};
+ghost use Rattle.std.specs.Prelude.{◌≡◌, ◌≢◌, ◌⊎◌, ◌≤◌, ◌<◌, ◌++◌, ◌∷◌, [], length, take, Ok, Err, IfOk, IfErr, OnOk, OnErr, MatchResult, Some, None, is_some, not, option_map, sum_by, true, false};
 ghost use Rattle.std.specs.Arc.{arc_value};
 ghost use Rattle.std.specs.List.{All};
 ghost use Rattle.journal_book.specs.Views.{ask_of};
@@ -19,7 +19,7 @@ ghost use Rattle.gateway_desk.specs.Lines.{made};
 ghost use Rattle.gateway_desk.specs.Resting.{rest_time, rest_until, is_sooner};
 ghost use Rattle.gateway_desk.specs.Sending.{AreUnsent};
 ghost use Rattle.gateway_desk.specs.Settled.{IsJustified, AreApart, answered};
-ghost use Rattle.gateway_desk.specs.Turning.{FillsUp, IsUnturned};
+ghost use Rattle.gateway_desk.specs.Turning.{PassUntil, FillsUp, IsUnturned};
 
 use crate::clock::Clock;
 use crate::figures::Figures;
@@ -349,6 +349,9 @@ impl<R: Relation, C: Clock, L: Ledger> DeskState<R, C, L> {
     pub fn fill_up(&mut self) -> Result<(), OpenFault>
         ensures fills { OnOk result (FillsUp (C.time self.new.clock)
             self.old.shop.core self.new.shop.core) }
+        ensures refused { IfErr result (λ fault. (fault ≢ OpenFault.Sealed)
+            × PassUntil fault (C.time self.new.clock) self.old.shop.core self.new.shop.core) }
+        ensures left { self.new.shop.left ≡ self.old.shop.left }
     {
         let moment = self.clock.moment();
         self.shop.fill_up(moment)

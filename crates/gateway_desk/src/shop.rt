@@ -1,6 +1,6 @@
 //! The core that sessions share, beside the book of their asks.
 
-ghost use Rattle.std.specs.Prelude.{◌≡◌, ◌⊎◌, ◌+◌, ◌-◌, ◌<◌, ◌^◌, ◌++◌, ◌∷◌, [], Ok, Err, IfOk, IfErr, OnOk, OnErr, IsTrue, IsFalse, length, option_map, sum_by};
+ghost use Rattle.std.specs.Prelude.{◌≡◌, ◌≢◌, ◌⊎◌, ◌+◌, ◌-◌, ◌<◌, ◌^◌, ◌++◌, ◌∷◌, [], Ok, Err, IfOk, IfErr, OnOk, OnErr, IsTrue, IsFalse, length, option_map, sum_by};
 ghost use Rattle.std.specs.List.{All};
 ghost use Rattle.std.specs.Arc.{arc_value};
 ghost use Rattle.journal_book.specs.Views.{ask_of};
@@ -22,7 +22,7 @@ ghost use Rattle.gateway_desk.specs.Ledgers.{asks_of};
 ghost use Rattle.gateway_desk.specs.Lines.{made};
 ghost use Rattle.gateway_desk.specs.Sending.{AreUnsent};
 ghost use Rattle.gateway_desk.specs.Settled.{IsJustified, AreApart, answered};
-ghost use Rattle.gateway_desk.specs.Turning.{PassesBy, FillsUp, IsUnturned};
+ghost use Rattle.gateway_desk.specs.Turning.{PassesBy, PassUntil, FillsUp, IsUnturned};
 
 use crate::figures::{Figures, figures_of};
 use crate::pass::Pass;
@@ -42,8 +42,8 @@ use std::sync::ledger::{Blank, Book, Ledger, Share};
 use transformers::Relation;
 use uri_map::Peer;
 
-/// How many connections a journal has at most.
-const MOST_OPENED: u64 = 65_536;
+/// More connections than a journal has entries.
+const MORE_THAN_FIT: u64 = 65_537;
 
 /// A core, and the book of the ledger of asks. Its type keeps that the journal has as many asks as
 /// the book counts, and so as many as the shares of all passes; and that what waits to be sent are
@@ -250,19 +250,24 @@ impl<R: Relation, L: Ledger> Shop<R, L> {
     }
 
     /// Brings the journal to its seal by entries that cost nobody: connections are opened and closed
-    /// at once. It is for a shop where nobody is connected.
+    /// at once. It is for a shop where nobody is connected. Where one isn't opened for another reason,
+    /// those before it stay in the journal.
     pub fn fill_up(&mut self, moment: u64) -> Result<(), OpenFault>
         ensures fills { OnOk result (FillsUp moment self.old.core self.new.core) }
+        ensures refused { IfErr result (λ fault. (fault ≢ OpenFault.Sealed)
+            × PassUntil fault moment self.old.core self.new.core) }
         ensures left { self.new.left ≡ self.old.left }
     {
-        'each: for _ in 0..MOST_OPENED {
+        'each: for _ in 0..MORE_THAN_FIT {
             match self.pass_by(moment) {
                 Ok(()) => {}
                 Err(OpenFault::Sealed) => return Ok(()),
                 Err(fault) => return Err(fault),
             }
         }
-        Err(OpenFault::Full)
+        // each of them is an entry, and no journal has as many
+        let _journal = self.journal();
+        unreachable!()
     }
 
     /// Gives its sealed journal out, where nobody is connected, no exchange is open, and the journal
