@@ -6,7 +6,8 @@ ghost use Rattle.ask_model.specs.Views.{rules_of};
 ghost use Rattle.transformers.specs.Suits.{Suits};
 
 use crate::rows::{
-    BOTH_LATE, COPIED, DOWNLOAD, EXPECT, JSON, LARGEST, LAST, LIGHT, PIECES, PIPELINED, PUT, Row,
+    BOTH_LATE, COPIED, DOWNLOAD, EXPECT, JOINED, JSON, LARGEST, LAST, LIGHT, OUTRUN, PIECES,
+    PIPELINED, PUT, Row, UPLOAD,
 };
 use ask_model::Settings;
 use command_line::{Line, LineFault, ReplayFault, demonstration, line_of};
@@ -135,8 +136,9 @@ fn holds(alloc: Global, row: Row) -> bool {
     is_right && first != End::Wrong && second != End::Wrong
 }
 
-static ROWS: [Row; 11] = [
+static ROWS: [Row; 14] = [
     LIGHT, PUT, LARGEST, DOWNLOAD, JSON, PIPELINED, BOTH_LATE, EXPECT, LAST, COPIED, PIECES,
+    JOINED, OUTRUN, UPLOAD,
 ];
 
 /// Whether the row at that place holds.
@@ -200,4 +202,19 @@ fn memory_refused_to_copies(rt: HostRuntime) {
 #[test]
 fn memory_refused_to_pieces(rt: HostRuntime) {
     assert!(rt; holds_at(rt.alloc(), 10));
+}
+
+#[test]
+fn memory_refused_to_readers_and_the_store(rt: HostRuntime) {
+    assert!(rt; holds_at(rt.alloc(), 11));
+}
+
+#[test]
+fn memory_refused_to_what_a_write_outruns(rt: HostRuntime) {
+    assert!(rt; holds_at(rt.alloc(), 12));
+}
+
+#[test]
+fn memory_refused_to_a_body_in_pieces(rt: HostRuntime) {
+    assert!(rt; holds_at(rt.alloc(), 13));
 }

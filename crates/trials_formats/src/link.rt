@@ -270,8 +270,37 @@ fn remembered(rt: HostRuntime) {
     for mid in 0..1024u16 {
         assert!(rt; answers_ping(&mut link, mid));
     }
+    let mut copy = link.copy().expect(&rt, "memory");
     check(&rt, "remembered", remembers(&mut link));
     check(&rt, "forgotten", forgets(&mut link));
+    check(&rt, "remembered by the copy", remembers(&mut copy));
+    check(&rt, "forgotten by the copy", forgets(&mut copy));
+}
+
+/// What the response with this ID tells.
+fn tells(link: &mut Link, mid: u8, moment: u32) -> Option<Said> {
+    let said = hear(link, &[0x41, 0x45, 0, mid, 9, 0xff, 0x6f, 0x6e], moment);
+    link.take_send();
+    said
+}
+
+/// Of two that were heard, the later first, the other is forgotten; what comes after that is
+/// remembered, at an earlier moment too.
+fn forgets_the_earlier(link: &mut Link) -> bool {
+    tells(link, 2, 300_000) == Some(Said::Response)
+        && tells(link, 1, 300_000) == Some(Said::Nothing)
+        && tells(link, 3, 10) == Some(Said::Response)
+        && tells(link, 3, 20) == Some(Said::Nothing)
+}
+
+#[test]
+fn clock_that_goes_back(rt: HostRuntime) {
+    let mut link = one_sent(rt.alloc(), Token::new(&[9])).expect(&rt, "a GET goes out");
+    assert!(rt; tells(&mut link, 1, 600_000) == Some(Said::Response));
+    assert!(rt; tells(&mut link, 2, 0) == Some(Said::Response));
+    let mut copy = link.copy().expect(&rt, "memory");
+    check(&rt, "the link", forgets_the_earlier(&mut link));
+    check(&rt, "its copy", forgets_the_earlier(&mut copy));
 }
 
 /// What is heard is answered so, or not at all.

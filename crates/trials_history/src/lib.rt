@@ -21,4 +21,6 @@ mod rooms;
 #[cfg(test)]
 mod sample;
 #[cfg(test)]
+mod turn_memory;
+#[cfg(test)]
 mod turns;

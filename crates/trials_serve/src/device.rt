@@ -29,14 +29,19 @@ pub enum Manner {
     Silent,
 }
 
-/// After how many datagrams that come from the devices the wire fails.
+/// After how many datagrams to the devices one is lost, and after how many from them the wire
+/// fails.
 #[derive(Clone, Copy)]
 pub struct Failing {
+    pub sent: u64,
     pub received: u64,
 }
 
 /// Nothing fails.
-pub const SOUND: Failing = Failing { received: u64::MAX };
+pub const SOUND: Failing = Failing {
+    sent: u64::MAX,
+    received: u64::MAX,
+};
 
 /// A datagram on its way to the proxy.
 #[derive(Drop)]
@@ -53,6 +58,8 @@ struct Mail {
     /// how many go well yet
     left: Failing,
     has_failed: bool,
+    /// whether a datagram was waited for
+    is_heard: bool,
     is_on: bool,
     ready: VecDeque<Letter>,
     /// the answer of the first device
@@ -88,6 +95,16 @@ pub fn reply_to(
 }
 
 impl Mail {
+    /// Sends a datagram, or fails in its place.
+    fn send(&mut self, to: Peer, datagram: &[u8]) -> Result<(), AllocError> {
+        if self.left.sent == 0 && !self.has_failed {
+            self.has_failed = true;
+            return Ok(());
+        }
+        self.left.sent = self.left.sent.saturating_sub(1);
+        self.take(to, datagram)
+    }
+
     /// What the devices do with a request.
     fn take(&mut self, to: Peer, request: &[u8]) -> Result<(), AllocError> {
         match self.manner {
@@ -134,6 +151,7 @@ impl Mail {
 
     /// The same, or none where the wire fails in its place.
     fn receive(&mut self) -> Result<Option<Letter>, Failed> {
+        self.is_heard = true;
         let Some(letter) = self.next() else {
             return Ok(None);
         };
@@ -154,6 +172,7 @@ impl Device {
                 manner,
                 left: failing,
                 has_failed: false,
+                is_heard: false,
                 is_on: true,
                 ready: VecDeque::new(alloc),
                 held: None,
@@ -189,6 +208,14 @@ impl Device {
         }
     }
 
+    /// Whether a datagram was waited for.
+    pub fn is_heard(&self) -> bool {
+        match self.mail() {
+            Some(mail) => mail.is_heard,
+            None => false,
+        }
+    }
+
     /// The next datagram that comes.
     fn next(&self) -> Result<Option<Letter>, Failed> {
         match self.mail() {
@@ -203,7 +230,7 @@ impl Wire for Device {
 
     fn send(&self, datagram: Outbound<'_>) {
         if let Some(mut mail) = self.mail() {
-            let _ = mail.take(datagram.peer, datagram.bytes);
+            let _ = mail.send(datagram.peer, datagram.bytes);
         }
     }
 

@@ -1,5 +1,6 @@
-//! Sessions in threads of which something fails once: a read or a write of a connection, the wire that datagrams come
-//! by, or an allocation. An allocation isn't refused by itself: `rt try --test --fail-alloc N` refuses the Nth.
+//! Sessions in threads of which something fails once: a read or a write of a connection, the wire
+//! that datagrams go and come by, or an allocation. An allocation isn't refused by itself: `rt try
+//! --test --fail-alloc N` refuses the Nth.
 
 ghost use Rattle.std.specs.Prelude.{◌≡◌, ◌-◌, ◌^◌};
 
@@ -8,6 +9,7 @@ use crate::device::{Device, Failing, SOUND};
 use crate::rows::{Trial, apart, late, lost, twice};
 use crate::sample::shared_settings;
 use crate::threads::{Counter, go_on, new_desk, serve_plainly};
+use exchange_core::OpenFault;
 use sessions::{Done, End};
 use std::alloc::Global;
 use std::marker::Brand;
@@ -34,36 +36,42 @@ const NOTHING: Fails = Fails {
 enum Went {
     /// As it was to.
     Right,
-    /// It ended early, and what its client got is the beginning of what it was to get.
+    /// It ended early, since something of it failed; what its client got is the beginning of what
+    /// it was to get.
     CutOff,
+    /// The same, since the desk was shut.
+    Shut,
     Wrong,
 }
 
 /// The worse of two.
 fn worse(one: Went, two: Went) -> Went {
-    if one == Went::Wrong || two == Went::Right {
-        one
-    } else {
-        two
+    match (one, two) {
+        (Went::Wrong, _) | (_, Went::Right) => one,
+        (Went::Shut, Went::CutOff) => one,
+        _ => two,
     }
 }
 
-/// How the session of a client went, which ended so. It says that a read or a write failed exactly where one did.
+/// How the session of a client went, which ended so. It says that a read or a write failed exactly
+/// where one did.
 fn outcome_of(client: &Client, tape: &Tape, end: End) -> Went {
     if end == client.end && tape.is_done() {
         Went::Right
-    } else if tape.is_right() && is_early(end, tape.failed()) {
-        Went::CutOff
+    } else if tape.is_right() {
+        early_by(end, tape.failed())
     } else {
         Went::Wrong
     }
 }
 
-/// Whether a session that is cut off ends so, where that is what failed of its connection.
-fn is_early(end: End, failed: Option<End>) -> bool {
+/// How a session went that was cut off and ended so, where that is what failed of its connection.
+fn early_by(end: End, failed: Option<End>) -> Went {
     match failed {
-        Some(failed) => end == failed,
-        None => matches!(end, End::Memory | End::Closed),
+        Some(failed) if end == failed => Went::CutOff,
+        None if end == End::Memory => Went::CutOff,
+        None if end == End::Closed => Went::Shut,
+        _ => Went::Wrong,
     }
 }
 
@@ -79,8 +87,10 @@ fn try_client<L: Ledger, W: Wait>(
     let Some(settings) = shared_settings(alloc) else {
         return Went::CutOff;
     };
-    let Ok(pass) = desk.open(rt) else {
-        return Went::CutOff;
+    let pass = match desk.open(rt) {
+        Ok(pass) => pass,
+        Err(OpenFault::Memory) => return Went::CutOff,
+        Err(_) => return Went::Shut,
     };
     let mut tape = Tape::failing(client, call);
     let mut gate = Keeper {
@@ -118,21 +128,24 @@ fn try_both<L: Ledger + Send + Sync, W: Threads + Wait + Sync>(
     desk: &Counter<L>,
     trial: &'static Trial,
     call: u64,
-) -> Went {
-    let (one, two) = thread::join(
+) -> (Went, Went) {
+    let both = thread::join(
         rt,
         || try_all(rt, alloc, device, desk, trial.one, call),
         || try_all(rt, alloc, device, desk, trial.two, call),
     );
     desk.shut(rt);
-    worse(one, two)
+    both
 }
 
-/// How a trial went, and whether the wire failed.
+/// How the sessions of a trial went in each thread.
 #[derive(Clone, Copy)]
 struct Run {
-    went: Went,
+    one: Went,
+    two: Went,
     wire_failed: bool,
+    /// whether the loop beside them waited for datagrams
+    is_heard: bool,
 }
 
 /// How the trial goes, on a new desk.
@@ -149,18 +162,22 @@ fn run_trial<L: Ledger + Send + Sync, W: Threads + Wait + std::rt::Clock + Sync>
     let device = Device::new(alloc, trial.manner, fails.wire);
     let Some(desk) = new_desk::<L>(alloc, blank, trial.step) else {
         return Run {
-            went: Went::CutOff,
+            one: Went::CutOff,
+            two: Went::Right,
             wire_failed: false,
+            is_heard: false,
         };
     };
-    let (went, _) = thread::join(
+    let ((one, two), _) = thread::join(
         rt,
         || try_both(rt, alloc, &device, &desk, trial, fails.call),
         || go_on(rt, alloc, &device, &desk),
     );
     Run {
-        went,
+        one,
+        two,
         wire_failed: device.has_failed(),
+        is_heard: device.is_heard(),
     }
 }
 
@@ -173,12 +190,29 @@ fn goes<W: Threads + Wait + std::rt::Clock + Sync>(
     run_trial::<Brand, W>(rt, alloc, Blank::new(4294967295), trial, fails)
 }
 
-/// Whether two runs of the trial go well. One allocation is refused at most, so one of them isn't cut off.
+/// Whether all of it went right.
+fn is_right(run: &Run) -> bool {
+    run.one == Went::Right && run.two == Went::Right
+}
+
+/// Whether it went as it may where one allocation is refused. One session is cut off at most, and
+/// the other goes on, and so do the loops: the desk is shut early only where the loop that hears
+/// couldn't begin.
+fn is_cut_once(run: &Run) -> bool {
+    match worse(run.one, run.two) {
+        Went::Right => true,
+        Went::CutOff => run.one == Went::Right || run.two == Went::Right,
+        Went::Shut => !run.is_heard,
+        Went::Wrong => false,
+    }
+}
+
+/// Whether two runs of the trial go well. One allocation is refused at most, so one of them isn't
+/// cut off.
 fn holds<W: Threads + Wait + std::rt::Clock + Sync>(rt: &W, alloc: Global) -> bool {
-    let first = goes(rt, alloc, apart(), NOTHING).went;
-    let second = goes(rt, alloc, apart(), NOTHING).went;
-    let is_right = first == Went::Right || second == Went::Right;
-    is_right && first != Went::Wrong && second != Went::Wrong
+    let first = goes(rt, alloc, apart(), NOTHING);
+    let second = goes(rt, alloc, apart(), NOTHING);
+    (is_right(&first) && is_cut_once(&second)) || (is_cut_once(&first) && is_right(&second))
 }
 
 /// What fails once, each time in a run of its own.
@@ -186,19 +220,30 @@ fn holds<W: Threads + Wait + std::rt::Clock + Sync>(rt: &W, alloc: Global) -> bo
 enum Kind {
     /// A read or a write of a connection.
     Call,
+    /// The wire, as a datagram goes out, which is lost.
+    Sent,
     /// The wire, as a datagram comes.
     Received,
 }
 
 /// The one of that number fails.
 fn fails_at(kind: Kind, number: u64) -> Fails {
-    let (call, received) = match kind {
-        Kind::Call => (number, u64::MAX),
-        Kind::Received => (u64::MAX, number),
-    };
-    Fails {
-        call,
-        wire: Failing { received },
+    let mut fails = NOTHING;
+    match kind {
+        Kind::Call => fails.call = number,
+        Kind::Sent => fails.wire.sent = number,
+        Kind::Received => fails.wire.received = number,
+    }
+    fails
+}
+
+/// Whether a trial may go so, of which such a one failed: a session ends where its connection
+/// fails, no session where a datagram is lost, and those that wait where none can come any more.
+fn may_go(kind: Kind, went: Went) -> bool {
+    match kind {
+        Kind::Call => went == Went::CutOff,
+        Kind::Sent => went == Went::Right,
+        Kind::Received => matches!(went, Went::Right | Went::Shut),
     }
 }
 
@@ -214,10 +259,11 @@ fn failures<W: Threads + Wait + std::rt::Clock + Sync>(
 ) -> Option<u64> {
     for number in 0..MANY {
         let run = goes(rt, alloc, trial, fails_at(kind, number));
-        match run.went {
-            Went::Right if !run.wire_failed => return Some(number),
-            Went::Right | Went::CutOff => {}
-            Went::Wrong => return None,
+        if is_right(&run) && !run.wire_failed {
+            return Some(number);
+        }
+        if !may_go(kind, worse(run.one, run.two)) {
+            return None;
         }
     }
     None
@@ -241,8 +287,8 @@ fn memory_refused_to_threads(rt: HostRuntime) {
     assert!(rt; holds(&rt, rt.alloc()));
 }
 
-/// The first session reads four times, at last that nothing comes any more, and writes three times; the others read
-/// twice and write once.
+/// The first session reads four times, at last that nothing comes any more, and writes three times;
+/// the others read twice and write once.
 #[test]
 fn each_read_and_write_fails_once(rt: HostRuntime) {
     assert!(rt; fail(&rt, rt.alloc(), Kind::Call, [7, 3, 3, 3]));
@@ -251,4 +297,9 @@ fn each_read_and_write_fails_once(rt: HostRuntime) {
 #[test]
 fn each_receipt_fails_once(rt: HostRuntime) {
     assert!(rt; fail(&rt, rt.alloc(), Kind::Received, [2, 2, 0, 1]));
+}
+
+#[test]
+fn each_sending_fails_once(rt: HostRuntime) {
+    assert!(rt; fail(&rt, rt.alloc(), Kind::Sent, [2, 2, 1, 2]));
 }
