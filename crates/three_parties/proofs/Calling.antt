@@ -26,11 +26,11 @@ pub record IsCalled (R : Relation) (s : Scene) (t n : ℕ) (e : Event) (d : Devi
   pub tells : (x : Taken) → told ≡ Some x → (flight : Going) × (slice_get s.flights n ≡ Some flight) × (flight.by ≡ ByProxy)
       × (e ≡ heard t proxy_at flight.bytes (Some x))
 
-told-places : ℕ → Option Taken → List ℕ
+pub told-places : ℕ → Option Taken → List ℕ
 told-places a None = []
 told-places a (Some x) = a ∷ []
 
-abbrev a_call : Event → Device → Device → Call
+abbrev pub a_call : Event → Device → Device → Call
 a_call e old new = record { event = e; before = old; after = new }
 
 executed-len : (t n a : ℕ) (told : Option Taken) → length (told-places a told) ≡ length (executed t n told)
@@ -49,7 +49,7 @@ executed-is t n None k y e = absurd (none-some y e)
 executed-is t n (Some x) zero y e = record { here = refl; taken = x; told_it = refl; is = sym (some-is _ y e) }
 executed-is t n (Some x) (suc k) y e = absurd (none-some y e)
 
-placed-is : (a : ℕ) (told : Option Taken) (k b : ℕ) → slice_get (told-places a told) k ≡ Some b → (k ≡ 0) × (b ≡ a)
+pub placed-is : (a : ℕ) (told : Option Taken) (k b : ℕ) → slice_get (told-places a told) k ≡ Some b → (k ≡ 0) × (b ≡ a)
 unfolding told-places
 placed-is a None k b e = absurd (none-some b e)
 placed-is a (Some x) zero b e = (refl, sym (some-is a b e))
@@ -273,3 +273,7 @@ module _ (R : Relation) (first : Device) (s : Scene) (t n : ℕ) (e : Event) (d 
     below = lies;
     few = counts;
   }
+
+  pub tale-called-is : (tale-called.calls ≡ all_calls) × (tale-called.places ≡ all_places)
+  unfolding tale-called
+  tale-called-is = (refl, refl)

@@ -1,11 +1,12 @@
 -- A call of the device's, and those by which it gives out what there is to be sent.
-use Rattle.std.proofs.Common.{◌≡◌, ℕ, zero, suc, ◌+◌, ◌<◌, ◌≤◌, List, [], ◌∷◌, ◌++◌, length, Option, Some, None, refl, sym, ap, subst, ◌∙◌, append_assoc, arith}
+use Rattle.std.proofs.Common.{◌≡◌, ℕ, zero, suc, List, [], ◌∷◌, ◌++◌, length, Option, Some, refl, sym, ap, subst, ◌∙◌, append_assoc, arith}
 use Rattle.std.specs.Prelude.{slice_get, take}
 use Rattle.std.specs.List.{Contains}
 use Rattle.uri_map.specs.declared.peer.Peer.{Peer}
 use Rattle.history_laws.proofs.CallerLemmas.{none-some, some-is}
 use Rattle.demo_origin.specs.Calls.{Call, Follow, left_by}
-use Rattle.demo_origin.specs.Once.{Event, heard, looked, gave, Steps}
+use Rattle.demo_origin.specs.Done.{told_in}
+use Rattle.demo_origin.specs.Once.{heard, gave}
 use Rattle.demo_origin.specs.Values.{Device, Relation}
 use Rattle.demo_origin.specs.declared.execution.Taken.{Taken}
 use Rattle.demo_origin.specs.declared.state.Datagram.{Datagram}
@@ -52,6 +53,11 @@ unfolding gives
 gives-left d [] = refl
 gives-left d (x ∷ xs) = gives-left d xs
 
+pub told-gives : (d : Device) (xs : List Datagram) → told_in (gives d xs) ≡ []
+unfolding gives
+told-gives d [] = refl
+told-gives d (x ∷ xs) = told-gives d xs
+
 pub gives-timed : (d : Device) (xs : List Datagram) (t : ℕ) → AreTimed t (gives d xs)
 unfolding gives
 gives-timed d [] t = tt
@@ -86,7 +92,7 @@ pub record WasGiven (first : Device) (cs : List Call) (p : Peer) (bytes : List �
   pub to : datagram.peer ≡ p
   pub has : datagram.bytes ≡ bytes
 
-pub given-later : (first : Device) (cs more : List Call) (p : Peer) (bytes : List ℕ) → WasGiven first cs p bytes → WasGiven first (cs ++ more) p bytes
+abbrev pub given-later : (first : Device) (cs more : List Call) (p : Peer) (bytes : List ℕ) → WasGiven first cs p bytes → WasGiven first (cs ++ more) p bytes
 given-later first cs more p bytes g = record {
   front = g.front;
   rest = g.rest ++ more;
@@ -97,7 +103,7 @@ given-later first cs more p bytes g = record {
   has = g.has;
 }
 
-pub is-given : (first : Device) (cs : List Call) (p : Peer) (bytes : List ℕ) → WasGiven first cs p bytes → IsGiven first cs p bytes
+abbrev pub is-given : (first : Device) (cs : List Call) (p : Peer) (bytes : List ℕ) → WasGiven first cs p bytes → IsGiven first cs p bytes
 is-given first cs p bytes g = record {
   count = length g.front;
   datagram = g.datagram;

@@ -1,5 +1,5 @@
 -- The proxy takes an input, and gives datagrams out.
-use Rattle.std.proofs.Common.{◌≡◌, ℕ, zero, suc, ◌≤◌, inl, inr, List, [], ◌∷◌, ◌++◌, map, sym, ap, subst, arith}
+use Rattle.std.proofs.Common.{◌≡◌, ℕ, zero, suc, ◌≤◌, inl, inr, List, [], ◌∷◌, ◌++◌, map, refl, sym, ap, subst, arith}
 use Rattle.uri_map.specs.declared.peer.Peer.{Peer}
 use Rattle.journal_book.specs.Entries.{Hears, Written}
 use Rattle.history_laws.proofs.CallerLemmas.{none-some, some-is}
@@ -91,3 +91,9 @@ tale-gave R first s t w given more le h added all =
       below = h.below;
       few = h.few;
     }
+
+pub tale-gave-is : (R : Relation) (first : Device) (s : Scene) (t : ℕ) (w : WorldValue) (given : List Emission) (more : List Written)
+    (le : s.moment ≤ t) (h : Tale R first s) (added : w.core.state.entries ≡ s.world.core.state.entries ++ more) (all : AllHeard first h.calls more)
+    → ((tale-gave R first s t w given more le h added all).calls ≡ h.calls) × ((tale-gave R first s t w given more le h added all).places ≡ h.places)
+unfolding tale-gave
+tale-gave-is R first s t w given more le h added all = (refl, refl)

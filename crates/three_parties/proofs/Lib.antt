@@ -3,7 +3,14 @@ pub mod Calls
 pub mod Tales
 pub mod Giving
 pub mod Calling
+pub mod Moments
+pub mod Stamping
+pub mod Orders
+pub mod Ordering
+pub mod Knowing
 pub mod Telling
+pub mod Quiet
 pub mod Executing
+pub mod Reading
 pub mod Sending
 pub mod Running

@@ -1,5 +1,5 @@
 -- Places in lists that were put together.
-use Rattle.std.proofs.Common.{◌≡◌, ℕ, zero, suc, ◌+◌, ◌<◌, ◌≤◌, ◌⊎◌, inl, inr, List, [], ◌∷◌, ◌++◌, length, map, take, Option, Some, refl, sym, ap, ◌∙◌, arith}
+use Rattle.std.proofs.Common.{◌≡◌, ℕ, zero, suc, ◌+◌, ◌<◌, ◌≤◌, ◌⊎◌, inl, inr, List, [], ◌∷◌, ◌++◌, length, map, take, Some, refl, sym, ap, subst, arith}
 use Rattle.std.specs.Prelude.{slice_get}
 use Rattle.std.specs.List.{AllByRecursion, Contains}
 use Rattle.history_laws.proofs.CallerLemmas.{none-some, some-is}
@@ -49,3 +49,38 @@ taken-all [] zero le = refl
 taken-all [] (suc n) le = refl
 taken-all (x ∷ xs) zero le = absurd (omega (arith, le))
 taken-all (x ∷ xs) (suc n) le = ap (λ zs. x ∷ zs) (taken-all xs n (omega (arith, le)))
+
+pub got-back : {X : Type 0} (xs ys : List X) (n k : ℕ) (y : X) → n ≡ length xs + k → slice_get ys k ≡ Some y → slice_get (xs ++ ys) n ≡ Some y
+got-back {X} [] ys n k y is e =
+    let same : k ≡ n = omega (arith, is) in subst (λ (n : ℕ). slice_get ys n ≡ Some y) same e
+got-back (x ∷ xs) ys zero k y is e = absurd (omega (arith, is))
+got-back (x ∷ xs) ys (suc n) k y is e = got-back xs ys n k y (omega (arith, is)) e
+
+pub got-in : {X : Type 0} (xs : List X) (n : ℕ) → n < length xs → (y : X) × (slice_get xs n ≡ Some y)
+got-in [] n lt = absurd (omega (arith, lt))
+got-in (x ∷ xs) zero lt = (x, refl)
+got-in (x ∷ xs) (suc n) lt = got-in xs n (omega (arith, lt))
+
+-- the same number for each of these
+abbrev pub alike : {X : Type 0} → ℕ → List X → List ℕ
+alike n xs = map (λ x. n) xs
+
+pub got-alike : {X : Type 0} (n : ℕ) (xs : List X) (k a : ℕ) → slice_get (alike n xs) k ≡ Some a → a ≡ n
+got-alike n [] k a e = absurd (none-some a e)
+got-alike n (x ∷ xs) zero a e = sym (some-is n a e)
+got-alike n (x ∷ xs) (suc k) a e = got-alike n xs k a e
+
+pub alike-there : {X : Type 0} (n : ℕ) (xs : List X) (k : ℕ) (x : X) → slice_get xs k ≡ Some x → slice_get (alike n xs) k ≡ Some n
+alike-there n [] k x e = absurd (none-some x e)
+alike-there n (y ∷ xs) zero x e = refl
+alike-there n (y ∷ xs) (suc k) x e = alike-there n xs k x e
+
+pub alike-len : {X : Type 0} (n : ℕ) (xs : List X) → length (alike n xs) ≡ length xs
+alike-len n [] = refl
+alike-len n (x ∷ xs) = ap suc (alike-len n xs)
+
+pub got-from : {X Y : Type 0} (f : X → Y) (xs : List X) (n : ℕ) (y : Y) → slice_get (map f xs) n ≡ Some y
+    → (x : X) × (slice_get xs n ≡ Some x) × (f x ≡ y)
+got-from f [] n y e = absurd (none-some y e)
+got-from f (x ∷ xs) zero y e = (x, refl, some-is (f x) y e)
+got-from f (x ∷ xs) (suc n) y e = got-from f xs n y e

@@ -2,7 +2,6 @@
 use Rattle.std.proofs.Common.{◌≡◌, inl, inr, ℕ, ◌+◌, ◌<◌, List, [], ◌∷◌, ◌++◌, length, take, drop, get_or, refl, sym, ap, subst, ◌∙◌, take-append-drop}
 use Rattle.std.proofs.lemmas.List.{take_more, drop_more}
 use Rattle.media_map.specs.declared.form.Form.{Form}
-use Rattle.ask_model.specs.Views.{Rules}
 use Rattle.demo_origin.specs.Values.{Relation}
 use Rattle.gateway_model.specs.declared.input.Happening.{Happening}
 use Rattle.gateway_model.specs.declared.input.Happening.TheVariants as H
@@ -11,7 +10,7 @@ use Rattle.gateway_model.specs.Emissions.{Emission}
 use Rattle.gateway_world.specs.Inputs.{Takes}
 use Rattle.gateway_world.specs.Worlds.{WorldValue, counted}
 use Rattle.three_parties.specs.Arriving.{IsFull}
-use Rattle.three_parties.specs.Flights.{Reach, ToProxy, ToDevice, Nowhere, reach}
+use Rattle.three_parties.specs.Flights.{Reach, ToProxy, ToDevice, Nowhere}
 use Rattle.three_parties.specs.Scenes.{Scene, ProxyTakes, Reaches, TakesInput, TakesTurn, TakesTurns}
 use Rattle.three_parties.specs.Stories.{IsRefused}
 use Rattle.three_parties.specs.declared.turn.Turn.{Turn}

@@ -90,6 +90,10 @@ no-tale R rules first = record {
   few = refl;
 }
 
+pub no-tale-is : (R : Relation) (rules : Rules) (first : Device) → ((no-tale R rules first).calls ≡ []) × ((no-tale R rules first).places ≡ [])
+unfolding no-tale
+no-tale-is R rules first = (refl, refl)
+
 pub tale-later : (R : Relation) (first : Device) (s : Scene) (t : ℕ) → s.moment ≤ t → Tale R first s → Tale R first (later t s)
 tale-later R first s t le h =
     let late = h.late in
@@ -110,3 +114,8 @@ tale-later R first s t le h =
       below = h.below;
       few = h.few;
     }
+
+pub tale-later-is : (R : Relation) (first : Device) (s : Scene) (t : ℕ) (le : s.moment ≤ t) (h : Tale R first s)
+    → ((tale-later R first s t le h).calls ≡ h.calls) × ((tale-later R first s t le h).places ≡ h.places)
+unfolding tale-later
+tale-later-is R first s t le h = (refl, refl)

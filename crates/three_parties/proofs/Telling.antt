@@ -4,6 +4,7 @@ use Rattle.std.specs.Prelude.{slice_get}
 use Rattle.std.specs.Borrow.{Bor}
 use Rattle.std.specs.List.{AllByRecursion}
 use Rattle.std.proofs.lemmas.Bool.{ltb-false}
+use Rattle.limits.specs.declared.TheConstants.{LAST_MOMENT}
 use Rattle.media_map.specs.declared.form.Form.{Form}
 use Rattle.uri_map.specs.declared.peer.Peer.{Peer}
 use Rattle.uri_map.specs.Peers.{same_peer}
@@ -15,7 +16,6 @@ use Rattle.demo_origin.specs.Calls.{Call}
 use Rattle.demo_origin.specs.Once.{heard, looked, Steps}
 use Rattle.demo_origin.specs.Values.{Device, Relation}
 use Rattle.demo_origin.specs.declared.execution.Taken.{Taken}
-use Rattle.demo_origin.specs.declared.state.Datagram.{Datagram}
 use Rattle.gateway_model.specs.declared.input.Happening.{Happening}
 use Rattle.gateway_model.specs.declared.input.Happening.TheVariants as H
 use Rattle.gateway_model.specs.declared.input.Input.{Input}
@@ -29,9 +29,8 @@ use Rattle.three_parties.specs.Scenes.{Scene, answered, executed, ProxyTakes, Pr
 use Rattle.three_parties.specs.declared.turn.Turn.{Turn}
 use Rattle.three_parties.specs.declared.turn.Turn.TheVariants as T
 use Rattle.three_parties.proofs.Calls.{WasGiven}
-use Rattle.three_parties.proofs.Tales.{Tale, tale-later}
-use Rattle.three_parties.proofs.Giving.{AllHeard, none-heard, tale-gave}
-use Rattle.three_parties.proofs.Calling.{tale-called}
+use Rattle.three_parties.proofs.Giving.{AllHeard, none-heard}
+use Rattle.three_parties.proofs.Knowing.{Known, known-acted, known-called, known-later}
 
 -- what an input shows that is no datagram
 hush : (i : Input) (a b : WorldValue) (x : Happening) → i.happening ≡ x
@@ -47,16 +46,19 @@ hush i a b x is none s =
 counted-later : (last m : ℕ) → last ≤ counted last m
 counted-later last m = omega arith
 
+counted-last : (last m : ℕ) → last ≤ LAST_MOMENT → counted last m ≤ LAST_MOMENT
+counted-last last m top = omega (arith, top)
+
 looked-not : (t u : ℕ) (p : Peer) (b : List ℕ) (k : Option Taken) → looked t ≡ heard u p b k → ⊥
 looked-not t u p b k e = cc
 
 no-told : (x : Taken) → None ≡ Some x → ⊥
 no-told x e = none-some x e
 
-pub tale-looked : (R : Relation) (first : Device) (s : Scene) (t : ℕ) (d : Device) → s.moment ≤ t → Tale R first s
-    → Steps R (looked t) s.device d → Tale R first (answered t d [] s)
-tale-looked R first s t d le h steps =
-    tale-called R first s t 0 (looked t) d None le h (record {
+pub known-looked : (R : Relation) (first : Device) (s : Scene) (t : ℕ) (d : Device) → s.moment ≤ t → t ≤ LAST_MOMENT → Known R first s
+    → Steps R (looked t) s.device d → Known R first (answered t d [] s)
+known-looked R first s t d le top k steps =
+    known-called R first s t 0 (looked t) d None le top k (record {
       steps = steps;
       moment = λ u. refl;
       brought = λ u p b k e. absurd (looked-not t u p b k e);
@@ -117,13 +119,13 @@ heard-same : (t u : ℕ) (p q : Peer) (a b : List ℕ) (k x : Option Taken) → 
     → (t ≡ u) × (p ≡ q) × (a ≡ b) × (k ≡ x)
 heard-same t u p q a b k x e = (cc, cc, cc, cc)
 
-pub tale-heard : (R : Relation) (first : Device) (s : Scene) (t n : ℕ) (bytes : List ℕ) (d : Device) (told : Option Taken) → s.moment ≤ t
-    → Tale R first s → reach t (slice_get s.flights n) ≡ ToDevice bytes → Steps R (heard t proxy_at bytes told) s.device d
-    → Tale R first (answered t d (executed t n told) s)
-tale-heard R first s t n bytes d told le h to steps =
+pub known-heard : (R : Relation) (first : Device) (s : Scene) (t n : ℕ) (bytes : List ℕ) (d : Device) (told : Option Taken) → s.moment ≤ t
+    → t ≤ LAST_MOMENT → Known R first s → reach t (slice_get s.flights n) ≡ ToDevice bytes → Steps R (heard t proxy_at bytes told) s.device d
+    → Known R first (answered t d (executed t n told) s)
+known-heard R first s t n bytes d told le top h to steps =
     let it = reaches-device t (slice_get s.flights n) bytes to in
-    let before = h.before n it.0 it.1 in
-    tale-called R first s t n (heard t proxy_at bytes told) d told le h (record {
+    let before = h.tale.before n it.0 it.1 in
+    known-called R first s t n (heard t proxy_at bytes told) d told le top h (record {
       steps = steps;
       moment = λ u. refl;
       brought = λ u p b k e.
@@ -148,26 +150,26 @@ tale-heard R first s t n bytes d told le h to steps =
 
 module _ (holds : Form → Form → List ℕ → List ℕ → Type 0) (takes : Form → Form → List ℕ → Type 0) (R : Relation) (first : Device) where
   -- an input that hears nothing
-  quiet : (t : ℕ) (i : Input) (old new : Scene) → old.moment ≤ t → (x : Happening) → i.happening ≡ x
+  quiet : (t : ℕ) (i : Input) (old new : Scene) → old.moment ≤ t → t ≤ LAST_MOMENT → (x : Happening) → i.happening ≡ x
       → ((u : ℕ) (a b : WorldValue) (more : List Written) → ShowsWhatCame x u a.core.state b.core.state more → AreUnheard more)
-      → (x ≡ H.Rotate → ⊥) → ProxyTakes holds takes R t i old new → Tale R first old → Tale R first new
-  quiet t i old new le x is none stays p h = by p.takes_it
+      → (x ≡ H.Rotate → ⊥) → ProxyTakes holds takes R t i old new → Known R first old → Known R first new
+  quiet t i old new le top x is none stays p h = by p.takes_it
     where
-      by : Takes holds takes (record i { moment = t }) old.world p.given p.world → Tale R first new
+      by : Takes holds takes (record i { moment = t }) old.world p.given p.world → Known R first new
       by (inl a) =
           let unheard = hush (record i { moment = t }) old.world p.world x is none a.shows in
-          subst (Tale R first) (sym p.is)
-          (tale-gave R first old t p.world p.given a.shows.more le h a.shows.added (none-heard first h.calls a.shows.more unheard))
+          subst (Known R first) (sym p.is)
+          (known-acted holds takes R first t i old p.given p.world le top a h (none-heard first h.tale.calls a.shows.more unheard))
       by (inr r) = absurd (stays (sym is ∙ r.wants))
 
-  input : (t : ℕ) (i : Input) (old new : Scene) → old.moment ≤ t → (x : Happening) → i.happening ≡ x → (i.happening ≡ H.Rotate → ⊥)
-      → TakesInput holds takes R t i x old new → Tale R first old → Tale R first new
-  input t i old new le (H.Datagram p b) is stays e h = subst (Tale R first) (sym e) (tale-later R first old t le h)
-  input t i old new le H.Open is stays e h = quiet t i old new le H.Open is (λ u a b more k. k) (λ z. stays (is ∙ z)) e h
-  input t i old new le (H.Bytes c b) is stays e h = quiet t i old new le (H.Bytes c b) is (λ u a b more k. k) (λ z. stays (is ∙ z)) e h
-  input t i old new le H.Tick is stays e h = quiet t i old new le H.Tick is (λ u a b more k. k) (λ z. stays (is ∙ z)) e h
-  input t i old new le (H.Close c) is stays e h = quiet t i old new le (H.Close c) is (λ u a b more k. k) (λ z. stays (is ∙ z)) e h
-  input t i old new le H.Rotate is stays e h = absurd (stays is)
+  input : (t : ℕ) (i : Input) (old new : Scene) → old.moment ≤ t → t ≤ LAST_MOMENT → (x : Happening) → i.happening ≡ x → (i.happening ≡ H.Rotate → ⊥)
+      → TakesInput holds takes R t i x old new → Known R first old → Known R first new
+  input t i old new le top (H.Datagram p b) is stays e h = subst (Known R first) (sym e) (known-later R first old t le top h)
+  input t i old new le top H.Open is stays e h = quiet t i old new le top H.Open is (λ u a b more k. k) (λ z. stays (is ∙ z)) e h
+  input t i old new le top (H.Bytes c b) is stays e h = quiet t i old new le top (H.Bytes c b) is (λ u a b more k. k) (λ z. stays (is ∙ z)) e h
+  input t i old new le top H.Tick is stays e h = quiet t i old new le top H.Tick is (λ u a b more k. k) (λ z. stays (is ∙ z)) e h
+  input t i old new le top (H.Close c) is stays e h = quiet t i old new le top (H.Close c) is (λ u a b more k. k) (λ z. stays (is ∙ z)) e h
+  input t i old new le top H.Rotate is stays e h = absurd (stays is)
 
   -- a datagram of the device's, and nothing else, is heard
   one-heard : (calls : List Call) (b : Bor (List ℕ)) (bytes : List ℕ) (u : ℕ) (more : List Written) → b.now ≡ bytes
@@ -184,43 +186,45 @@ module _ (holds : Form → Form → List ℕ → List ℕ → Type 0) (takes : F
           subst (λ (d : List ℕ). WasGiven first calls proxy_at d) (sym has ∙ same) given
       go (suc k) f = none-heard first calls begins.rest begins.unheard k t d f
 
-  proxy : (t word n : ℕ) (bytes : List ℕ) (old new : Scene) → old.moment ≤ t → reach t (slice_get old.flights n) ≡ ToProxy bytes
-      → ProxyHears holds takes R t word bytes old new → Tale R first old → Tale R first new
-  proxy t word n bytes old new le to p h = by p.takes_it.takes_it
+  proxy : (t word n : ℕ) (bytes : List ℕ) (old new : Scene) → old.moment ≤ t → t ≤ LAST_MOMENT → reach t (slice_get old.flights n) ≡ ToProxy bytes
+      → ProxyHears holds takes R t word bytes old new → Known R first old → Known R first new
+  proxy t word n bytes old new le top to p h = by p.takes_it.takes_it
     where
-      given : WasGiven first h.calls proxy_at bytes
+      given : WasGiven first h.tale.calls proxy_at bytes
       given =
           let it = reaches-proxy t (slice_get old.flights n) bytes to in
-          subst (λ (b : List ℕ). WasGiven first h.calls proxy_at b) it.4
-          (subst (λ (q : Peer). WasGiven first h.calls q it.0.bytes) it.3 (h.given n it.0 it.1 it.2))
+          subst (λ (b : List ℕ). WasGiven first h.tale.calls proxy_at b) it.4
+          (subst (λ (q : Peer). WasGiven first h.tale.calls q it.0.bytes) it.3 (h.tale.given n it.0 it.1 it.2))
 
       rotates-not : H.Datagram device_at p.datagram ≡ H.Rotate → ⊥
       rotates-not e = cc
 
-      by : Takes holds takes (record { moment = t; word = word; happening = H.Datagram device_at p.datagram }) old.world p.takes_it.given p.takes_it.world → Tale R first new
+      by : Takes holds takes (record { moment = t; word = word; happening = H.Datagram device_at p.datagram }) old.world p.takes_it.given p.takes_it.world → Known R first new
       by (inl a) =
-          subst (Tale R first) (sym p.takes_it.is)
-          (tale-gave R first old t p.takes_it.world p.takes_it.given a.shows.more le h a.shows.added
+          subst (Known R first) (sym p.takes_it.is)
+          (known-acted holds takes R first t (record { moment = t; word = word; happening = H.Datagram device_at p.datagram }) old p.takes_it.given
+          p.takes_it.world le top a h
           (elim a.shows.shown [
-            | inl k ↦ one-heard h.calls p.datagram bytes _ a.shows.more p.has given k
-            | inr k ↦ none-heard first h.calls a.shows.more k.0
+            | inl k ↦ one-heard h.tale.calls p.datagram bytes _ a.shows.more p.has given k
+            | inr k ↦ none-heard first h.tale.calls a.shows.more k.0
           ]))
       by (inr r) = absurd (rotates-not r.wants)
 
-  delivery : (t word n : ℕ) (r : Reach) (old new : Scene) → old.moment ≤ t → reach t (slice_get old.flights n) ≡ r
-      → Reaches holds takes R t word n r old new → Tale R first old → Tale R first new
-  delivery t word n (ToProxy bytes) old new le to e h = proxy t word n bytes old new le to e h
-  delivery t word n (ToDevice bytes) old new le to e h =
-      subst (Tale R first) (sym e.is) (tale-heard R first old t n bytes e.device e.told le h to e.hears)
-  delivery t word n Nowhere old new le to e h = subst (Tale R first) (sym e) (tale-later R first old t le h)
+  delivery : (t word n : ℕ) (r : Reach) (old new : Scene) → old.moment ≤ t → t ≤ LAST_MOMENT → reach t (slice_get old.flights n) ≡ r
+      → Reaches holds takes R t word n r old new → Known R first old → Known R first new
+  delivery t word n (ToProxy bytes) old new le top to e h = proxy t word n bytes old new le top to e h
+  delivery t word n (ToDevice bytes) old new le top to e h =
+      subst (Known R first) (sym e.is) (known-heard R first old t n bytes e.device e.told le top h to e.hears)
+  delivery t word n Nowhere old new le top to e h = subst (Known R first) (sym e) (known-later R first old t le top h)
 
-  turn : (x : Turn) (old new : Scene) → KeepsJournal x → TakesTurn holds takes R x old new → Tale R first old → Tale R first new
-  turn (T.Proxy i) old new keeps e h = input (counted old.moment i.moment) i old new (counted-later old.moment i.moment) i.happening refl keeps e h
+  turn : (x : Turn) (old new : Scene) → KeepsJournal x → TakesTurn holds takes R x old new → Known R first old → Known R first new
+  turn (T.Proxy i) old new keeps e h =
+      input (counted old.moment i.moment) i old new (counted-later old.moment i.moment) (counted-last old.moment i.moment h.timely.last) i.happening refl keeps e h
   turn (T.Device m) old new keeps e h =
-      subst (Tale R first) (sym e.is) (tale-looked R first old (counted old.moment m) e.device (counted-later old.moment m) h e.ticks)
+      subst (Known R first) (sym e.is) (known-looked R first old (counted old.moment m) e.device (counted-later old.moment m) (counted-last old.moment m h.timely.last) h e.ticks)
   turn (T.Deliver w n) old new keeps e h =
-      delivery (counted old.moment w.moment) w.word n _ old new (counted-later old.moment w.moment) refl e h
+      delivery (counted old.moment w.moment) w.word n _ old new (counted-later old.moment w.moment) (counted-last old.moment w.moment h.timely.last) refl e h
 
-  pub turns-told : (xs : List Turn) (old new : Scene) → AllByRecursion KeepsJournal xs → TakesTurns holds takes R xs old new → Tale R first old → Tale R first new
-  turns-told [] old new keeps e h = subst (Tale R first) (sym e) h
+  pub turns-told : (xs : List Turn) (old new : Scene) → AllByRecursion KeepsJournal xs → TakesTurns holds takes R xs old new → Known R first old → Known R first new
+  turns-told [] old new keeps e h = subst (Known R first) (sym e) h
   turns-told (x ∷ xs) old new keeps e h = turns-told xs e.0 new keeps.1 e.2 (turn x old e.0 keeps.0 e.1 h)

@@ -3,3 +3,4 @@ pub mod Scenes
 pub mod Stories
 pub mod Arriving
 pub mod Promises
+pub mod Reads

@@ -1,15 +1,15 @@
 -- What a story promises of the requests that change something.
-use Rattle.std.specs.Prelude.{◌≡◌, ℕ, ◌≤◌, ◌/◌, List, [], ◌∷◌, ◌++◌, slice_get, Option, Some, ⊤}
+use Rattle.std.specs.Prelude.{◌≡◌, ℕ, ◌≤◌, ◌/◌, List, slice_get, Option, Some, ⊤}
 use Rattle.std.specs.List.{AllByRecursion}
 use Rattle.coap_codec.specs.Spelling.{Content, Spells}
 use Rattle.coap_codec.specs.declared.block.Block.{Block}
 use Rattle.ask_model.specs.Requests.{CoapRequest}
-use Rattle.journal_book.specs.Entries.{Deed, Sends, Live, Answers, Written}
+use Rattle.journal_book.specs.Entries.{Live, Answers, Written}
 use Rattle.history_laws.specs.Justified.{Stands}
 use Rattle.history_claims.specs.Headline.{IsEntry, IsSentFor, RestsOn}
 use Rattle.gateway_model.specs.declared.input.Happening.TheVariants as H
 use Rattle.story_laws.specs.Lateness.{ArePunctual}
-use Rattle.three_parties.specs.Flights.{Going, ByProxy, by_proxy, device_at}
+use Rattle.three_parties.specs.Flights.{Going, ByProxy, device_at}
 use Rattle.three_parties.specs.declared.story.Execution.{Execution}
 use Rattle.three_parties.specs.declared.turn.Turn.{Turn}
 use Rattle.three_parties.specs.declared.turn.Turn.TheVariants as T
@@ -18,12 +18,6 @@ use Rattle.three_parties.specs.declared.turn.Turn.TheVariants as T
 abbrev pub KeepsJournal : Turn → Type 0
 KeepsJournal (T.Proxy i) = i.happening ≡ H.Rotate → ⊥
 KeepsJournal x = ⊤
-
--- Of each datagram that the proxy sent there is an entry, which sends it at the same moment.
-abbrev pub AreEntered : List Written → List Going → Type 0
-AreEntered h flights =
-    (n : ℕ) (g : Going) → slice_get flights n ≡ Some g → g.by ≡ ByProxy
-    → (i : ℕ) × (w : Option ℕ) × IsEntry h i g.moment (Sends g.peer g.bytes w)
 
 -- The execution is of this message: the datagram that was delivered spells it.
 pub record IsOf (flights : List Going) (m : Content) (x : Execution) : Type 0 where
@@ -61,4 +55,4 @@ PostsOnce h flights taken =
 abbrev pub PostsOnceInTime : List Turn → List Written → List Going → List Execution → Type 0
 PostsOnceInTime turns h flights taken =
     AllByRecursion KeepsJournal turns → (s : Stands h) → ArePunctual s.reading
-    → AreEntered h flights → PostsOnce h flights taken
+    → PostsOnce h flights taken

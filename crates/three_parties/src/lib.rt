@@ -16,5 +16,6 @@ pub use demo_origin::{Behaviour, Origin, Taken};
 pub use flight::{Flight, Sent, device_peer, proxy_peer};
 pub use gateway_world::{Happening, Input, Output, When, WorldFault};
 pub use run::three_run;
+pub use stage::Stage;
 pub use story::{Execution, Story};
 pub use turn::Turn;

@@ -8,6 +8,7 @@ ghost use Rattle.gateway_model.specs.Emissions.{emissions};
 ghost use Rattle.transformers.specs.Suits.{Suits};
 ghost use Rattle.three_parties.specs.Flights.{going};
 ghost use Rattle.three_parties.specs.Promises.{PostsOnceInTime};
+ghost use Rattle.three_parties.specs.Reads.{GetsShowInTime};
 ghost use Rattle.three_parties.specs.Scenes.{TakesTurns};
 ghost use Rattle.three_parties.specs.Stories.{IsRefused, IsStory, opening, scene};
 
@@ -16,16 +17,18 @@ use crate::story::Story;
 use crate::turn::Turn;
 use ask_model::Settings;
 use demo_origin::{Behaviour, Origin};
-use gateway_world::{World, WorldFault};
+use gateway_world::WorldFault;
 use std::alloc::Global;
-use story_laws::posts_once;
+use story_laws::{posts_once, writes_show};
 use transformers::{Bank, Relation};
 
 /// Takes all turns, one after another, and answers the first refusal of an input. The device is at
 /// 192.0.2.1:5683, and sees the proxy at 198.51.100.1:5683.
 ///
 /// The story is that of all its turns (`is`). Where the device is a new one, each POST to it that
-/// was answered by success was executed exactly once (`posts`).
+/// was answered by success was executed exactly once (`posts`), and each answer to a GET that rests
+/// on one reply shows a state that the resource held, and no less than what was confirmed before it
+/// was asked for (`reads`).
 pub fn three_run<R: Relation, H: Behaviour>(
     alloc: Global,
     settings: Settings,
@@ -44,9 +47,13 @@ pub fn three_run<R: Relation, H: Behaviour>(
     ensures posts { IfOk result (λ s. (block : ℕ) (resources : List Held)
         → device origin ≡ fresh block resources → PostsOnceInTime turns.now s.journal.entries
         (map going s.flights.items) s.taken.items) }
+    ensures reads { IfOk result (λ s. (block : ℕ) (resources : List Held)
+        → device origin ≡ fresh block resources → GetsShowInTime turns.now resources
+        s.journal.entries (map going s.flights.items) s.taken.items) }
 {
-    // Its contract says what success means for a device, whatever a network does.
+    // Their contracts say what answers mean for a device, whatever a network does.
     posts_once::<H>();
+    writes_show::<H>();
     play(alloc, settings, bank, origin, turns)
 }
 
@@ -67,15 +74,7 @@ fn play<R: Relation, H: Behaviour>(
     ensures full { result ≡ Err WorldFault.Backlog → IsRefused R.holds R.takes H.relation turns.now
         (opening (rules_of settings) (device origin)) }
 {
-    let world = World::new(alloc, settings)?;
-    let mut stage = Stage {
-        moment: 0,
-        world,
-        origin,
-        outputs: Vec::new(alloc),
-        flights: Vec::new(alloc),
-        taken: Vec::new(alloc),
-    };
+    let mut stage = Stage::new(alloc, settings, origin)?;
     stage.take_all(&bank, turns)?;
     let journal = stage.world.journal().copy()?;
     let Stage {

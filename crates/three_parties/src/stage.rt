@@ -9,15 +9,17 @@ ghost use Rattle.transformers.specs.Suits.{Suits};
 ghost use Rattle.three_parties.specs.Flights.{by_device, by_proxy, going};
 ghost use Rattle.three_parties.specs.Arriving.{IsFull, emptied};
 ghost use Rattle.three_parties.specs.Scenes.{DeviceHears, DeviceLooks, ProxyHears, ProxyTakes, TakesInput, TakesTurn, executed};
-ghost use Rattle.three_parties.specs.Stories.{scene};
+ghost use Rattle.ask_model.specs.Views.{rules_of};
+ghost use Rattle.three_parties.specs.Stories.{opening, scene};
 
 use crate::flight::{Arriving, Flight, Sent, destination, device_peer, proxy_peer, share};
 use crate::story::Execution;
 use crate::turn::Turn;
+use ask_model::Settings;
 use demo_origin::{Behaviour, Origin, Taken};
 use gateway_world::{Happening, Input, Output, When, World, WorldFault};
 use limits::LAST_MOMENT;
-use std::alloc::AllocError;
+use std::alloc::{AllocError, Global};
 use transformers::{Bank, Relation};
 
 /// The three, and what came of the turns so far.
@@ -108,6 +110,28 @@ fn note(
 }
 
 impl<R: Relation, H: Behaviour> Stage<R, H> {
+    /// Before the first turn: a proxy to which nothing has happened, and this device.
+    pub fn new(
+        alloc: Global,
+        settings: Settings,
+        origin: Origin<H>,
+    ) -> Result<Stage<R, H>, WorldFault>
+        requires sound { Sound H.relation origin }
+        ensures sound { IfOk result (λ s. Sound H.relation s.origin) }
+        ensures opens { IfOk result (λ s.
+            scene s ≡ opening (rules_of settings) (device origin)) }
+        ensures memory { IsOkUnless result WorldFault.Memory }
+    {
+        Ok(Stage {
+            moment: 0,
+            world: World::new(alloc, settings)?,
+            origin,
+            outputs: Vec::new(alloc),
+            flights: Vec::new(alloc),
+            taken: Vec::new(alloc),
+        })
+    }
+
     /// Takes a turn.
     pub fn take(&mut self, bank: &Bank<R>, turn: Turn<'_>) -> Result<(), WorldFault>
         requires suits { Suits R.holds R.takes self.old.world.rules.routes bank.now }

@@ -1,4 +1,4 @@
--- What the story says of POSTs.
+-- What the story says of POSTs and of GETs.
 use Rattle.std.proofs.Common.{◌≡◌, ℕ, List, map}
 use Rattle.ask_model.specs.Views.{rules_of}
 use Rattle.demo_origin.specs.Origins.{device, fresh}
@@ -6,8 +6,10 @@ use Rattle.demo_origin.specs.declared.state.Held.{Held}
 use Rattle.gateway_model.specs.Emissions.{emissions}
 use Rattle.three_parties.specs.Flights.{going}
 use Rattle.three_parties.specs.Promises.{PostsOnceInTime}
+use Rattle.three_parties.specs.Reads.{GetsShowInTime}
 use Rattle.three_parties.specs.Stories.{IsStory}
 use Rattle.three_parties.proofs.Executing.{if-ok, posts-of}
+use Rattle.three_parties.proofs.Reading.{reads-of}
 use Rattle.three_parties.proofs.run.three_run.Goals as goal
 
 pub returns-clause-posts : goal.returns-clause-posts
@@ -17,5 +19,15 @@ returns-clause-posts g c =
     (λ s. (block : ℕ) (resources : List Held) → device c.args.origin ≡ fresh block resources
     → PostsOnceInTime c.args.turns.now s.journal.entries (map going s.flights.items) s.taken.items)
     (λ s is. posts-of g.H.Behaviour.relation c.posts_once.ensures g.R.Relation.holds g.R.Relation.takes (rules_of c.args.settings) (device c.args.origin)
+    c.args.turns.now (emissions s.outputs.items) (map going s.flights.items) s.journal.entries (device s.origin) s.taken.items is)
+    c.play.result c.play.ensures.is
+
+pub returns-clause-reads : goal.returns-clause-reads
+returns-clause-reads g c =
+    if-ok (λ s. IsStory g.R.Relation.holds g.R.Relation.takes g.H.Behaviour.relation (rules_of c.args.settings) (device c.args.origin)
+    c.args.turns.now (emissions s.outputs.items) (map going s.flights.items) s.journal.entries (device s.origin) s.taken.items)
+    (λ s. (block : ℕ) (resources : List Held) → device c.args.origin ≡ fresh block resources
+    → GetsShowInTime c.args.turns.now resources s.journal.entries (map going s.flights.items) s.taken.items)
+    (λ s is. reads-of g.H.Behaviour.relation c.writes_show.ensures g.R.Relation.holds g.R.Relation.takes (rules_of c.args.settings) (device c.args.origin)
     c.args.turns.now (emissions s.outputs.items) (map going s.flights.items) s.journal.entries (device s.origin) s.taken.items is)
     c.play.result c.play.ensures.is

@@ -1,8 +1,8 @@
 -- All that the device gives was sent.
-use Rattle.std.proofs.Common.{List, [], ◌∷◌, length, map, arith, ap, sym, ◌∙◌}
+use Rattle.std.proofs.Common.{[], ◌∷◌, map, ap, ◌∙◌}
 use Rattle.demo_origin.specs.Origins.{device}
 use Rattle.three_parties.specs.Flights.{going}
-use Rattle.three_parties.proofs.Sending.{given-none, given-one, gives-all, gives-more, gives-shorter, mapped-both, none-given}
+use Rattle.three_parties.proofs.Sending.{given-one, gives-more, gives-shorter, mapped-both, none-given}
 use Rattle.three_parties.proofs.stage.send_all.Goals as goal
 
 pub each-init : goal.each-init
