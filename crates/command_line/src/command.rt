@@ -17,6 +17,10 @@ pub enum Command<'a> {
     },
     /// A picture of the journal on standard input.
     Draw,
+    /// A story, told of a file or else of standard input.
+    Story {
+        file: Option<&'a str>,
+    },
     /// The gateway, and a device to try it with, under settings of their own. Connections are taken at
     /// the address, where one is named.
     Demo {
@@ -58,6 +62,10 @@ pub fn command_of(words: &[String]) -> Result<Command<'_>, Hint<'static>> {
             settings: Some(file.as_str()),
         }),
         ("draw", []) => Ok(Command::Draw),
+        ("story", []) => Ok(Command::Story { file: None }),
+        ("story", [file]) => Ok(Command::Story {
+            file: Some(file.as_str()),
+        }),
         ("replay", rest) => replay_of(rest).ok_or(Hint::SeeHelp),
         ("check", rest) => check_of(rest).ok_or(Hint::SeeHelp),
         _ => Err(Hint::SeeHelp),

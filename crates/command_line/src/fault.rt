@@ -1,6 +1,7 @@
 //! Why a script isn't run to its end.
 
 use crate::script::LineFault;
+use crate::story::StoryFault;
 use journal_picture::LineFault as JournalFault;
 use std::alloc::{AllocError, AllocFailed};
 use std::fmt;
@@ -31,6 +32,8 @@ impl fmt::Display for ReplayFault {
 pub enum Reason {
     /// The line is no input.
     Line(LineFault),
+    /// The line is none of a story.
+    Story(StoryFault),
     /// The script ends within the line.
     Unended,
     /// The line is none that a journal has, or not at that place.
@@ -49,6 +52,7 @@ impl fmt::Display for Reason {
     fn fmt<W: fmt::Write>(&self, f: &mut fmt::Formatter<W>) -> fmt::Result {
         match self {
             Reason::Line(fault) => write!(f, "{fault}"),
+            Reason::Story(fault) => write!(f, "{fault}"),
             Reason::Journal(fault) => write!(f, "{fault}"),
             Reason::NotText => f.write_str("the line isn't UTF-8"),
             Reason::Unended => f.write_str("the last line has no line end"),

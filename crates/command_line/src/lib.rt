@@ -1,4 +1,4 @@
-//! The command line: what its words ask for, the lines of a script, the rules that settings give,
+//! The command line: what its words ask for, the lines of a script and of a story, the rules that settings give,
 //! and how a failure is told.
 //!
 //! The one contract: a failure ends the program with the status that is its own, and the rules that
@@ -12,6 +12,7 @@ mod report;
 mod script;
 mod serving;
 mod settings;
+mod story;
 
 pub use command::{Command, command_of};
 pub use demo::{COAP_PORT, DEVICE, Demonstration, GATEWAY, WEB_PORT, WINDOW_PORT, loopback};
@@ -20,3 +21,4 @@ pub use report::{Failure, Hint, Report, USAGE};
 pub use script::{Event, Line, LineFault, line_of};
 pub use serving::Serving;
 pub use settings::{asks_to_observe, demonstration, followed};
+pub use story::{StoryFault, StoryLine, StoryTurn, story_line_of};

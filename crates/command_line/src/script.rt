@@ -104,7 +104,7 @@ fn event_of(alloc: Global, text: &[u8]) -> Result<Event, LineFault> {
 }
 
 /// What stands before the first space, and what stands after it.
-fn first_word(text: &[u8]) -> Option<(&[u8], &[u8])>
+pub(crate) fn first_word(text: &[u8]) -> Option<(&[u8], &[u8])>
     ensures { IfSome result (λ p. text.now ≡ p.0.now ++ 32 ∷ p.1.now) }
 {
     let end = text.iter().position(|b| *b == b' ')?;
@@ -112,7 +112,7 @@ fn first_word(text: &[u8]) -> Option<(&[u8], &[u8])>
 }
 
 /// The number that decimal digits give.
-fn decimal(digits: &[u8]) -> Option<u64> {
+pub(crate) fn decimal(digits: &[u8]) -> Option<u64> {
     if digits.is_empty() || !digits.iter().all(|b| b.is_ascii_digit()) {
         return None;
     }
@@ -120,12 +120,12 @@ fn decimal(digits: &[u8]) -> Option<u64> {
 }
 
 /// The number of a connection.
-fn connection_of(digits: &[u8]) -> Option<u32> {
+pub(crate) fn connection_of(digits: &[u8]) -> Option<u32> {
     u32::try_from(decimal(digits)?).ok()
 }
 
 /// The bytes that hexadecimal digits in lower case give.
-fn bytes_of(alloc: Global, digits: &[u8]) -> Result<Vec<u8>, LineFault> {
+pub(crate) fn bytes_of(alloc: Global, digits: &[u8]) -> Result<Vec<u8>, LineFault> {
     if digits.iter().any(|b| b.is_ascii_uppercase()) {
         return Err(LineFault::Hex);
     }

@@ -15,6 +15,7 @@ mod wire;
 
 pub use clock::{Clock, SystemClock};
 pub use kinds::{Kinds, answer};
+pub use rows::resource_of;
 pub use server::{run, serve_rows};
 pub use server_faults::DeviceFault;
 pub use turns::{Served, Turned, serve, turn};

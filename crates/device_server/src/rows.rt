@@ -75,11 +75,7 @@ fn handler_of(kind: Kind, call: Call) -> Handler<Kinds>
 }
 
 /// The resource that a row says, by a handler of its kind.
-pub(crate) fn resource_of(
-    alloc: Global,
-    row: &Row,
-    call: Call,
-) -> Result<Resource<Kinds>, AllocError>
+pub fn resource_of(alloc: Global, row: &Row, call: Call) -> Result<Resource<Kinds>, AllocError>
     requires callable { Call.IsAlwaysCallable call }
     requires keeps { Keeps (relation_of row.now.kind) (λ p q r. Call.post call p q r) }
     ensures row { IfOk result (λ r. IsRow row.now r) }

@@ -1,6 +1,7 @@
 //! The program: `hcproxy demo` shows the gateway at work, `hcproxy serve` runs it, `hcproxy replay` runs a
 //! script of inputs through it and prints what comes out, `hcproxy draw` makes a picture of the journal
-//! that it prints, `hcproxy origin` runs a device to try it with,
+//! that it prints, `hcproxy story` plays it with a network and a device and tells what happens,
+//! `hcproxy origin` runs a device to try it with,
 //! `hcproxy check` reads a file of settings; `--help` and `--version` tell of it.
 #![tactic(auto)]
 
@@ -13,6 +14,7 @@ mod looping;
 mod notes;
 mod replaying;
 mod serving;
+mod storying;
 
 use command_line::{Command, Hint, Report, USAGE, command_of};
 use demo::run_demo;
@@ -31,6 +33,7 @@ use std::rt::{Clock, Env, Files};
 use std::sync::Wait;
 use std::thread::Threads;
 use std::{env, io};
+use storying::story_at;
 
 /// What `--help` prints after the usage.
 const HELP: &str = "
@@ -59,6 +62,8 @@ A gateway from HTTP/1.1 to CoAP.
   replay --settings FILE  .. under the settings of FILE in place of those of a demonstration
   draw                    makes a picture of what replay --journal printed: reads that on standard input,
                           and prints a page of HTML
+  story FILE              plays the story in FILE, or on standard input without FILE: a gateway, a device, and
+                          a network between them that loses, repeats and delays; and tells what happens
   check FILE              says whether FILE has settings of the gateway, or what is wrong at which line
   check --origin FILE     the same of settings of the demonstration device
   origin FILE             runs a CoAP device to try the gateway with, by the settings of FILE, or of
@@ -134,6 +139,7 @@ fn run<
         Command::Check { part, file } => check(&rt, part, file),
         Command::Replay { journal, settings } => replay_input(rt, settings, journal),
         Command::Draw => draw_input(&rt),
+        Command::Story { file } => story_at(rt, file),
     }
 }
 

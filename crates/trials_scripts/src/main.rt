@@ -3,7 +3,7 @@
 //! A line on standard input names a script, and how it is run: `NAME [--journal] [FILE.toml]`. Its inputs are in
 //! `NAME.script`, and `NAME.out` has what a terminal shows of `hcproxy replay`: the outputs, then the journal where
 //! that is asked for, and why the run ended where it was refused. With `NAME --draw` it is what a terminal shows of
-//! `hcproxy draw`.
+//! `hcproxy draw`, and with `NAME --story` of `hcproxy story`.
 #![tactic(auto)]
 
 ghost use Rattle.proxy_settings.specs.Files.{IsOf};
@@ -19,6 +19,7 @@ use std::fs;
 use std::io::{self, BufRead, BufReader, Write};
 use std::process::ExitCode;
 use std::rt::Files;
+use story_runs::tell_story;
 
 /// How a script is run.
 #[derive(Clone, Copy)]
@@ -27,6 +28,8 @@ struct Row<'a> {
     journal: bool,
     /// Whether it is a journal that is drawn.
     draw: bool,
+    /// Whether it is a story that is told.
+    story: bool,
     /// The file of its settings, or none for those of the demonstration.
     settings: Option<&'a str>,
 }
@@ -37,6 +40,7 @@ fn row_of(line: &str) -> Row<'_> {
         name: "",
         journal: false,
         draw: false,
+        story: false,
         settings: None,
     };
     for (place, word) in line.split(' ').enumerate() {
@@ -46,6 +50,8 @@ fn row_of(line: &str) -> Row<'_> {
             row.journal = true;
         } else if word == "--draw" {
             row.draw = true;
+        } else if word == "--story" {
+            row.story = true;
         } else {
             row.settings = Some(word);
         }
@@ -89,6 +95,10 @@ fn run<'a, R: Files + AllocGlobal, W: Write>(
 ) -> Result<(), Report<'a>> {
     if row.draw {
         return draw_to(rt.alloc(), script, writer);
+    }
+    if row.story {
+        let told = tell_story(rt.alloc(), script, writer);
+        return told.map_err(|untold| untold.report("standard input"));
     }
     let settings = settings_of(rt, row)?;
     let mut reader = script;
