@@ -24,3 +24,9 @@ returns g c = record {
   rules = rw (← c.self.view_is) (takes-rules g.R.Relation.holds g.R.Relation.takes (record { moment = c.args.when.moment; word = c.args.when.word; happening = H.Bytes c.args.number c.piece-piece.result })
       c.self.inside.world c.in_ok-world.field-0.world (emissions c.advance.new.outputs.items) c.in_ok-world.ensures.takes);
 }
+
+pub end-requires : goal.end-requires
+end-requires g c = let s = rw (← c.self.view_is) at c.requires.suits in record { suits = s }
+
+pub advance-requires-clause-suits : goal.advance-requires-clause-suits
+advance-requires-clause-suits g c = let s = rw (← c.self.view_is) at c.requires.suits in s
