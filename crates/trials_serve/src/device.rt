@@ -29,19 +29,14 @@ pub enum Manner {
     Silent,
 }
 
-/// After how many datagrams to the devices one is lost, and after how many from them the wire
-/// fails.
+/// After how many datagrams that come from the devices the wire fails.
 #[derive(Clone, Copy)]
 pub struct Failing {
-    pub sent: u64,
     pub received: u64,
 }
 
 /// Nothing fails.
-pub const SOUND: Failing = Failing {
-    sent: u64::MAX,
-    received: u64::MAX,
-};
+pub const SOUND: Failing = Failing { received: u64::MAX };
 
 /// A datagram on its way to the proxy.
 #[derive(Drop)]
@@ -95,16 +90,6 @@ pub fn reply_to(
 }
 
 impl Mail {
-    /// Sends a datagram, or fails in its place.
-    fn send(&mut self, to: Peer, datagram: &[u8]) -> Result<(), AllocError> {
-        if self.left.sent == 0 && !self.has_failed {
-            self.has_failed = true;
-            return Ok(());
-        }
-        self.left.sent = self.left.sent.saturating_sub(1);
-        self.take(to, datagram)
-    }
-
     /// What the devices do with a request.
     fn take(&mut self, to: Peer, request: &[u8]) -> Result<(), AllocError> {
         match self.manner {
@@ -230,7 +215,7 @@ impl Wire for Device {
 
     fn send(&self, datagram: Outbound<'_>) {
         if let Some(mut mail) = self.mail() {
-            let _ = mail.send(datagram.peer, datagram.bytes);
+            let _ = mail.take(datagram.peer, datagram.bytes);
         }
     }
 

@@ -1,5 +1,5 @@
 //! Sessions in threads of which something fails once: a read or a write of a connection, the wire
-//! that datagrams go and come by, or an allocation. An allocation isn't refused by itself: `rt try
+//! that datagrams come by, or an allocation. An allocation isn't refused by itself: `rt try
 //! --test --fail-alloc N` refuses the Nth.
 
 ghost use Rattle.std.specs.Prelude.{◌≡◌, ◌-◌, ◌^◌};
@@ -220,8 +220,6 @@ fn holds<W: Threads + Wait + std::rt::Clock + Sync>(rt: &W, alloc: Global) -> bo
 enum Kind {
     /// A read or a write of a connection.
     Call,
-    /// The wire, as a datagram goes out, which is lost.
-    Sent,
     /// The wire, as a datagram comes.
     Received,
 }
@@ -231,18 +229,16 @@ fn fails_at(kind: Kind, number: u64) -> Fails {
     let mut fails = NOTHING;
     match kind {
         Kind::Call => fails.call = number,
-        Kind::Sent => fails.wire.sent = number,
         Kind::Received => fails.wire.received = number,
     }
     fails
 }
 
 /// Whether a trial may go so, of which such a one failed: a session ends where its connection
-/// fails, no session where a datagram is lost, and those that wait where none can come any more.
+/// fails, and those that wait where no datagram can come any more.
 fn may_go(kind: Kind, went: Went) -> bool {
     match kind {
         Kind::Call => went == Went::CutOff,
-        Kind::Sent => went == Went::Right,
         Kind::Received => matches!(went, Went::Right | Went::Shut),
     }
 }
@@ -297,9 +293,4 @@ fn each_read_and_write_fails_once(rt: HostRuntime) {
 #[test]
 fn each_receipt_fails_once(rt: HostRuntime) {
     assert!(rt; fail(&rt, rt.alloc(), Kind::Received, [2, 2, 0, 1]));
-}
-
-#[test]
-fn each_sending_fails_once(rt: HostRuntime) {
-    assert!(rt; fail(&rt, rt.alloc(), Kind::Sent, [2, 2, 1, 2]));
 }
