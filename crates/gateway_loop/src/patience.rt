@@ -10,9 +10,6 @@ use crate::turns::{Loop, Stop};
 use crate::waits::{On, Waits};
 use transformers::{Bank, Relation};
 
-/// How long a client may leave its answer unread, in milliseconds.
-const LONGEST_UNREAD: u64 = 10_000;
-
 /// How often connections are looked at, in milliseconds.
 pub(crate) const SWEEP: u64 = 1000;
 
@@ -39,17 +36,16 @@ impl<R: Relation, S: Stream + Drop, W: Wire + Drop> Gateway<R, S, W> {
         self.clients.forget();
     }
 
-    /// Whether its client has stood still for too long, in a request for so many milliseconds, or
-    /// before its answer.
+    /// Whether its client has stood still in a request for so many milliseconds, or hasn't taken all
+    /// that is left for it within as many.
     pub fn stands_still(&self, number: u32, moment: u64, most: u64) -> bool {
         let Some(waits) = self.clients.waits(number) else {
             return false;
         };
-        let time = moment.saturating_sub(waits.times.moved);
         match waits.on {
             On::Request => false,
-            On::Rest => time >= most && self.is_idle(number),
-            On::Reader => time >= LONGEST_UNREAD,
+            On::Rest => waits.times.stood(moment) >= most && self.is_idle(number),
+            On::Reader => waits.times.waited(moment) >= most,
         }
     }
 
@@ -59,7 +55,7 @@ impl<R: Relation, S: Stream + Drop, W: Wire + Drop> Gateway<R, S, W> {
     pub fn readiness(&self, number: u32, moment: u64, least: u64) -> Option<Readiness> {
         let waits = self.clients.waits(number)?;
         let kind = self.kind_of(number, waits)?;
-        let time = moment.saturating_sub(waits.times.since);
+        let time = waits.times.waited(moment);
         if kind != Kind::Gone && time < least {
             return None;
         }

@@ -50,6 +50,24 @@ impl Times {
         self.changed
     }
 
+    /// For how many milliseconds it has waited for the same, at this moment.
+    pub fn waited(self, moment: u64) -> u64 {
+        if self.changed {
+            0
+        } else {
+            moment.saturating_sub(self.since)
+        }
+    }
+
+    /// For how many its client has stood still.
+    pub fn stood(self, moment: u64) -> u64 {
+        if self.changed || self.went {
+            0
+        } else {
+            moment.saturating_sub(self.moved)
+        }
+    }
+
     /// It is looked at, at this moment.
     pub fn look(&mut self, moment: u64) {
         if self.changed {
