@@ -14,11 +14,14 @@ use Rattle.uri_map.specs.declared.target.Target.{Target}
 use Rattle.uri_map.specs.Limits.{extra, spelled_len, options_with, host_options, uri_options, is_short, fits}
 use Rattle.uri_map.proofs.CallerLemmas.{options_len}
 use Rattle.std.specs.declared.alloc.AllocError.{AllocError}
-use Rattle.ask_model.specs.Requests.{CoapRequest, Sense, Requests, Refuses, optional, options_asking, request_options, block_option, block_value, carried_by, block_message}
+use Rattle.ask_model.specs.Requests.{CoapRequest, Sense, Requests, Refuses, optional, options_asking, observing_options, observe_message, request_options, block_option, block_value, carried_by, block_message}
+use Rattle.ask_model.specs.Observing.{IsObserving, is_named}
+use Rattle.ask_model.specs.Sharing.{is_get}
+use Rattle.ask_model.specs.Views.{Rules}
 use Rattle.ask_model.specs.Datagrams.{FitsMessages, IsSendable, IsSentFor, block_named, block_or_first}
 use Rattle.ask_model.proofs.Payloads.{spelled_length}
 use Rattle.ask_model.proofs.Blocks.{asked, block_message_as}
-use Rattle.ask_model.proofs.OptionOrder.{asking_in_order, blocks_in_order, uint_bytes_short}
+use Rattle.ask_model.proofs.OptionOrder.{asking_in_order, observing_in_order, blocks_in_order, uint_bytes_short}
 
 extra_max : (n : ℕ) → extra n ≤ 2
 extra_max n = grind (arith, nat_tests)
@@ -134,3 +137,27 @@ sent_len sense block mid token (Err e) f small s = tt
 sent_len sense block mid token (Ok None) f small s = tt
 sent_len (Requests q) block mid token (Ok (Some bytes)) f small s = datagram_len q block mid token bytes f small s
 sent_len (Refuses cause status) block mid token (Ok (Some bytes)) f small s = absurd cc
+
+-- one that asks to be told of changes
+observing_len : (t : Target) (format accept : Option ℕ) → spelled_len 0 (observing_options t format accept) ≤ spelled_len 0 (uri_options t) + 24
+observing_len t format accept =
+    let one = with_optional 0 6 (host_options t.host) (options_with 11 t.path ++ (optional 12 format ++ (options_with 15 t.query ++ optional 17 accept))) (Some 0) (observing_in_order t format accept) in
+    let asking = asking_len t format accept in
+    omega (arith, one, asking)
+
+observed_len : (q : CoapRequest) (mid : ℕ) (token bytes : List ℕ) → FitsMessages q → is_get q ≡ true → Spells (observe_message q mid token) bytes → length bytes ≤ 2024
+observed_len q mid token bytes f get s =
+    let all = spelled_length (observe_message q mid token) bytes s in
+    let options = options_len 0 (observing_options q.target q.format q.accept) s.options s.options_are in
+    let observing = observing_len q.target q.format q.accept in
+    let target = target_len q.target f.target in
+    let parts = and_parts (q.method == 1) _ get in
+    let empty = ap (λ (v : List ℕ). length v) (f.get ((Decides-eqb q.method 1).0 parts.0)) in
+    omega (arith, all, options, observing, target, empty, s.short_token)
+
+pub observing_sent_len : (s : Rules) (sense : Sense) (mid : ℕ) (token : List ℕ) (r : Result (Option (List ℕ)) AllocError) → IsSendable sense
+    → IfOk r (λ o. IsObserving s sense mid token o) → IfOk r (λ o. IfSome o (λ bytes. length bytes ≤ 2024))
+observing_sent_len s sense mid token (Err e) f h = tt
+observing_sent_len s sense mid token (Ok None) f h = tt
+observing_sent_len s (Requests q) mid token (Ok (Some bytes)) f h = observed_len q mid token bytes f (and_parts (is_get q) (is_named s.observed q.target.host) h.0).0 h.1
+observing_sent_len s (Refuses cause status) mid token (Ok (Some bytes)) f h = absurd cc

@@ -12,7 +12,7 @@ use Rattle.uri_map.specs.declared.target.Target.{Target}
 use Rattle.uri_map.specs.declared.target.Host.{Host}
 use Rattle.uri_map.specs.declared.target.Host.TheVariants.{Name, V4, V6}
 use Rattle.uri_map.specs.Limits.{options_with, host_options, uri_options, is_short, fits}
-use Rattle.ask_model.specs.Requests.{uint_bytes, optional, options_asking}
+use Rattle.ask_model.specs.Requests.{uint_bytes, optional, options_asking, observing_options}
 use Rattle.ask_model.proofs.Codes.{code_is_not_zero}
 
 -- options after one of a lower number
@@ -102,5 +102,33 @@ pub asking_encodable : (m : Method) (t : Target) (number : ℕ) (format accept b
 asking_encodable m t number format accept block code mid token payload os le within same e = record {
   in_order = rw e (blocks_in_order t number format accept block le);
   short = rw e (short_both (options_asking t format accept) _ (asking_short t format accept within) (short_optional number block));
+  nothing_else = λ zero. absurd (code_is_not_zero m (sym same ∙ zero));
+}
+
+-- the same of one that asks to be told of changes
+host_before : (host : Host) (n : ℕ) (os : List Entry) → 3 ≤ n → IsInOrder n os → IsInOrder 0 (host_options host ++ os)
+host_before (Name name) n os le h = (omega arith, weaker 3 n os le h)
+host_before (V4 address) n os le h = weaker 0 n os (omega arith) h
+host_before (V6 address) n os le h = weaker 0 n os (omega arith) h
+
+pub observing_in_order : (t : Target) (format accept : Option ℕ) → IsInOrder 0 (observing_options t format accept)
+observing_in_order t format accept =
+    host_before t.host 6 _ (omega arith) (
+      omega arith,
+      behind_equal 6 11 t.path _ (omega arith)
+          (behind_optional 11 12 format _ (omega arith)
+          (behind_equal 12 15 t.query _ (omega arith) (last_optional 15 17 accept (omega arith)))),
+    )
+
+observing_short : (t : Target) (format accept : Option ℕ) → fits (uri_options t) ≡ true → AllByRecursion IsShort (observing_options t format accept)
+observing_short t format accept h =
+    let all = asking_short t format accept h in
+    short_both (host_options t.host) _ (short_first (host_options t.host) _ all)
+    (omega arith, short_second (host_options t.host) _ all)
+
+pub observing_encodable : (m : Method) (t : Target) (format accept : Option ℕ) (code mid : ℕ) (token payload : List ℕ) (os : List Entry) → fits (uri_options t) ≡ true → code ≡ request_code m → os ≡ observing_options t format accept → IsEncodable (record { kind = Con; code = code; mid = mid; token = token; options = os; payload = payload })
+observing_encodable m t format accept code mid token payload os within same e = record {
+  in_order = rw e (observing_in_order t format accept);
+  short = rw e (observing_short t format accept within);
   nothing_else = λ zero. absurd (code_is_not_zero m (sym same ∙ zero));
 }

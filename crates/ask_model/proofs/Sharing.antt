@@ -5,7 +5,7 @@ use Rattle.std.proofs.lemmas.Bool.{and_parts}
 use Rattle.std.proofs.lemmas.Bool.Decides.{Decides-eqb}
 use Rattle.cache_key.specs.Keys.{CacheKey, same_key}
 use Rattle.cache_key.proofs.CallerLemmas.{keys_decided}
-use Rattle.ask_model.specs.Requests.{CoapRequest, Sense, Requests, Refuses, request_message}
+use Rattle.ask_model.specs.Requests.{CoapRequest, Sense, Requests, Refuses, asking}
 use Rattle.ask_model.specs.Sharing.{asked_key, asked_place, is_get, asks_same, asks_same_by, key_read}
 
 -- a GET has the method 1, and neither format nor body
@@ -50,18 +50,34 @@ pub same-place : (q r : CoapRequest) → asks_same q r ≡ true → asked_place 
 same-place q r e = ap (λ (k : CacheKey). k.place) (parts q r e).key
 
 pub asks-alike : (q r : CoapRequest) → asks_same q r ≡ true
-    → (q.peer ≡ r.peer) × ((mid : ℕ) (token : List ℕ) → request_message q mid token ≡ request_message r mid token)
-asks-alike q r e =
-    let it = parts q r e in
-    let a = get-is q it.first in
-    let b = get-is r it.second in
-    let host : q.target.host ≡ r.target.host = ap (λ (k : CacheKey). k.host) it.key in
-    let path : q.target.path ≡ r.target.path = ap (λ (k : CacheKey). k.place.path) it.key in
-    let query : q.target.query ≡ r.target.query = ap (λ (k : CacheKey). k.query) it.key in
-    let accept : q.accept ≡ r.accept = ap (λ (k : CacheKey). k.accept) it.key in (
-      ap (λ (k : CacheKey). k.place.peer) it.key,
-      λ mid token. rw (a.method, b.method, a.format, b.format, a.body, b.body, host, path, query, accept) refl,
-    )
+    → (q.peer ≡ r.peer)
+    × ((observes : Bool) (mid : ℕ) (token : List ℕ) → asking observes q None mid token ≡ asking observes r None mid token)
+asks-alike q r e = (ap (λ (k : CacheKey). k.place.peer) it.key, messages)
+  where
+    it : Parts q r
+    it = parts q r e
+
+    a : IsGet q
+    a = get-is q it.first
+
+    b : IsGet r
+    b = get-is r it.second
+
+    host : q.target.host ≡ r.target.host
+    host = ap (λ (k : CacheKey). k.host) it.key
+
+    path : q.target.path ≡ r.target.path
+    path = ap (λ (k : CacheKey). k.place.path) it.key
+
+    query : q.target.query ≡ r.target.query
+    query = ap (λ (k : CacheKey). k.query) it.key
+
+    accept : q.accept ≡ r.accept
+    accept = ap (λ (k : CacheKey). k.accept) it.key
+
+    messages : (observes : Bool) (mid : ℕ) (token : List ℕ) → asking observes q None mid token ≡ asking observes r None mid token
+    messages true mid token = rw (a.method, b.method, a.format, b.format, a.body, b.body, host, path, query, accept) refl
+    messages false mid token = rw (a.method, b.method, a.format, b.format, a.body, b.body, host, path, query, accept) refl
 
 -- What asks the same as one request does, asks the same as another that does.
 pub asks-onward : (q r s : CoapRequest) → asks_same q r ≡ true → asks_same q s ≡ true → asks_same r s ≡ true

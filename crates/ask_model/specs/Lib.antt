@@ -5,3 +5,4 @@ pub mod Views
 pub mod Maps
 pub mod Datagrams
 pub mod Sharing
+pub mod Observing

@@ -1,5 +1,5 @@
 -- What came in from HTTP, and the CoAP request that it stands for: plain data.
-use Rattle.std.specs.Prelude.{ℕ, ◌+◌, ◌*◌, ◌/◌, ◌%◌, ◌==◌, nat_lt, List, [], ◌∷◌, ◌++◌, length, Option, Some, None, if◌then◌else◌}
+use Rattle.std.specs.Prelude.{ℕ, ◌+◌, ◌*◌, ◌/◌, ◌%◌, ◌==◌, nat_lt, Bool, true, false, List, [], ◌∷◌, ◌++◌, length, Option, Some, None, if◌then◌else◌}
 use Rattle.coap_codec.specs.declared.message.MsgType.TheVariants.{Con}
 use Rattle.coap_codec.specs.Spelling.{Entry, Content}
 use Rattle.coap_codec.specs.declared.block.Block.{Block}
@@ -51,6 +51,13 @@ options_asking t format accept =
     host_options t.host
     ++ (options_with 11 t.path ++ (optional 12 format ++ (options_with 15 t.query ++ optional 17 accept)))
 
+-- The same with Observe 0, which asks to be told of changes (RFC 7641 section 2): its number is 6, after Uri-Host.
+abbrev pub observing_options : Target → Option ℕ → Option ℕ → List Entry
+observing_options t format accept =
+    host_options t.host
+    ++ (optional 6 (Some 0)
+    ++ (options_with 11 t.path ++ (optional 12 format ++ (options_with 15 t.query ++ optional 17 accept))))
+
 abbrev pub request_options : CoapRequest → List Entry
 request_options q = options_asking q.target q.format q.accept
 
@@ -84,9 +91,24 @@ block_message q (Some b) mid token =
       payload = carried_by q.method (Some b) q.body;
     }
 
+-- The message that asks to be told of changes too (RFC 7641 section 3.1).
+abbrev pub observe_message : CoapRequest → ℕ → List ℕ → Content
+observe_message q mid token =
+    record (request_message q mid token) { options = observing_options q.target q.format q.accept }
+
+-- Where no block is named, a message may do so, or not.
+abbrev pub asking : Bool → CoapRequest → Option Block → ℕ → List ℕ → Content
+asking observes q (Some b) mid token = block_message q (Some b) mid token
+asking true q None mid token = observe_message q mid token
+asking false q None mid token = request_message q mid token
+
 -- Of a body that doesn't go all at once the first block goes first, in the largest size: 1,024 bytes.
 abbrev pub first_block : CoapRequest → Option Block
 first_block q = if q.method == 1 then None else next_block (begun (length q.body) 6)
 
 abbrev pub first_message : CoapRequest → ℕ → List ℕ → Content
 first_message q mid token = block_message q (first_block q) mid token
+
+-- The first message of an exchange, which may ask to be told of changes.
+abbrev pub opening_message : Bool → CoapRequest → ℕ → List ℕ → Content
+opening_message observes q mid token = asking observes q (first_block q) mid token

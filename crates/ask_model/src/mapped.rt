@@ -8,11 +8,12 @@ ghost use Rattle.ask_model.specs.Maps.{Maps, wanted_of};
 ghost use Rattle.cache_key.specs.Keys.{key_of, place_of};
 ghost use Rattle.ask_model.specs.Sharing.{asks_same_by, key_read, outdates_by, place_written};
 ghost use Rattle.ask_model.specs.Sizes.{came_size};
+ghost use Rattle.ask_model.specs.Observing.{IsObserving};
 ghost use Rattle.ask_model.specs.Datagrams.{IsSentFor, asked_body, asked_peer, block_named};
 
 use crate::comparing;
 use crate::meaning::Meaning;
-use crate::request::{body_in, bytes_of, datagram_of};
+use crate::request::{body_in, bytes_of, datagram_of, observing_of};
 use crate::settings::Settings;
 use cache_key::Reading;
 use coap_codec::{Block, Bytes, Token};
@@ -206,6 +207,27 @@ impl<R: Relation> Mapped<R> {
             self.meaning(),
             body_in(self.came()),
             block,
+            mid,
+            token,
+        )
+    }
+
+    /// A datagram that asks it, and to be told of changes too, by Observe 0 (RFC 7641 section 3.1). None
+    /// where it isn't a GET, or its server isn't to be observed by the settings.
+    pub fn observe_request(
+        &self,
+        alloc: Global,
+        mid: u16,
+        token: &Token,
+    ) -> Result<Option<Bytes>, AllocError>
+        ensures sent { IfOk result (λ o. IsObserving self.now.rules self.now.sense mid token.now o) }
+        ensures len { IfOk result (λ o. IfSome o (λ bytes. length bytes ≤ MAX_MESSAGE_LEN)) }
+    {
+        observing_of(
+            alloc,
+            self.meaning(),
+            body_in(self.came()),
+            self.settings().observed.as_slice(),
             mid,
             token,
         )

@@ -1,21 +1,25 @@
 //! The datagram that asks a CoAP server (RFC 7252 section 3).
 
 ghost use Rattle.std.specs.Prelude.{◌≡◌, ◌≢◌, ◌≤◌, ◌<◌, ◌^◌, [], ◌++◌, length, take, drop, vec_len, option_map, IfOk, IfSome, OnOk};
+ghost use Rattle.std.specs.List.{list_any};
+ghost use Rattle.std.specs.Str.{bytes_eq};
 ghost use Rattle.limits.specs.declared.TheConstants.{MAX_BODY_LEN};
 ghost use Rattle.coap_codec.specs.Spelling.{Spells, content, entries};
 ghost use Rattle.coap_codec.specs.Writing.{IsEncodable, payload_text};
 ghost use Rattle.code_map.specs.Methods.{request_code};
-ghost use Rattle.ask_model.specs.Requests.{CoapRequest, uint_bytes, optional, options_asking, block_option, block_value, carried_by};
-ghost use Rattle.ask_model.specs.Views.{came_of, body_of, payload_of, sense_of};
+ghost use Rattle.uri_map.specs.Limits.{host_options};
+ghost use Rattle.ask_model.specs.Requests.{CoapRequest, uint_bytes, optional, options_asking, observing_options, block_option, block_value, carried_by};
+ghost use Rattle.ask_model.specs.Observing.{IsObserving, is_named};
+ghost use Rattle.ask_model.specs.Views.{Rules, came_of, body_of, payload_of, sense_of};
 ghost use Rattle.ask_model.specs.Datagrams.{IsSentFor, IsSendable, block_or_first, block_named};
 
 use crate::meaning::{Meaning, Payload};
 use blockwise::{LARGEST_SZX, Upload, slice_of};
-use coap_codec::number::{ACCEPT, BLOCK1, BLOCK2, CONTENT_FORMAT};
+use coap_codec::number::{ACCEPT, BLOCK1, BLOCK2, CONTENT_FORMAT, OBSERVE};
 use coap_codec::{Block, Bytes, Message, MsgType, Opt, Token, encode};
 use http_edge::Incoming;
 use std::alloc::{AllocError, Global};
-use uri_map::{Target, options_of};
+use uri_map::{Host, Target, Text, options_of};
 
 /// The code of a GET (RFC 7252 section 12.1.1).
 pub(crate) const GET: u8 = 1;
@@ -74,6 +78,55 @@ fn options_for(
     let end = options.len();
     insert_number(alloc, &mut options, end, ACCEPT, accept)?;
     Ok(options)
+}
+
+/// How many options a host has.
+fn host_len(host: &Host) -> usize
+    ensures { result ≡ length (host_options host.now) }
+{
+    match host {
+        Host::Name(_) => 1,
+        Host::V4(_) | Host::V6(_) => 0,
+    }
+}
+
+/// The options of a request that asks to be told of changes (RFC 7641 section 2).
+fn observing_options(
+    alloc: Global,
+    target: &Target,
+    format: Option<u16>,
+    accept: Option<u16>,
+) -> Result<Vec<Opt>, AllocError>
+    ensures { IfOk result (λ v. entries v.items ≡ observing_options target.now format accept) }
+{
+    let mut options = options_for(alloc, target, format, accept)?;
+    let behind_host = host_len(&target.host);
+    insert_number(alloc, &mut options, behind_host, OBSERVE, Some(0))?;
+    Ok(options)
+}
+
+/// Whether the two texts are one.
+fn is_same(a: &Text, b: &Text) -> bool
+    ensures { result ≡ bytes_eq a.now b.now }
+{
+    a.as_bytes() == b.as_bytes()
+}
+
+/// Whether the name is one of these.
+fn is_among(names: &[Text], name: &Text) -> bool
+    ensures { result ≡ list_any (bytes_eq name.now) names.now }
+{
+    names.iter().any(|n| is_same(name, n))
+}
+
+/// Whether the host is one of these names.
+fn is_named(names: &[Text], host: &Host) -> bool
+    ensures { result ≡ is_named names.now host.now }
+{
+    match host {
+        Host::Name(name) => is_among(names, name),
+        Host::V4(_) | Host::V6(_) => false,
+    }
 }
 
 /// The number that a Block option bears (RFC 7959 section 2.2).
@@ -232,6 +285,50 @@ pub(crate) fn datagram_of(
                 payload: Vec::new(alloc),
             };
             let bytes = bytes_with(alloc, &message, carried(code, body, named))?;
+            Ok(Some(Bytes::of(bytes)))
+        }
+        Meaning::Refuse(_, _) => Ok(None),
+    }
+}
+
+/// The datagram of a GET that asks to be told of changes, where its server has one of these names. None
+/// of any other, and of what is no GET.
+pub(crate) fn observing_of(
+    alloc: Global,
+    meaning: &Meaning,
+    body: &[u8],
+    names: &[Text],
+    mid: u16,
+    token: &Token,
+) -> Result<Option<Bytes>, AllocError>
+    requires sendable { IsSendable (sense_of meaning.now body.now) }
+    ensures { (s : Rules) → s.observed ≡ names.now
+        → IfOk result (λ o. IsObserving s (sense_of meaning.now body.now) mid token.now o) }
+{
+    match meaning {
+        Meaning::Ask {
+            method,
+            target,
+            accept,
+            format,
+            payload,
+            ..
+        } => {
+            let code = method.code();
+            let is_get = code == GET && format.is_none() && bytes_of(payload, body).is_empty();
+            if !is_get || !is_named(names, &target.host) {
+                return Ok(None);
+            }
+            let options = observing_options(alloc, target, *format, *accept)?;
+            let message = Message {
+                kind: MsgType::Con,
+                code,
+                mid,
+                token: *token,
+                options,
+                payload: Vec::new(alloc),
+            };
+            let bytes = bytes_with(alloc, &message, &[])?;
             Ok(Some(Bytes::of(bytes)))
         }
         Meaning::Refuse(_, _) => Ok(None),

@@ -1,26 +1,26 @@
 -- Requests that one message asks: what was sent for the one was sent for the other.
-use Rattle.std.proofs.Common.{◌≡◌, ℕ, ◌⊎◌, true, eqb, inl, inr, List, [], Option, refl, sym, ap, subst, ◌∙◌}
+use Rattle.std.proofs.Common.{◌≡◌, ℕ, ◌⊎◌, Bool, true, false, eqb, inl, inr, List, [], Option, None, refl, sym, ap, subst, ◌∙◌}
 use Rattle.std.proofs.lemmas.Bool.{and_parts}
 use Rattle.coap_codec.specs.Spelling.{Content}
 use Rattle.coap_codec.specs.declared.block.Block.{Block}
 use Rattle.uri_map.specs.declared.peer.Peer.{Peer}
-use Rattle.ask_model.specs.Requests.{CoapRequest, request_message}
+use Rattle.ask_model.specs.Requests.{CoapRequest, asking}
 use Rattle.ask_model.specs.Sharing.{is_get, asks_same}
 use Rattle.ask_model.proofs.CallerLemmas.{asks-alike}
 use Rattle.journal_book.specs.Entries.{Written}
 use Rattle.history_laws.specs.Readings.{Noted}
-use Rattle.history_laws.proofs.CallerLemmas.{blocks-alike, eqb-same, reader-alike, Reader}
+use Rattle.history_laws.proofs.CallerLemmas.{asking-alike, eqb-same, reader-alike, Reader}
 use Rattle.history_claims.specs.Headline.{IsFirstSending, IsSentFor, IsResponse, IsNew, IsUnanswered, IsHeardFor, IsSameGet}
 
 pub record IsLike (r q : CoapRequest) : Type 0 where
   pub peer : r.peer ≡ q.peer
-  pub message : (mid : ℕ) (token : List ℕ) → request_message r mid token ≡ request_message q mid token
+  pub message : (observes : Bool) (mid : ℕ) (token : List ℕ) → asking observes r None mid token ≡ asking observes q None mid token
 
 pub like-method : (r q : CoapRequest) → IsLike r q → r.method ≡ q.method
-like-method r q like = ap (λ (m : Content). m.code) (like.message 0 [])
+like-method r q like = ap (λ (m : Content). m.code) (like.message false 0 [])
 
 pub like-get : (r q : CoapRequest) → IsLike r q → q.method ≡ 1 → IsSameGet q r
-like-get r q like get = (get, sym like.peer, λ mid token. sym (like.message mid token))
+like-get r q like get = (get, sym like.peer, λ observes mid token. sym (like.message observes mid token))
 
 pub sent-like : (h : List Written) (o : ℕ) (r q : CoapRequest) (block : Option Block) (i : ℕ) (m : Content) → IsLike r q
     → IsSentFor h o r block i m → IsSentFor h o q block i m
@@ -29,7 +29,7 @@ sent-like h o r q block i m like s =
       after = s.after;
       moment = s.moment;
       first = subst (λ (p : Peer). IsFirstSending h i s.moment p m) like.peer s.first;
-      asks = s.asks ∙ blocks-alike r q m.mid m.token block (like.message m.mid m.token);
+      asks = (s.asks.0, s.asks.1 ∙ asking-alike s.asks.0 r q m.mid m.token block (like.peer, like.message));
       issued = s.issued;
     }
 
@@ -54,13 +54,13 @@ same-get q r e = eqb-same q.method 1 (and_parts (eqb q.method 1) _ (and_parts (i
 pub asks-like : (q r : CoapRequest) → asks_same q r ≡ true → IsLike r q
 asks-like q r e =
     let alike = asks-alike q r e in
-    record { peer = sym alike.0; message = λ mid token. sym (alike.1 mid token) }
+    record { peer = sym alike.0; message = λ observes mid token. sym (alike.1 observes mid token) }
 
 -- an exchange is for what its reader asks, which is a GET if it joined
 pub reader-like : (l : List Noted) (k o : ℕ) (it : Reader l k o) → IsLike it.exchange.request it.request
 reader-like l k o it =
     let alike = reader-alike l k o it in
-    record { peer = sym alike.0; message = λ mid token. sym (alike.1 mid token) }
+    record { peer = sym alike.0; message = λ observes mid token. sym (alike.1 observes mid token) }
 
 pub reader-get : (l : List Noted) (k o : ℕ) (it : Reader l k o) → (o ≡ k) ⊎ (it.request.method ≡ 1)
 reader-get l k o it =

@@ -1,5 +1,5 @@
 -- An ask that can be answered by what is stored is.
-use Rattle.std.proofs.Common.{◌≡◌, ℕ, zero, suc, ◌+◌, ◌<◌, ◌≤◌, true, false, inl, inr, List, length, Some, refl, sym, ap, subst, ◌∙◌, arith}
+use Rattle.std.proofs.Common.{◌≡◌, ℕ, zero, suc, ◌+◌, ◌<◌, ◌≤◌, true, false, inl, inr, List, Some, refl, sym, ap, subst, ◌∙◌, arith}
 use Rattle.std.proofs.lemmas.Bool.Decides.{leb_tells}
 use Rattle.coap_codec.specs.Spelling.{Content}
 use Rattle.uri_map.specs.declared.peer.Peer.{Peer}
@@ -17,9 +17,9 @@ use Rattle.history_laws.specs.Joining.{outrun, is_joinable}
 use Rattle.history_laws.specs.Storing.{IsStored, IsCrowdedOut, MissesAlone}
 use Rattle.history_laws.specs.Justified.{AskNote, Follows, Legal, AtRest, Stands, UnservedNote}
 use Rattle.history_laws.specs.Laws.{IsFirst}
-use Rattle.history_laws.proofs.CallerLemmas.{asked-for, at-below, at-same, at-still, before-twice, begun-opening, follows-at, legal-before, length-before, shared-is}
+use Rattle.history_laws.proofs.CallerLemmas.{asked-for, at-below, at-same, at-still, before-twice, begun-opening, follows-at, legal-before, shared-is}
 use Rattle.history_claims.specs.Headline.{IsAsked}
-use Rattle.history_claims.specs.Once.{AreFew, IsHeld, told, used, IsUnwritten, WasTold, IsAtHand, IsServedSo, CanWaitFor, IsSentNothing, AreAskedOnce}
+use Rattle.history_claims.specs.Once.{AreFew, IsHeld, told, used, IsUnwritten, WasTold, IsAtHand, IsServedSo, CanWaitFor, IsSentNothing, AreAskedOnce, IsUnnotified}
 use Rattle.history_claims.specs.Order.{CanBeSpared}
 use Rattle.history_claims.proofs.Entries.{entries-at}
 use Rattle.history_claims.proofs.Given.{served-so}
@@ -30,6 +30,8 @@ use Rattle.history_claims.proofs.Unsent.{none-for-other}
 use Rattle.history_claims.proofs.Unshared.{asks-itself}
 use Rattle.history_claims.proofs.Waits.{opens-none, sent-nothing}
 use Rattle.history_claims.proofs.Written.{unsealed}
+use Rattle.cache_key.specs.Keys.{CacheKey}
+use Rattle.history_laws.specs.Observing.{outdated}
 
 held-later : (h : List Written) (q : CoapRequest) (n k : ℕ) → IsHeld h q n k → n < k
 held-later h q n k (told lt few) = lt
@@ -44,10 +46,12 @@ for-equal l q r s same it =
       ending = it.ending;
       first = it.first;
       more = it.more;
-      ends = it.ends;
+      comes = it.comes;
       shared = joinable-so l r it.opening a.exchange a.opened (asks-onward q r a.exchange.request same a.same)
           (subst (λ (p : Place). outrun l p it.opening ≡ false) (same-place q r same) a.fresh);
-      latest = λ o e w rs ends may. it.latest o e w rs ends (back o may);
+      newest = subst (λ (k : CacheKey). outdated l k it.first.number ≡ false) (same-key q r same) it.newest;
+      latest = λ o e w first rs comes may new.
+          it.latest o e w first rs comes (back o may) (subst (λ (k : CacheKey). outdated l k first.number ≡ false) (sym (same-key q r same)) new);
       entry = it.entry;
       heard_in = it.heard_in;
       heard = it.heard;
@@ -72,7 +76,7 @@ begins-no-serves r ns e = cc
 
 -- what was told in the entry n, and the ask k of a later moment
 module _ (l : List Noted) (legal : Legal l) (q : CoapRequest) (o n : ℕ) (js : List ℕ) (was : WasTold (entries l) q o n js)
-    (k : ℕ) (z : Noted) (here : at l k ≡ Some z) (later : n < k) (none : IsUnwritten (entries l) o k q)
+    (k : ℕ) (z : Noted) (here : at l k ≡ Some z) (later : n < k) (none : IsUnwritten (entries l) o k q) (untold : IsUnnotified (entries l) js k q)
     (young : z.written.moment < was.since + lifetime was.response.max_age) (open_then : is_sealed (before l k) ≡ false) where
   abbrev S : Stored
   S = stored l legal q o n js was
@@ -124,15 +128,12 @@ module _ (l : List Noted) (legal : Legal l) (q : CoapRequest) (o n : ℕ) (js : 
   stored-at : (fuel m : ℕ) → m < fuel → n < m → m ≤ k → ((y : ℕ) → n < y → y < m → IsCrowded y → ⊥) → IsStored (before l m) q S
   stored-at zero m lt low high free = absurd (omega (arith, lt))
   stored-at (suc fuel) m lt low high free =
-      stored-then l legal q o n js was k z here later none young m low high
+      stored-then l legal q o n js was k z here later none untold young m low high
       (none-opened m high free
       (λ y above less. stored-at fuel y (omega (arith, lt, less)) above (omega (arith, less, high)) (λ i over below. free i over (omega (arith, below, less)))))
 
-  size-at : (m : ℕ) → m ≤ k → length (before l m) ≡ m
-  size-at m le =
-      let below = at-below l k z here in
-      let it = at-there l m (omega (arith, below, le)) in
-      length-before l m it.0 it.1
+  there-at : (m : ℕ) → m ≤ k → (v : Noted) × (at l m ≡ Some v)
+  there-at m le = let below = at-below l k z here in at-there l m (omega (arith, below, le))
 
   unsealed-at : (m : ℕ) → m < k → is_sealed (before l m) ≡ false
   unsealed-at m lt =
@@ -142,8 +143,8 @@ module _ (l : List Noted) (legal : Legal l) (q : CoapRequest) (o n : ℕ) (js : 
   free-told : (up : ℕ) → up ≤ k → AreFew (entries l) n up q → (m : ℕ) → n < m → m ≤ up → IsCrowded m → ⊥
   free-told up le few m low high =
       let answer = told-in l legal q o n js was in
-      uncrowded l n (e l legal q o n js was) up _ q legal answer.1 (unsealed-at n later) unopened few (quiet l legal q o n js was) m
-      (size-at m (omega (arith, high, le))) high (used-then l legal q o n js was k z here later none young m low (omega (arith, high, le)))
+      let it = there-at m (omega (arith, high, le)) in
+      uncrowded l n (e l legal q o n js was) up _ q legal answer.1 (unsealed-at n later) unopened few (quiet l legal q o n js was) m it.0 it.1 high (used-then l legal q o n js was k z here later none untold young m low (omega (arith, high, le)))
     where
       unopened : (b : Begun) → begun l n ≡ Some b → ⊥
       unopened b opened =
@@ -182,8 +183,8 @@ module _ (l : List Noted) (legal : Legal l) (q : CoapRequest) (o n : ℕ) (js : 
 
     free-used : (up : ℕ) → up ≤ k → AreFew (entries l) a up q → (m : ℕ) → a < m → m ≤ up → IsCrowded m → ⊥
     free-used up le few m less high =
-        uncrowded l a a up _ q legal stands (unsealed-at a below) unopened few (λ i x more at_most e come. omega (arith, more, at_most)) m
-        (size-at m (omega (arith, high, le))) high
+        let it = there-at m (omega (arith, high, le)) in
+        uncrowded l a a up _ q legal stands (unsealed-at a below) unopened few (λ i x more at_most e come. omega (arith, more, at_most)) m it.0 it.1 high
         (inl (record {
           moment = t;
           conn = c;
@@ -218,11 +219,11 @@ served-note l legal k c t q js asked h =
     let later = held-later (entries l) q h.answer k h.held in
     let open_then = unsealed l k c asker legal (record { moment = t; note = there.0; stands = there.1 }) in
     let z : Noted = noted t (Asks c asker) there.0 in
-    let free = uncrowded-at l legal q h.ask h.answer js h.told k z there.1 later h.unwritten h.fresh open_then k (omega arith) h.held in
-    let is = stored-at l legal q h.ask h.answer js h.told k z there.1 later h.unwritten h.fresh open_then (suc k) k (omega arith) later (omega arith)
+    let free = uncrowded-at l legal q h.ask h.answer js h.told k z there.1 later h.unwritten h.unnotified h.fresh open_then k (omega arith) h.held in
+    let is = stored-at l legal q h.ask h.answer js h.told k z there.1 later h.unwritten h.unnotified h.fresh open_then (suc k) k (omega arith) later (omega arith)
     (λ y above less. free y above (omega (arith, less))) in
     let get = asks-a-get q h.told.request h.told.same in
-    let note = serves l legal q h.ask h.answer js h.told k z there.1 later h.unwritten h.fresh open_then k c t asker there.0 q there.1 refl (asks-itself q get)
+    let note = serves l legal q h.ask h.answer js h.told k z there.1 later h.unwritten h.unnotified h.fresh open_then k c t asker there.0 q there.1 refl (asks-itself q get)
     is (fresh-so l legal q h.ask h.answer js h.told t h.fresh) (free k later (omega arith)) in
     let stands = subst (λ (note : Note). at l k ≡ Some (noted t (Asks c asker) note)) note.1 there.1 in
     let it = given-of l k c t asker q note.0 (follows-at l k _ legal stands) in

@@ -1,5 +1,5 @@
 -- An answer to a GET rests on messages that were sent after the answer to a write, where that came before the ask.
-use Rattle.std.proofs.Common.{◌≡◌, ℕ, ◌<◌, ◌≤◌, inl, inr, List, [], ◌∷◌, sym, ap, subst, ◌∙◌, arith}
+use Rattle.std.proofs.Common.{◌≡◌, ℕ, ◌<◌, ◌≤◌, inl, inr, List, [], ◌∷◌, sym, ap, subst, ◌∙◌, arith, ◌⊎◌}
 use Rattle.std.specs.List.{Contains}
 use Rattle.coap_codec.specs.Spelling.{Content}
 use Rattle.uri_map.specs.declared.peer.Peer.{Peer}
@@ -10,7 +10,7 @@ use Rattle.history_laws.specs.Justified.{Stands}
 use Rattle.history_laws.specs.Laws.{replies_in}
 use Rattle.history_laws.specs.Progress.{Point, first_point, point_after}
 use Rattle.history_laws.proofs.CallerLemmas.{contains-none, first-or-later, some-is}
-use Rattle.history_claims.specs.Headline.{IsEntry, IsAsked, AreHeardFor, IsWriteAnswer}
+use Rattle.history_claims.specs.Headline.{IsEntry, IsAsked, AreHeardFor, IsWriteAnswer, AreNotified}
 use Rattle.history_claims.specs.Order.{AnswersLater}
 use Rattle.history_claims.proofs.Resting.{rests-on-replies}
 use Rattle.history_claims.proofs.Served.{rests-on-stored}
@@ -32,6 +32,24 @@ heard-later h k w q point (i ∷ js) (m ∷ ms) j le heard has =
           (it.sending, it.sent_for.moment, it.sent, m, omega (arith, le, after), it.sent_for.first, it.response)
       | inr later ↦ heard-later h i w q (point_after point m) js ms j (omega (arith, le, after, came)) heard.1 later
     ]
+
+-- so did a notification
+kept-later : (h : List Written) (k w : ℕ) (q : CoapRequest) (js : List ℕ) (ms : List Content) (j : ℕ) → w ≤ k
+    → AreHeardFor h k q (first_point q) js ms ⊎ AreNotified h k q js ms → Contains js j → AnswersLater h w q.peer j
+kept-later h k w q js ms j le (inl heard) has = heard-later h k w q (first_point q) js ms j le heard has
+kept-later h k w q (i ∷ []) (m ∷ []) j le (inr n) has =
+    let it = n.observed.heard in
+    let after = it.sent_for.after in
+    elim (first-or-later i [] j has) [
+      | inl same ↦
+          subst (AnswersLater h w q.peer) same
+          (it.sending, it.sent_for.moment, it.sent, m, omega (arith, le, after), it.sent_for.first, n.response)
+      | inr later ↦ absurd (contains-none j later)
+    ]
+kept-later h k w q [] ms j le (inr n) has = absurd n
+kept-later h k w q (i ∷ []) [] j le (inr n) has = absurd n
+kept-later h k w q (i ∷ []) (m ∷ o ∷ ms) j le (inr n) has = absurd n
+kept-later h k w q (i ∷ l ∷ js) ms j le (inr n) has = absurd n
 
 -- what an ask asks
 abbrev entry_of : ℕ → Deed → Written
@@ -68,5 +86,5 @@ current h stands n t c k s w j (Kept js) q asked get e has write lt =
     let earlier = it.current w (subst (λ (q : CoapRequest). IsWriteAnswer h q w) same write) lt in
     let peer : it.other.peer ≡ q.peer = sym it.same.1 ∙ ap (λ (q : CoapRequest). q.peer) (sym same) in
     subst (λ (p : Peer). AnswersLater h w p j) peer
-    (heard-later h it.opening w it.other (first_point it.other) js it.messages j (omega (arith, earlier)) it.heard has)
+    (kept-later h it.opening w it.other js it.messages j (omega (arith, earlier)) it.heard has)
 current h stands n t c k s w j (Fault cause i) q asked get e has write lt = absurd (contains-none j has)

@@ -11,13 +11,14 @@ use Rattle.history_laws.specs.Readings.{Noted, Note, Serves, First, entries, at,
 use Rattle.history_laws.specs.Connections.{is_sealed}
 use Rattle.history_laws.specs.Progress.{Ending, Whole}
 use Rattle.history_laws.specs.Exchanges.{Begun, begun, End, Nothing, Sent, turn, replies, end_here, end_of}
-use Rattle.history_laws.specs.Storing.{IsUse, IsUsedSince, KeysDiffer, IsCrowdedOut}
+use Rattle.history_laws.specs.Storing.{IsUse, IsUsedSince, KeysDiffer, IsCrowdedOut, ComesSo, IsStoring}
 use Rattle.history_laws.specs.Justified.{Follows, Legal, MayCome}
-use Rattle.history_laws.proofs.CallerLemmas.{asked-for, at-before, at-below, begun-before, begun-below, contains-later, contains-none, end-since, ends-first, first-or-later, follows-at, none-some, served-by, shared-is}
+use Rattle.history_laws.proofs.CallerLemmas.{asked-for, at-before, at-below, begun-before, begun-below, contains-later, contains-none, end-since, ends-first, first-or-later, follows-at, none-some, served-by, shared-is, length-before, updates-since}
 use Rattle.history_claims.specs.Once.{AreFew}
 use Rattle.history_claims.proofs.Alone.{requests-same}
 use Rattle.history_claims.proofs.Entries.{asked-entry}
 use Rattle.history_claims.proofs.Quiet.{asked-since, asks-a-get}
+use Rattle.history_claims.proofs.Notified.{update-is}
 
 -- Of keys that differ, and are among others, there are no more than of these.
 without : (ys : List CacheKey) (x : CacheKey) → Contains ys x
@@ -101,7 +102,10 @@ served-get l t i c a js q legal stands sense =
 module _ (l : List Noted) (s u k : ℕ) (y : Noted) (q : CoapRequest) (legal : Legal l) (there : at l s ≡ Some y) (unsealed : is_sealed (before l s) ≡ false)
     (unopened : (b : Begun) → begun l s ≡ Some b → ⊥) (few : AreFew (entries l) s k q)
     (quiet : (i : ℕ) (x : Noted) → u < i → i ≤ s → at l i ≡ Some x → MayCome (before l i) → ⊥)
-    (m : ℕ) (size : length (before l m) ≡ m) (le : m ≤ k) (own : IsUse (before l m) u (asked_key q)) where
+    (m : ℕ) (v : Noted) (here : at l m ≡ Some v) (le : m ≤ k) (own : IsUse (before l m) u (asked_key q)) where
+  size : length (before l m) ≡ m
+  size = length-before l m v here
+
   abbrev IsAmong : CacheKey → Type 0
   IsAmong key = (key ≡ asked_key q) ⊎ Contains few.others key
 
@@ -122,25 +126,37 @@ module _ (l : List Noted) (s u k : ℕ) (y : Noted) (q : CoapRequest) (legal : L
         since = inl (later-than i _ late stands (asks-come (before l i) it.moment it.conn it.ask _ (follows-at l i _ legal stands)));
       })
       (served-get l it.moment i it.conn it.ask it.replies it.request legal stands it.sense))
-  used-of i key late (inr it) =
-      let b : Begun = record { since = it.since; request = it.request } in
-      let opened = begun-before l m it.opening b it.opened in
-      let ask = asked-for l it.opening b legal opened in
-      let below = subst (λ (n : ℕ). it.opening < n) size (begun-below (before l m) it.opening b it.opened) in
-      let e : End = record { number = i; how = Whole it.response it.replies } in
-      let ended = end-since l m it.opening e it.ends.ended in
-      let came = ends-come l it.opening e legal ended in
-      let after = later-than i came.0 late came.1 came.2 in
-      let other : it.opening ≡ s → ⊥ = λ same. unopened b (subst (λ (o : ℕ). begun l o ≡ Some b) same opened) in
-      subst IsAmong it.is
-      (few.all it.opening it.request (record {
-        conn = ask.conn;
-        moment = it.since;
-        asked = asked-entry l it.opening ask.conn it.since ask.ask _ (Requests it.request) ask.stands ask.sense;
-        before = omega (arith, below, le);
-        since = asked-since l s it.opening y b e legal there unsealed opened ended (omega (arith, after)) other;
-      })
-      it.get)
+  used-of i key late (inr it) = stored-of i key late it it.comes
+    where
+      stored-of : (i : ℕ) (key : CacheKey) → u < i → (it : IsStoring (before l m) i key) → ComesSo (before l m) it.opening i it.response (it.first ∷ it.more)
+          → IsAmong key
+      stored-of i key late it (inl ends) =
+          let b : Begun = record { since = it.since; request = it.request } in
+          let opened = begun-before l m it.opening b it.opened in
+          let ask = asked-for l it.opening b legal opened in
+          let below = subst (λ (n : ℕ). it.opening < n) size (begun-below (before l m) it.opening b it.opened) in
+          let e : End = record { number = i; how = Whole it.response (it.first ∷ it.more) } in
+          let ended = end-since l m it.opening e ends.ended in
+          let came = ends-come l it.opening e legal ended in
+          let after = later-than i came.0 late came.1 came.2 in
+          let other : it.opening ≡ s → ⊥ = λ same. unopened b (subst (λ (o : ℕ). begun l o ≡ Some b) same opened) in
+          subst IsAmong it.is
+          (few.all it.opening it.request (record {
+            conn = ask.conn;
+            moment = it.since;
+            asked = asked-entry l it.opening ask.conn it.since ask.ask _ (Requests it.request) ask.stands ask.sense;
+            before = omega (arith, below, le);
+            since = asked-since l s it.opening y b e legal there unsealed opened ended (omega (arith, after)) other;
+          })
+          it.get)
+      stored-of i key late it (inr t) =
+          let b : Begun = record { since = it.since; request = it.request } in
+          let opened = begun-before l m it.opening b it.opened in
+          let now = updates-since l m v it.opening i it.response (it.first ∷ it.more) here t in
+          let told = update-is l it.opening i it.response (it.first ∷ it.more) b legal opened now in
+          let after = later-than i _ late now.stands (follows-at l i _ legal now.stands).0 in
+          let below = subst (λ (n : ℕ). i < n) size (at-below (before l m) i _ t.stands) in
+          subst IsAmong it.is (few.told it.opening i it.request now.message after (omega (arith, below, le)) told.0)
 
   all-used : (keys : List CacheKey) → AllByRecursion (IsUsedSince (before l m) (asked_key q)) keys → AllByRecursion (Contains few.others) keys
   all-used [] h = tt

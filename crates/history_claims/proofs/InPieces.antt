@@ -5,7 +5,7 @@ use Rattle.coap_codec.specs.Spelling.{Entry, Content, Spells}
 use Rattle.coap_codec.proofs.Unique.{spells_one}
 use Rattle.uri_map.specs.declared.peer.Peer.{Peer}
 use Rattle.blockwise.specs.Downloads.{no_pieces, with_piece}
-use Rattle.ask_model.specs.Requests.{CoapRequest, block_message}
+use Rattle.ask_model.specs.Requests.{CoapRequest, asking}
 use Rattle.ask_model.specs.declared.cause.Cause.TheVariants as C
 use Rattle.journal_book.specs.Entries.{Written}
 use Rattle.history_laws.specs.Progress.{block_after, first_point, block_for, point_after}
@@ -14,7 +14,7 @@ use Rattle.history_laws.specs.Worked.{server, ask_for}
 use Rattle.history_laws.specs.WorkedMessages as M
 use Rattle.history_laws.specs.WorkedPieces as P
 use Rattle.history_laws.proofs.CallerLemmas.{eqb-same, fetched-holds, gap_heard-holds, get-other-spelled, get-spelled, piece-spelled}
-use Rattle.history_claims.specs.Headline.{IsFirstSending, IsHeardFor, AreHeardFor}
+use Rattle.history_claims.specs.Headline.{IsFirstSending, IsHeardFor, AreHeardFor, AsksFor}
 use Rattle.history_claims.specs.Worked.{Fetched, Astray, asked_early, AskedEarly, Gap}
 use Rattle.history_claims.proofs.Causes.{causes-in}
 use Rattle.history_claims.proofs.Examples.{is_first, places, lies_in, texts, heard-texts, sense-same}
@@ -82,10 +82,10 @@ astray h = go h.messages h.heard
     asks = requests-same M.get_light h.request (sense-same 0 h.shared.moment 0 0 (ask_for M.get_light) _ h.shared.asked.stands)
 
     -- what asks for the block after the first piece asks for block 1
-    next : (m n : Content) → m ≡ P.piece_message → n ≡ block_message h.request (block_for (point_after (first_point h.request) m)) n.mid n.token → third n.options ≡ 16
+    next : (m n : Content) → m ≡ P.piece_message → AsksFor h.request (block_for (point_after (first_point h.request) m)) n → third n.options ≡ 16
     next m n is e =
-        let it = subst (λ (q : CoapRequest). n ≡ block_message q (block_for (point_after (first_point q) m)) n.mid n.token) (sym asks) e in
-        let all = subst (λ (m : Content). n ≡ block_message M.get_light (block_after (with_piece no_pieces m)) n.mid n.token) is it in
+        let it = subst (λ (q : CoapRequest). n ≡ asking e.0 q (block_for (point_after (first_point q) m)) n.mid n.token) (sym asks) e.1 in
+        let all = subst (λ (m : Content). n ≡ asking e.0 M.get_light (block_after (with_piece no_pieces m)) n.mid n.token) is it in
         ap (λ (m : Content). third m.options) all
 
     second : (m n : Content) → m ≡ P.piece_message → IsHeardFor wrong 3 h.request (block_for (point_after (first_point h.request) m)) 5 n → ⊥

@@ -16,7 +16,7 @@ use Rattle.history_laws.specs.WorkedCopies as W
 use Rattle.history_laws.specs.WorkedEndings as E
 use Rattle.history_laws.specs.WorkedStore as K
 use Rattle.history_laws.specs.WorkedUploads as U
-use Rattle.history_laws.proofs.CallerLemmas.{all_answered-holds, contains-none, eqb-same, get-again-spelled, get-spelled, put-spelled, read_from_store-holds, uploaded-holds}
+use Rattle.history_laws.proofs.CallerLemmas.{all_answered-holds, contains-none, eqb-same, get-again-spelled, get-spelled, put-spelled, read_from_store-holds, uploaded-holds, some-is}
 use Rattle.history_claims.specs.Headline.{IsEntry, IsAsked, IsFirstSending, IsWrite}
 use Rattle.history_claims.specs.Causes.{AreCopies}
 use Rattle.history_claims.specs.Once.{WasAsked, told, WasTold, IsAtHand, CanWaitFor}
@@ -45,7 +45,7 @@ abbrev is_tick : Deed → Bool
 is_tick Passes = true
 is_tick d = false
 
-abbrev is_hearing : Deed → Bool
+abbrev pub is_hearing : Deed → Bool
 is_hearing (Hears p b) = true
 is_hearing d = false
 
@@ -103,6 +103,13 @@ module _ (h : List Written) (asks : IsEntry h 1 0 (Asks 0 (ask_for M.get_light))
         | inr pending ↦ let sooner = pending.before in omega (arith, place, sooner)
       ]
 
+  unheard : (j s : ℕ) (p : Peer) (b : List ℕ) → j ≡ 4 → IsEntry h j s (Hears p b) → ⊥
+  unheard j s p b place e =
+      answers-not 700 s p b (ap (λ (x : Written). x.deed) (some-is _ _ (sym answers ∙ subst (λ (i : ℕ). IsEntry h i s (Hears p b)) place e)))
+    where
+      answers-not : (t s : ℕ) (p : Peer) (b : List ℕ) → Answers 0 1 (Live (3 ∷ [])) ≡ Hears p b → ⊥
+      answers-not t s p b e = cc
+
   at-hand : IsAtHand h 5 60699 M.get_light (3 ∷ [])
   at-hand =
       record {
@@ -110,7 +117,8 @@ module _ (h : List Written) (asks : IsEntry h 1 0 (Asks 0 (ask_for M.get_light))
         answer = 4;
         told = told-once;
         fresh = lit< tt;
-        held = told (lit< tt) (record { others = []; few = lit< tt; all = few });
+        held = told (lit< tt) (record { others = []; few = lit< tt; all = few; told = λ o j r m up low n. absurd (omega (arith, up, low)) });
+        unnotified = λ o j r m up low n same. unheard j n.response.moment r.peer n.response.heard.bytes (omega (arith, up, low)) n.response.heard.stands;
         unwritten = unwritten;
       }
 

@@ -6,6 +6,7 @@ mod Settling
 mod Repeats
 mod Waiting
 mod Pieces
+mod Notified
 mod Ending
 mod Hands
 mod InTime
@@ -15,6 +16,7 @@ mod Alike
 mod Written
 mod Readers
 mod Resting
+mod Newest
 mod Served
 mod GivenUp
 mod Unshared
@@ -49,3 +51,4 @@ mod Current
 mod InOrder
 mod Replied
 mod InWorked
+mod Observed

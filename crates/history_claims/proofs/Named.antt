@@ -70,7 +70,7 @@ sent =
       after = lit< tt;
       moment = 800;
       first = record { bytes = W.get_under 2 2; timeout = 2000; stands = refl; spelled = get-again-spelled };
-      asks = refl;
+      asks = (false, refl);
       issued = issued;
     }
 

@@ -1,5 +1,5 @@
 -- For which ask each message was sent, and that those for a write are its message, or its body in blocks.
-use Rattle.std.proofs.Common.{◌≡◌, ◌≢◌, ◌⊎◌, ℕ, ◌+◌, ◌<◌, ◌≤◌, inl, inr, List, length, Option, Some, None, sym, ap, subst, ◌∙◌}
+use Rattle.std.proofs.Common.{◌≡◌, ◌≢◌, ◌⊎◌, ℕ, ◌+◌, ◌<◌, ◌≤◌, inl, inr, List, length, Option, Some, None, sym, ap, subst, ◌∙◌, false}
 use Rattle.coap_codec.specs.declared.block.Block.{Block}
 use Rattle.coap_codec.specs.Spelling.{Content}
 use Rattle.blockwise.specs.Reading.{offset_in}
@@ -15,6 +15,7 @@ use Rattle.history_claims.proofs.AtHand.{spared-in}
 use Rattle.history_claims.proofs.Pending.{sent-pending}
 use Rattle.history_claims.proofs.Replied.{replied}
 use Rattle.history_claims.proofs.Sending.{first-entry, first-of, sent-block, sent-in}
+use Rattle.history_laws.proofs.CallerLemmas.{asking-plain}
 
 -- the ask that a note names, and the block of its body that the message brings
 abbrev owner_by : Note → ℕ
@@ -91,9 +92,10 @@ sent-as-said law l legal i t p m f =
       sent_for = subst (λ (o : ℕ). IsSentFor (entries l) o b.request it.block i m) (sym own) it.sent_for;
       series = λ write.
           let so = law l t o i p m b legal it.opened write first.1 in
-          let asks = so.0 ∙ ap (λ (c : Option Block). block_message b.request c m.mid m.token) (sym (block-is l legal o b it.opened i own)) in (
+          let asks = so.0 ∙ (ap (λ (c : Option Block). block_message b.request c m.mid m.token) (sym (block-is l legal o b it.opened i own))
+          ∙ sym (asking-plain b.request (block_in l i) m.mid m.token)) in (
             subst (λ (o : ℕ). IsSentFor (entries l) o b.request (block_in l i) i m) (sym own)
-                (sent-block (entries l) o b.request it.block (block_in l i) i m asks it.sent_for),
+                (sent-block (entries l) o b.request it.block (block_in l i) i m (false, asks) it.sent_for),
             subst (Series l legal o b it.opened i) (sym own) (series-of l legal o b it.opened i own so.1),
           );
     }

@@ -5,7 +5,7 @@ use Rattle.coap_codec.specs.Spelling.{Content, Spells}
 use Rattle.coap_codec.proofs.Unique.{spells_one}
 use Rattle.coap_codec.specs.declared.block.Block.{Block}
 use Rattle.uri_map.specs.declared.peer.Peer.{Peer}
-use Rattle.ask_model.specs.Requests.{CoapRequest, block_message}
+use Rattle.ask_model.specs.Requests.{CoapRequest}
 use Rattle.journal_book.specs.Entries.{Mark, Ground, Past, Sent, Deed, Sends, Carries, Written}
 use Rattle.history_laws.specs.Readings.{Noted, Note, First, Copies, Confirms, Bygone, entries, at, before, noted}
 use Rattle.history_laws.specs.Transmissions.{FirstSending, firsts_by, firsts}
@@ -13,7 +13,7 @@ use Rattle.history_laws.specs.Exchanges.{Begun, begun}
 use Rattle.history_laws.specs.Justified.{MayBeFirst, IsApart, CopiedNote, Follows, Legal}
 use Rattle.history_laws.specs.Laws.{IsFirst}
 use Rattle.history_laws.proofs.CallerLemmas.{at-before, at-entries, at-old, contains-later, find-some, first-found, firsts-tokens, follows-at, is-some, IsListed, next-is, none-some, sent-for, some-is}
-use Rattle.history_claims.specs.Headline.{IsFirstSending, WasFirstSent, IsSentFor}
+use Rattle.history_claims.specs.Headline.{IsFirstSending, WasFirstSent, IsSentFor, AsksFor}
 use Rattle.history_claims.proofs.Entries.{entries-at, own-or-copied}
 
 -- a sending with a timeout is a first one, of the message that it spells
@@ -137,7 +137,7 @@ pub record SentIn (l : List Noted) (o i : ℕ) (p : Peer) (m : Content) : Type 0
 pub sent-in : (l : List Noted) (t o i : ℕ) (p : Peer) (m : Content) → Legal l → IsFirst l t o i p m → SentIn l o i p m
 sent-in l t o i p m legal f =
     let it = sent-for l t o i p m legal f in
-    let asks = next-is it.exchange.request _ m.mid m.token m it.next in
+    let asks = next-is _ it.exchange.request _ m.mid m.token m it.next in
     record {
       exchange = it.exchange;
       opened = it.opened;
@@ -147,7 +147,7 @@ sent-in l t o i p m legal f =
         after = it.after;
         moment = t;
         first = subst (λ (p : Peer). IsFirstSending (entries l) i t p m) it.peer (first-entry l t o i p m legal f);
-        asks = asks.1;
+        asks = (asks.1, asks.2);
         issued = λ j s r n g e.
             let other = first-sent l j s r n legal g in
             firsts-tokens l (sending_of j s other.0 r n) (sending_of i t o p m) legal other.1 (first-member l t o i p m f) e;
@@ -162,8 +162,8 @@ sent-as l t o i p m b legal e f =
     (it.peer, it.block, it.sent_for)
 
 -- What asks for a block was sent for that.
-pub sent-block : (h : List Written) (o : ℕ) (q : CoapRequest) (block other : Option Block) (i : ℕ) (m : Content)
-    → m ≡ block_message q other m.mid m.token → IsSentFor h o q block i m → IsSentFor h o q other i m
+abbrev pub sent-block : (h : List Written) (o : ℕ) (q : CoapRequest) (block other : Option Block) (i : ℕ) (m : Content)
+    → AsksFor q other m → IsSentFor h o q block i m → IsSentFor h o q other i m
 sent-block h o q block other i m asks s =
     record { after = s.after; moment = s.moment; first = s.first; asks = asks; issued = s.issued }
 

@@ -1,9 +1,9 @@
 -- A reply is part of the answers to one ask, or to GETs for the same.
-use Rattle.std.proofs.Common.{◌≡◌, ◌⊎◌, ℕ, inl, inr, List, Option, Some, sym, ap, subst, ◌∙◌}
+use Rattle.std.proofs.Common.{◌≡◌, ◌⊎◌, ℕ, inl, inr, List, Option, Some, sym, ap, subst, ◌∙◌, None}
 use Rattle.std.specs.List.{Contains}
 use Rattle.coap_codec.specs.Spelling.{Content}
 use Rattle.uri_map.specs.declared.peer.Peer.{Peer}
-use Rattle.ask_model.specs.Requests.{CoapRequest, Requests, request_message}
+use Rattle.ask_model.specs.Requests.{CoapRequest, Requests, asking}
 use Rattle.ask_model.specs.Views.{Ask}
 use Rattle.journal_book.specs.Entries.{Grounds, Live, Kept, Fault, Sends, Hears, Answers, Written}
 use Rattle.history_laws.specs.Readings.{Noted, First, Says, Notice, entries, at, before, noted}
@@ -111,8 +111,8 @@ module _ (l : List Noted) (k o n : ℕ) (a : Rests l k n) (b : Rests l o n) wher
   likes =
       record {
         peer = sym a.like.peer ∙ (ap (λ (q : CoapRequest). q.peer) requests ∙ b.like.peer);
-        message = λ mid token.
-            sym (a.like.message mid token) ∙ (ap (λ (q : CoapRequest). request_message q mid token) requests ∙ b.like.message mid token);
+        message = λ observes mid token.
+            sym (a.like.message observes mid token) ∙ (ap (λ (q : CoapRequest). asking observes q None mid token) requests ∙ b.like.message observes mid token);
       }
 
   same-gets : a.request.method ≡ 1 → AreSameGets (entries l) k o

@@ -19,7 +19,7 @@ use Rattle.history_laws.specs.WorkedMessages as M
 use Rattle.history_laws.specs.WorkedEndings as E
 use Rattle.history_laws.specs.WorkedStore as K
 use Rattle.history_laws.proofs.CallerLemmas.{eqb-same, none-some, read_from_store-holds, some-is}
-use Rattle.history_claims.specs.Headline.{IsAsked, IsWriteAnswer, AreHeardFor}
+use Rattle.history_claims.specs.Headline.{IsAsked, IsWriteAnswer, AreHeardFor, IsHeard, AreNotified}
 use Rattle.history_claims.specs.Worked.{Served, Expired, Overwritten, OtherQuery}
 use Rattle.history_claims.proofs.Examples.{places, heard-texts, moment-same, sense-same}
 use Rattle.history_claims.proofs.Served.{served-in}
@@ -52,17 +52,14 @@ non-spelled : Spells E.non_message E.non_bytes
 non-spelled = read_from_store-holds.0.0.0.0.2.3.spelled
 
 pub expired : Expired
-expired h = go h.messages h.heard h.whole
+expired h = elim h.heard [ inl w ↦ go h.messages w h.whole | inr w ↦ told-so h.messages w h.whole ]
   where
     since : 700 ≡ h.since
     since = moment-same 700 h.since _ _ h.first.2
 
-    go : (ms : List Content) → AreHeardFor (entries K.read_expired) h.opening h.other (first_point h.other) (3 ∷ []) ms → whole_of h.other ms ≡ Some h.response → ⊥
-    go [] heard whole = absurd heard
-    go (m ∷ n ∷ ms) heard whole = absurd heard.1
-    go (m ∷ []) heard whole =
-        let r = heard.0.response.heard in
-        let text : E.non_bytes ≡ r.bytes = heard-texts 700 heard.0.response.moment server h.other.peer E.non_bytes r.bytes r.stands in
+    by-age : (m : Content) (t : ℕ) → IsHeard (entries K.read_expired) h.other.peer 3 t m → whole_of h.other (m ∷ []) ≡ Some h.response → ⊥
+    by-age m t r whole =
+        let text : E.non_bytes ≡ r.bytes = heard-texts 700 t server h.other.peer E.non_bytes r.bytes r.stands in
         let is : m ≡ E.non_message = spells_one m E.non_message r.bytes r.spelled (subst (Spells E.non_message) text non-spelled) in
         let age : (response_of E.non_message).max_age ≡ h.response.max_age =
         subst (λ (m : Content). (response_of m).max_age ≡ h.response.max_age) is (whole-age h.other m h.response whole) in
@@ -71,6 +68,16 @@ expired h = go h.messages h.heard h.whole
         (subst (λ (t : ℕ). 60700 < t + lifetime h.response.max_age) (sym since) h.fresh) in
         let same : 60700 < 60700 = late in
         absurd (omega (arith, same))
+
+    go : (ms : List Content) → AreHeardFor (entries K.read_expired) h.opening h.other (first_point h.other) (3 ∷ []) ms → whole_of h.other ms ≡ Some h.response → ⊥
+    go [] heard whole = absurd heard
+    go (m ∷ n ∷ ms) heard whole = absurd heard.1
+    go (m ∷ []) heard whole = by-age m heard.0.response.moment heard.0.response.heard whole
+
+    told-so : (ms : List Content) → AreNotified (entries K.read_expired) h.opening h.other (3 ∷ []) ms → whole_of h.other ms ≡ Some h.response → ⊥
+    told-so [] heard whole = absurd heard
+    told-so (m ∷ n ∷ ms) heard whole = absurd heard
+    told-so (m ∷ []) heard whole = by-age m heard.response.moment heard.response.heard whole
 
 -- the PUT of entry 4, answered in entry 17
 busy-not : (js : List ℕ) (k : ℕ) → Live js ≡ Fault C.Busy k → ⊥
@@ -95,7 +102,7 @@ written =
     }
 
 pub overwritten : Overwritten
-overwritten h = go h.messages h.heard
+overwritten h = elim h.heard [ inl w ↦ go h.messages w | inr w ↦ told-so h.messages w ]
   where
     asks : h.request ≡ M.get_light
     asks = sym (requests-same M.get_light h.request (sense-same 5400 5400 0 0 (ask_for M.get_light) _ h.asked.stands))
@@ -111,6 +118,15 @@ overwritten h = go h.messages h.heard
         let came = heard.0.response.after in
         absurd (omega (arith, opened, sent, came))
 
+    told-so : (ms : List Content) → AreNotified (entries K.read_outdated) h.opening h.other (9 ∷ []) ms → ⊥
+    told-so [] heard = absurd heard
+    told-so (m ∷ n ∷ ms) heard = absurd heard
+    told-so (m ∷ []) heard =
+        let opened = later in
+        let sent = heard.observed.heard.sent_for.after in
+        let came = heard.response.after in
+        absurd (omega (arith, opened, sent, came))
+
 -- the one ask before it
 abbrev is_ask : Deed → Bool
 is_ask (Asks c a) = true
@@ -121,7 +137,7 @@ other-query h =
     let asks : h.request ≡ K.get_bright = sym (requests-same K.get_bright h.request (sense-same 800 800 0 0 (ask_for K.get_bright) _ h.asked.stands)) in
     let three : length (request_message h.request 0 []).options ≡ 3 = subst (λ (q : CoapRequest). length (request_message q 0 []).options ≡ 3) (sym asks) refl in
     let two : length (request_message h.other 0 []).options ≡ 2 = subst (λ (q : CoapRequest). length (request_message q 0 []).options ≡ 2) asked refl in
-    let same : length (request_message h.request 0 []).options ≡ length (request_message h.other 0 []).options = ap (λ (m : Content). length m.options) (h.same.2 0 []) in
+    let same : length (request_message h.request 0 []).options ≡ length (request_message h.other 0 []).options = ap (λ (m : Content). length m.options) (h.same.2 false 0 []) in
     absurd (omega (arith, three, two, same))
   where
     place : h.opening ≡ 1

@@ -96,7 +96,7 @@ abbrev segment : CoapRequest → ℕ
 segment q = second (request_message q 0 []).options
 
 same-segment : (q r : CoapRequest) → IsSameGet q r → segment q ≡ segment r
-same-segment q r same = ap (λ (m : Content). second m.options) (same.2 0 [])
+same-segment q r same = ap (λ (m : Content). second m.options) (same.2 false 0 [])
 
 abbrev pub is_ask : Deed → Bool
 is_ask (Asks c a) = true

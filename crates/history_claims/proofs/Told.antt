@@ -1,17 +1,17 @@
 -- What was told for a GET is stored for it, as long as none comes after it and no write ends.
-use Rattle.std.proofs.Common.{◌≡◌, ◌⊎◌, ℕ, zero, ◌+◌, ◌<◌, ◌≤◌, true, false, not, eqb, leb, inl, inr, List, [], ◌∷◌, length, Option, Some, None, refl, sym, ap, subst, ◌∙◌, arith}
+use Rattle.std.proofs.Common.{◌≡◌, ◌⊎◌, ℕ, zero, ◌+◌, ◌<◌, ◌≤◌, true, false, not, eqb, leb, inl, inr, List, [], ◌∷◌, length, Option, Some, None, refl, sym, ap, subst, ◌∙◌, arith, suc}
 use Rattle.std.specs.Prelude.{◌==◌, is_none, is_some}
 use Rattle.std.specs.List.{Contains}
 use Rattle.std.proofs.lemmas.Bool.Decides.{Decides-ltb, eqb_tells, leb_tells}
-use Rattle.std.proofs.lemmas.Bool.{false≢true, and_parts}
+use Rattle.std.proofs.lemmas.Bool.{false≢true, and_parts, and_from}
 use Rattle.coap_codec.specs.Spelling.{Content, Spells}
 use Rattle.coap_codec.proofs.Unique.{spells_one}
 use Rattle.uri_map.specs.declared.peer.Peer.{Peer}
 use Rattle.cache_key.specs.declared.place.Place.{Place}
 use Rattle.cache_key.specs.Keys.{same_place}
-use Rattle.cache_key.proofs.CallerLemmas.{places_decided}
+use Rattle.cache_key.proofs.CallerLemmas.{places_decided, keys_decided}
 use Rattle.ask_model.specs.Requests.{CoapRequest, Requests}
-use Rattle.ask_model.specs.Sharing.{asked_key, asked_place, asks_same}
+use Rattle.ask_model.specs.Sharing.{asked_key, asked_place, asks_same, is_get}
 use Rattle.ask_model.specs.Views.{Ask}
 use Rattle.ask_model.proofs.CallerLemmas.{same-key, same-place}
 use Rattle.resp_cache.specs.Stored.{Stored, lifetime, is_fresh}
@@ -22,15 +22,15 @@ use Rattle.history_laws.specs.Connections.{is_open}
 use Rattle.history_laws.specs.Progress.{Reply, numbers, messages, Whole}
 use Rattle.history_laws.specs.Exchanges.{Begun, begun, End, end_of, replies}
 use Rattle.history_laws.specs.Joining.{outrun, asks_the_same, is_joinable}
-use Rattle.history_laws.specs.Storing.{EndsSo, IsStored, IsUse}
+use Rattle.history_laws.specs.Storing.{EndsSo, IsStored, IsUse, ComesSo, UpdatesSo}
 use Rattle.history_laws.specs.Justified.{reads_in, reads, pending, HasGrounds, Follows, Legal, MayCome}
-use Rattle.history_laws.proofs.CallerLemmas.{asked-for, at-before, at-below, at-newest, at-same, at-still, before-twice, begun-before, begun-below, begun-early, contains-later, end-before, end-since, ends-all, EndsAll, ends-first, follows-at, legal-before, length-before, not-true, one-joinable, open-below, open-exactly, outran, Outran, outrun-since, reader, Reader, replies-fit, shared-is, Shared, some-is, write-earlier}
+use Rattle.history_laws.proofs.CallerLemmas.{asked-for, at-before, at-below, at-newest, at-same, at-still, before-twice, begun-before, begun-below, begun-early, contains-later, end-before, end-since, ends-all, EndsAll, ends-first, follows-at, legal-before, length-before, not-true, one-joinable, open-below, open-exactly, outran, Outran, outrun-since, reader, Reader, replies-fit, shared-is, Shared, some-is, write-earlier, counts-since, CountsFor, never-both, one-update, outdated-by, outdated-keeps, update-counts}
 use Rattle.history_claims.specs.Headline.{IsEntry, IsHeardFirst}
-use Rattle.history_claims.specs.Once.{AreHeard, IsUnwritten, WasTold}
+use Rattle.history_claims.specs.Once.{AreHeard, IsUnwritten, WasTold, IsUnnotified}
 use Rattle.history_claims.proofs.Alike.{asks-like, same-get}
 use Rattle.history_claims.proofs.Alone.{requests-same}
 use Rattle.history_claims.proofs.Asking.{AnswersAsk, answers-ask}
-use Rattle.history_claims.proofs.Entries.{entries-at, newest-before}
+use Rattle.history_claims.proofs.Entries.{entries-at, newest-before, grows}
 use Rattle.history_claims.proofs.Hands.{ends-after, in-hand, no-input, not-at-ask}
 use Rattle.history_claims.proofs.Pending.{senses}
 use Rattle.history_claims.proofs.Pieces.{whole-like}
@@ -38,6 +38,8 @@ use Rattle.history_claims.proofs.Quiet.{asks-a-get, asks-back, asks-through, at-
 use Rattle.history_claims.proofs.Readers.{Reads, reads-at}
 use Rattle.history_claims.proofs.Unshared.{asked-request}
 use Rattle.history_claims.proofs.Written.{unsealed}
+use Rattle.history_claims.proofs.Notified.{notified-news}
+use Rattle.history_laws.specs.Observing.{outdated}
 
 -- Of two exchanges that may answer a GET, both of which have ended, the one wasn't open at the end of the other.
 pub joinable-so : (l : List Noted) (q : CoapRequest) (x : ℕ) (b : Begun) → begun l x ≡ Some b → asks_same q b.request ≡ true → outrun l (asked_place q) x ≡ false
@@ -72,20 +74,31 @@ open-together l q x y first second legal a b ended later le below =
         absurd (omega (arith, early, same, le))
 
 -- So one response is stored for a GET.
+same-whole : (l : List Noted) (q : CoapRequest) (x y e f : ℕ) (w v : Response) (rs ts : List Reply) → Legal l → is_joinable l q x ≡ true → is_joinable l q y ≡ true
+    → e ≡ f → ComesSo l x e w rs → ComesSo l y f v ts → rs ≡ ts
+same-whole l q x y e f w v rs ts legal may other is (inl a) (inl b) =
+    let start = ends-after l y f _ legal b.ended in
+    let same = open-together l q x y _ _ legal (shared-is l q x may) (shared-is l q y other) a.ended b.ended (omega (arith, is)) (omega (arith, start, is)) in
+    let both : end_of l x ≡ Some (record { number = f; how = Whole v ts }) =
+    subst (λ (o : ℕ). end_of l o ≡ Some (record { number = f; how = Whole v ts })) (sym same) b.ended in
+    wholes (ap (λ (e : End). e.how) (some-is _ _ (sym a.ended ∙ both)))
+  where
+    wholes : Whole w rs ≡ Whole v ts → rs ≡ ts
+    wholes e = cc
+same-whole l q x y e f w v rs ts legal may other is (inl a) (inr b) =
+    absurd (never-both l x y f w v rs ts legal (subst (λ (e : ℕ). EndsSo l x e w rs) is a) b)
+same-whole l q x y e f w v rs ts legal may other is (inr a) (inl b) =
+    absurd (never-both l y x f v w ts rs legal b (subst (λ (e : ℕ). UpdatesSo l x e w rs) is a))
+same-whole l q x y e f w v rs ts legal may other is (inr a) (inr b) =
+    (one-update l x y f w v rs ts (subst (λ (e : ℕ). UpdatesSo l x e w rs) is a) b).2
+
 pub stored-once : (l : List Noted) (q : CoapRequest) (s u : Stored) → Legal l → IsStored l q s → IsStored l q u → s.list ≡ u.list
 stored-once l q s u legal a b =
-    let no-later = b.latest a.opening a.ending s.response (a.first ∷ a.more) a.ends a.shared in
-    let no-sooner = a.latest b.opening b.ending u.response (b.first ∷ b.more) b.ends b.shared in
-    let after = ends-after l b.opening b.ending _ legal b.ends.ended in
-    let same = open-together l q a.opening b.opening _ _ legal (shared-is l q a.opening a.shared) (shared-is l q b.opening b.shared) a.ends.ended b.ends.ended no-later
-    (omega (arith, after, no-sooner)) in
-    let both : end_of l a.opening ≡ Some (record { number = b.ending; how = Whole u.response (b.first ∷ b.more) }) =
-    subst (λ (o : ℕ). end_of l o ≡ Some (record { number = b.ending; how = Whole u.response (b.first ∷ b.more) })) (sym same) b.ends.ended in
-    let how = ap (λ (e : End). e.how) (some-is _ _ (sym a.ends.ended ∙ both)) in
-    a.list ∙ (ap numbers (wholes s.response u.response (a.first ∷ a.more) (b.first ∷ b.more) how) ∙ sym b.list)
-  where
-    wholes : (v w : Response) (rs ts : List Reply) → Whole v rs ≡ Whole w ts → rs ≡ ts
-    wholes v w rs ts e = cc
+    let no-later = b.latest a.opening a.ending s.response a.first a.more a.comes a.shared a.newest in
+    let no-sooner = a.latest b.opening b.ending u.response b.first b.more b.comes b.shared b.newest in
+    let same = same-whole l q a.opening b.opening a.ending b.ending s.response u.response (a.first ∷ a.more) (b.first ∷ b.more) legal a.shared b.shared
+    (omega (arith, no-later, no-sooner)) a.comes b.comes in
+    a.list ∙ (ap numbers same ∙ sym b.list)
 
 pub moments-rise : (l : List Noted) (i k : ℕ) (x y : Noted) → Legal l → at l i ≡ Some x → at l k ≡ Some y → i < k → x.written.moment ≤ y.written.moment
 moments-rise l i k x y legal there here lt =
@@ -276,8 +289,8 @@ module _ (l : List Noted) (legal : Legal l) (q : CoapRequest) (o n : ℕ) (js : 
           let going = in-hand (before l n) was.conn o x may.1 below open-then.0 open-then.1 grounds.4 in
           false≢true (sym (ap is_none grounds.5) ∙ going)
 
-  -- the ask k of a later moment, before which no write to the resource was asked for, or pending
-  module _ (k : ℕ) (z : Noted) (here : at l k ≡ Some z) (later_told : n < k) (none : IsUnwritten (entries l) o k q)
+  -- the ask k of a later moment, before which no write to the resource was asked for, or pending, and none told of it
+  module _ (k : ℕ) (z : Noted) (here : at l k ≡ Some z) (later_told : n < k) (none : IsUnwritten (entries l) o k q) (untold : IsUnnotified (entries l) js k q)
       (young : z.written.moment < was.since + lifetime was.response.max_age) where
     no-write : (h : Outran (before l k) (asked_place q) x) → h.opening ≡ o → ⊥
     no-write h is =
@@ -350,6 +363,48 @@ module _ (l : List Noted) (legal : Legal l) (q : CoapRequest) (o n : ℕ) (js : 
             code = ap (λ (r : Response). r.code) response-is ∙ was.content;
           }
 
+      early : Legal (before l m)
+      early = legal-before l m legal
+
+      there : (v : Noted) × (at l m ≡ Some v)
+      there = at-there l m below
+
+      -- No notification counts since.
+      none-counts : (f : ℕ) → start.first.number < f → CountsFor (before l m) (asked_key q) f → ⊥
+      none-counts f lt c =
+          let it = counts-since l m there.0 (asked_key q) f there.1 c in
+          let told = notified-news l f it.watch legal it.news in
+          let key : asked_key q ≡ asked_key told.exchange.request =
+          sym ((keys_decided it.watch.held.key (asked_key q)).0 it.keyed) ∙ told.key in
+          let get = asks-a-get q exchange.request same in
+          let alike : asks_same q told.exchange.request ≡ true =
+          and_from (is_get q) _ get (and_from (is_get told.exchange.request) _ told.get ((keys_decided (asked_key q) (asked_key told.exchange.request)).1 key)) in
+          let untold_since : IsUnnotified (entries l) (numbers (start.first ∷ start.more)) k q =
+          subst (λ (ns : List ℕ). IsUnnotified (entries l) ns k q) (grounds.6 ∙ ap numbers start.all) untold in
+          let size = at-below (before l m) f _ c.news.stands in
+          let len = length-before l m there.0 there.1 in
+          untold_since it.watch.held.opening f told.exchange.request it.news.message lt (omega (arith, size, len, high)) told.is alike
+
+      newest-then : outdated (before l m) (asked_key q) start.first.number ≡ false
+      newest-then =
+          not-true (outdated (before l m) (asked_key q) start.first.number)
+          (λ t. let it = outdated-by (before l m) (asked_key q) start.first.number early t in none-counts it.0 it.1 it.2)
+
+      -- The first reply came before the end.
+      first-sooner : start.first.number ≤ e
+      first-sooner =
+          let lt = sooner in
+          let deep = told-in in
+          let up = at-below l n (noted was.told_at (Answers was.conn o (Live js)) deep.0) deep.1 in
+          let next = end-before l (suc e) x last (omega (arith, lt, up)) ended (omega arith) in
+          let made = ends-all (before l (suc e)) x e w rs next in
+          let has : Contains rs start.first = subst (λ (rs : List Reply). Contains rs start.first) (sym start.all) (zero, omega arith, refl) in
+          let fits = replies-fit (before l (suc e)) x start.first (legal-before l (suc e) legal) (made.listed start.first has) in
+          let size = at-below (before l (suc e)) start.first.number _ fits.heard in
+          let y = at-there l (suc e) (omega (arith, lt, up)) in
+          let len = length-before l (suc e) y.0 y.1 in
+          omega (arith, size, len)
+
       shared-then : Shared (before l m) q x
       shared-then = record { exchange = exchange; opened = opened-then; same = same; fresh = unoutran-then }
 
@@ -362,8 +417,9 @@ module _ (l : List Noted) (legal : Legal l) (q : CoapRequest) (o n : ℕ) (js : 
             ending = e;
             first = start.first;
             more = start.more;
-            ends = subst (EndsSo (before l m) x e w) start.all ended-then;
+            comes = inl (subst (EndsSo (before l m) x e w) start.all ended-then);
             shared = joinable-so (before l m) q x exchange opened-then same unoutran-then;
+            newest = newest-then;
             latest = latest;
             entry = heard.0;
             heard_in = heard.1;
@@ -381,8 +437,17 @@ module _ (l : List Noted) (legal : Legal l) (q : CoapRequest) (o n : ℕ) (js : 
               let y = at-there l m below in
               (noted was.since (Hears start.peer start.bytes) it.0, at-still l m start.first.number y.0 _ y.1 (omega (arith, lt, low)) it.1, refl)
 
-          latest : (y f : ℕ) (v : Response) (ts : List Reply) → EndsSo (before l m) y f v ts → is_joinable (before l m) q y ≡ true → f ≤ e
-          latest y f v ts ends may =
+          latest : (y f : ℕ) (v : Response) (t : Reply) (ts : List Reply) → ComesSo (before l m) y f v (t ∷ ts) → is_joinable (before l m) q y ≡ true
+              → outdated (before l m) (asked_key q) t.number ≡ false → f ≤ e
+          latest y f v t ts (inr u) may new =
+              elim (leb_tells f e) [
+                | inl le ↦ le.1
+                | inr lt ↦
+                    let up = lt.1 in
+                    let le = first-sooner in
+                    absurd (none-counts f (omega (arith, up, le)) (update-counts (before l m) q y f v (t ∷ ts) early may u))
+              ]
+          latest y f v t ts (inl ends) may new =
               elim (leb_tells f e) [ inl u ↦ u.1 | inr u ↦ absurd (overtakes u.1 (leb_tells y e)) ]
             where
               shared : Shared (before l m) q y
@@ -432,13 +497,17 @@ module _ (l : List Noted) (legal : Legal l) (q : CoapRequest) (o n : ℕ) (js : 
           inr (record {
             opening = x;
             response = w;
-            replies = rs;
-            ends = ended-then;
+            first = start.first;
+            more = start.more;
+            comes = inl (subst (EndsSo (before l m) x e w) start.all ended-then);
             since = exchange.since;
             request = exchange.request;
             opened = opened-then;
             get = asks-a-get exchange.request q (asks-back q exchange.request same);
             is = sym (same-key q exchange.request same);
+            newest = not-true (outdated (before (before l m) e) (asked_key q) start.first.number)
+                (λ t. false≢true (sym newest-then ∙ grows (λ (h : List Noted). outdated h (asked_key q) start.first.number ≡ true)
+                (λ y h f. outdated-keeps y h (asked_key q) start.first.number f) (before l m) e t));
             current = still-fresh (before l m) e x (asked_place q) unoutran-then;
             lasts = lasts;
           })

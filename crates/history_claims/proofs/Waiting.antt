@@ -10,22 +10,23 @@ use Rattle.coap_codec.specs.declared.message.MsgType.TheVariants.{Con, Non, Ack,
 use Rattle.coap_codec.specs.declared.block.Block.{Block}
 use Rattle.coap_codec.specs.Spelling.{Content}
 use Rattle.uri_map.specs.declared.peer.Peer.{Peer}
-use Rattle.ask_model.specs.Requests.{CoapRequest, block_message}
-use Rattle.journal_book.specs.Entries.{Deed, Mark, Hears, Sends, Carries}
+use Rattle.ask_model.specs.Requests.{CoapRequest, asking}
+use Rattle.journal_book.specs.Entries.{Deed, Hears, Sends, Carries, Written}
 use Rattle.journal_book.specs.Entries as D
 use Rattle.history_laws.specs.Readings.{Noted, Note, First, Says, Bygone, Notice, entries, at, before, noted}
 use Rattle.history_laws.specs.Progress.{Reply, Reset, TimedOut}
 use Rattle.history_laws.specs.Transmissions.{FirstSending, firsts_by, firsts, sent_last}
 use Rattle.history_laws.specs.Exchanges.{Begun, begun, openings, Turn, Nothing, Sent, Replied, Rejected, Expired, answered_by, heard_turn, turn, waits_by, waits_for, replies_by, replies, end_here, end_of, awaited}
-use Rattle.history_laws.specs.Hearing.{is_under, is_as, open_at, answers_by, answers}
+use Rattle.history_laws.specs.Hearing.{is_under, is_as, open_at, answers_by, answers, expected}
 use Rattle.history_laws.specs.Justified.{MaySay, Follows, Legal}
 use Rattle.history_laws.specs.Laws.{IsFirst, IsReplyKind, IsReplyTo, IsFetched}
 use Rattle.history_laws.proofs.CallerLemmas.{at-before, at-below, at-keeps, at-new, at-old, at-same, at-still, before-keeps, before-new, before-twice, begun-listed, contains-none, eqb-itself, find-any, find-some, first-or-later, going-before, IsFirst-below, IsFirst-old, legal-before, length-before, none-is, none-some, sent-for, some-is, turn-replied, turn-sent}
-use Rattle.history_claims.specs.Headline.{BringsResponse, IsResponse, IsNew, IsUnanswered}
+use Rattle.history_claims.specs.Headline.{BringsResponse, IsResponse, IsNew, IsUnanswered, IsHeardFor}
 use Rattle.history_claims.specs.Causes.{IsReplyFor}
 use Rattle.history_claims.proofs.Sending.{first-before, sent-as, sent-block}
 use Rattle.history_claims.proofs.Repeats.{heard-at, heard-entry, says-new, repeats-again}
 use Rattle.history_claims.proofs.Settling.{under-true, as-true, under-is}
+use Rattle.history_laws.specs.Observing.{watched}
 
 -- what an exchange waits for is awaited
 or-left : (b : Bool) → (true || b) ≡ true
@@ -75,8 +76,10 @@ module _ (l : List Noted) (t o i : ℕ) (p : Peer) (sent : Content) (legal : Leg
       let opened : is_some (begun l o) ≡ true = ap is_some (sent-for l t o i p sent legal f).opened in
       any-mapped (waits_for l) q (openings l) o i (begun-listed l o opened) waits is
 
-  by-token : find (is_under l p m) (awaited l) ≡ Some i
-  by-token = found-one (is_under l p m) (awaited l) i (any-awaited (is_under l p m) under) (λ j h. under-is l t o i j p sent m legal f token h)
+  by-token : find (is_under l p m) (expected l) ≡ Some i
+  by-token =
+      found-one (is_under l p m) (expected l) i (any-more (is_under l p m) (awaited l) (watched l) (any-awaited (is_under l p m) under))
+      (λ j h. under-is l t o i j p sent m legal f token h)
 
   abbrev Both : ℕ → Bool
   Both j = is_under l p m j && is_as l p m j
@@ -298,17 +301,18 @@ pub reply-waited : (l : List Noted) (o : ℕ) (r : Reply) → Contains (replies 
 reply-waited l o r h = (waited-all l o r h).0
 
 -- So a reply to an exchange is the reply that was heard for its request.
-brings : (k : MsgType) (mid sent : ℕ) → IsReplyKind k mid sent → BringsResponse k mid sent
+pub brings : (k : MsgType) (mid sent : ℕ) → IsReplyKind k mid sent → BringsResponse k mid sent
 brings Con mid sent h = tt
 brings Non mid sent h = tt
 brings Ack mid sent h = h
 brings Rst mid sent h = absurd h
 
 -- What a message asks, it asks with its own ID and token.
-asks-own : (q : CoapRequest) (block : Option Block) (mid : ℕ) (token : List ℕ) (m : Content) → block_message q block mid token ≡ m
-    → m ≡ block_message q block m.mid m.token
-asks-own q None mid token m e = subst (λ (m : Content). m ≡ block_message q None m.mid m.token) e refl
-asks-own q (Some b) mid token m e = subst (λ (m : Content). m ≡ block_message q (Some b) m.mid m.token) e refl
+asks-own : (f : Bool) (q : CoapRequest) (block : Option Block) (mid : ℕ) (token : List ℕ) (m : Content) → asking f q block mid token ≡ m
+    → m ≡ asking f q block m.mid m.token
+asks-own true q None mid token m e = subst (λ (m : Content). m ≡ asking true q None m.mid m.token) e refl
+asks-own false q None mid token m e = subst (λ (m : Content). m ≡ asking false q None m.mid m.token) e refl
+asks-own f q (Some b) mid token m e = subst (λ (m : Content). m ≡ asking f q (Some b) m.mid m.token) e refl
 
 messages-same : (s t : ℕ) (p r : Peer) (b c : List ℕ) (v w : Option ℕ) (o i : ℕ) (m n : Content)
     → noted s (Sends p b v) (First o m) ≡ noted t (Sends r c w) (First i n) → m ≡ n
@@ -317,13 +321,18 @@ messages-same s t p r b c v w o i m n e = go (ap (λ (x : Noted). x.note) e)
     go : First o m ≡ First i n → m ≡ n
     go f = cc
 
-pub heard-in : (l : List Noted) (n o : ℕ) (r : Reply) (b : Begun) (x : Noted) (block : Option Block) → Legal l → begun l o ≡ Some b → at l n ≡ Some x
-    → Contains (replies (before l n) o) r → IsFetched (before l n) o b.request block r → IsReplyFor (entries l) o b.request block r
-heard-in l n o r b x block legal opened here has fetched =
+abbrev pub IsReplySo : (h : List Written) (k : ℕ) (q : CoapRequest) (block : Option Block) (r : Reply) (observes : Bool) → Type 0
+IsReplySo h k q block r observes =
+    (it : IsHeardFor h k q block r.number r.message) × (it.sending ≡ r.sending) × (it.sent_for.asks.0 ≡ observes)
+
+pub heard-so : (l : List Noted) (n o : ℕ) (r : Reply) (b : Begun) (x : Noted) (block : Option Block) → Legal l → begun l o ≡ Some b → at l n ≡ Some x
+    → Contains (replies (before l n) o) r → (fetched : IsFetched (before l n) o b.request block r)
+    → IsReplySo (entries l) o b.request block r fetched.observes
+heard-so l n o r b x block legal opened here has fetched =
     let h : IsReplyTo (before l n) o r = fetched.fits in
     let first = first-before l n _ o _ _ _ h.first in
     let it = sent-as l h.sent_at o r.sending h.peer h.sent b legal opened first in
-    let message : block_message b.request block fetched.mid fetched.token ≡ h.sent =
+    let message : asking fetched.observes b.request block fetched.mid fetched.token ≡ h.sent =
     messages-same fetched.moment h.sent_at b.request.peer h.peer fetched.first.bytes h.first.bytes fetched.first.timeout h.first.timeout o o _ h.sent
     (at-same (before l n) r.sending _ _ fetched.first.stands h.first.stands) in
     let stands = at-before l n r.number _ h.heard in
@@ -346,10 +355,17 @@ heard-in l n o r b x block legal opened here has fetched =
         sending = r.sending;
         sent = h.sent;
         sent_for = sent-block (entries l) o b.request it.1 block r.sending h.sent
-            (asks-own b.request block fetched.mid fetched.token h.sent message) it.2;
+            (fetched.observes, asks-own fetched.observes b.request block fetched.mid fetched.token h.sent message) it.2;
         response = subst (λ (p : Peer). IsResponse (entries l) p r.sending h.sent r.number r.message) it.0 response;
         new = subst (λ (p : Peer). IsNew (entries l) p r.number) it.0 (says-new l h.peer r.number _ legal stands tt);
         first = subst (λ (p : Peer). IsUnanswered (entries l) p r.sending h.sent r.number) it.0 unanswered;
       },
       refl,
+      refl,
     )
+
+pub heard-in : (l : List Noted) (n o : ℕ) (r : Reply) (b : Begun) (x : Noted) (block : Option Block) → Legal l → begun l o ≡ Some b → at l n ≡ Some x
+    → Contains (replies (before l n) o) r → IsFetched (before l n) o b.request block r → IsReplyFor (entries l) o b.request block r
+heard-in l n o r b x block legal opened here has fetched =
+    let it = heard-so l n o r b x block legal opened here has fetched in
+    (it.0, it.1)

@@ -1,7 +1,7 @@
 -- What an answer rests on: said of a journal's entries alone, which lie oldest first and go by their
 -- number from 0. A journal may begin with copies of an older one's entries: no answer rests on them,
 -- but tokens, message IDs and repeats are told by them too.
-use Rattle.std.specs.Prelude.{◌≡◌, ◌≢◌, ◌⊎◌, ℕ, ◌+◌, ◌<◌, ◌≤◌, List, [], ◌∷◌, slice_get, Option, Some, ⊤}
+use Rattle.std.specs.Prelude.{◌≡◌, ◌≢◌, ◌⊎◌, ℕ, ◌+◌, ◌<◌, ◌≤◌, List, [], ◌∷◌, slice_get, Option, Some, ⊤, Bool, None, true, false}
 use Rattle.std.specs.List.{Contains}
 use Rattle.limits.specs.declared.TheConstants.{EXCHANGE_LIFETIME, MAX_TRANSMIT_WAIT}
 use Rattle.coap_codec.specs.declared.message.MsgType.{MsgType}
@@ -10,13 +10,18 @@ use Rattle.coap_codec.specs.declared.block.Block.{Block}
 use Rattle.coap_codec.specs.Spelling.{Content, Spells}
 use Rattle.uri_map.specs.declared.peer.Peer.{Peer}
 use Rattle.ask_model.specs.declared.cause.Cause.TheVariants as C
-use Rattle.ask_model.specs.Requests.{CoapRequest, Came, Sense, Requests, request_message, block_message}
+use Rattle.ask_model.specs.Requests.{CoapRequest, Came, Sense, Requests, asking}
+use Rattle.ask_model.specs.Observing.{may_observe}
 use Rattle.ask_model.specs.Views.{Rules}
 use Rattle.journal_book.specs.Entries.{Grounds, Live, Kept, Fault, Done, Sent, Heard, done_of, Deed, Asks, Sends, Hears, Passes, Answers, Written}
 use Rattle.resp_cache.specs.Stored.{lifetime}
 use Rattle.history_laws.specs.Responses.{Response, whole_of}
 use Rattle.history_laws.specs.Progress.{Point, first_point, block_for, point_after}
 use Rattle.history_laws.specs.Justified.{Stands}
+use Rattle.ask_model.specs.Sharing.{asks_same}
+use Rattle.history_laws.specs.Confirmations.{empty}
+use Rattle.history_laws.specs.Observing.{number_or_zero, version}
+use Rattle.observe_share.specs.Newer.{newer}
 
 -- The entry with this number was made at this moment, and says this.
 abbrev pub IsEntry : List Written → ℕ → ℕ → Deed → Type 0
@@ -51,9 +56,10 @@ pub record WasFirstSent (h : List Written) (i t : ℕ) (p : Peer) (m : Content) 
 
 -- The message asks just what the request means: its method, options and body (RFC 7252 section 5);
 -- or, where a block is named, for this block of its representation, or with this one of its body
--- (RFC 7959 sections 2.4 and 2.3).
+-- (RFC 7959 sections 2.4 and 2.3). Where none is named, it may ask to be told of changes too (RFC 7641
+-- section 3.1).
 abbrev pub AsksFor : CoapRequest → Option Block → Content → Type 0
-AsksFor q block m = m ≡ block_message q block m.mid m.token
+AsksFor q block m = (observes : Bool) × (m ≡ asking observes q block m.mid m.token)
 
 -- After the entry k, as the ask or a reply, the entry i first sent this message for the request q,
 -- or for the block of it, to the endpoint of q, under a token that was issued for it: no other
@@ -166,7 +172,8 @@ pub record IsPending (h : List Written) (k o : ℕ) (q : CoapRequest) : Type 0 w
 abbrev pub IsSameGet : CoapRequest → CoapRequest → Type 0
 IsSameGet q r =
     (q.method ≡ 1) × (q.peer ≡ r.peer)
-    × ((mid : ℕ) (token : List ℕ) → request_message q mid token ≡ request_message r mid token)
+    × ((observes : Bool) (mid : ℕ) (token : List ℕ)
+    → asking observes q None mid token ≡ asking observes r None mid token)
 
 -- The ask w is for the resource of q, and is no GET.
 pub record IsWrite (h : List Written) (q : CoapRequest) (w : ℕ) : Type 0 where
@@ -240,10 +247,82 @@ RestsOnReplies =
     (h : List Written) (n t c k : ℕ) (js : List ℕ) → Stands h
     → IsEntry h n t (Answers c k (Live js)) → RestsOn h n c k js
 
+-- The resource of q is observed for the ask o (RFC 7641 section 3.1): it may be by the rules of that,
+-- its first message asked to be told of changes, and the entry n heard the reply.
+pub record IsObserved (h : List Written) (o : ℕ) (q : CoapRequest) (n : ℕ) : Type 0 where
+  pub conn : ℕ
+  pub moment : ℕ
+  pub asked : IsAsked h o conn moment (Requests q)
+  pub may : may_observe asked.rules q ≡ true
+  pub reply : Content
+  pub heard : IsHeardFor h o q None n reply
+  pub observes : heard.sent_for.asks.0 ≡ true
+
+-- The entry j heard a notification of it (RFC 7641 section 4.2): after that reply, one more response
+-- to that message, in a CON or NON that is no repeat.
+pub record IsNotified (h : List Written) (o : ℕ) (q : CoapRequest) (j : ℕ) (m : Content) : Type 0 where
+  pub registered : ℕ
+  pub observed : IsObserved h o q registered
+  pub later : registered < j
+  pub response : IsResponse h q.peer observed.heard.sending observed.heard.sent j m
+  pub kind : MayRepeat m.kind
+  pub new : IsNew h q.peer j
+
+-- This one entry did, and this is what it heard.
+abbrev pub AreNotified : List Written → ℕ → CoapRequest → List ℕ → List Content → Type 0
+AreNotified h o q (j ∷ []) (m ∷ []) = IsNotified h o q j m
+AreNotified h o q js ms = ⊥
+
+-- The proxy didn't reject what the entry j heard (RFC 7252 section 4.2): that would be the entry after it.
+abbrev pub IsUnrejected : List Written → Peer → ℕ → Content → Type 0
+IsUnrejected h p j m =
+    (t : ℕ) (bytes : List ℕ) → IsEntry h (j + 1) t (Sends p bytes None)
+    → Spells (empty Rst m.mid) bytes → ⊥
+
+-- The entry j heard a notification, which wasn't rejected: a response in a CON or NON that is no
+-- repeat, after another one to the same message.
+pub record IsNotice (h : List Written) (p : Peer) (j : ℕ) (m : Content) : Type 0 where
+  pub sending : ℕ
+  pub sent : Content
+  pub moment : ℕ
+  pub first : IsFirstSending h sending moment p sent
+  pub earlier : ℕ
+  pub reply : Content
+  pub replied : IsResponse h p sending sent earlier reply
+  pub new_then : IsNew h p earlier
+  pub before : earlier < j
+  pub response : IsResponse h p sending sent j m
+  pub new : IsNew h p j
+  pub kind : MayRepeat m.kind
+  pub kept : IsUnrejected h p j m
+
+-- The notification is no newer than another one that was heard before it for the same registration,
+-- or than the reply that registered (RFC 7641 section 3.4).
+pub record IsOlder
+    (h : List Written) (o : ℕ) (q : CoapRequest) (j : ℕ) (m : Content) (n : IsNotified h o q j m)
+    : Type 0 where
+  pub other : ℕ
+  pub reply : Content
+  pub earlier : other < j
+  pub response : IsResponse h q.peer n.observed.heard.sending n.observed.heard.sent other reply
+  pub number : ℕ
+  pub numbered : version m ≡ Some number
+  pub older : newer (number_or_zero (version reply)) response.moment number n.response.moment ≡ false
+
+-- Of what q reads nothing newer was heard since the first of these entries, and before the entry n:
+-- each notification since is one of what some ask observes, and if it is of that, it is older.
+abbrev pub IsNewest : List Written → List ℕ → ℕ → CoapRequest → Type 0
+IsNewest h [] n q = ⊤
+IsNewest h (s ∷ js) n q =
+    (p : Peer) (j : ℕ) (m : Content) → s < j → j < n → IsNotice h p j m
+    → (o : ℕ) × (r : CoapRequest) × (known : IsNotified h o r j m)
+    × (asks_same q r ≡ true → IsOlder h o r j m known)
+
 -- The answer that the connection is given at this moment, to the ask k of the same moment, rests on
 -- a whole 2.05 that was heard before it: on these entries, which heard that for an earlier ask of
--- an equal GET. At this moment it is fresh (RFC 7252 section 5.6.1), counted from its first reply,
--- and no write to the resource was answered since the earlier ask.
+-- an equal GET, or on one which heard it as a notification of what that observes. At this moment it
+-- is fresh (RFC 7252 section 5.6.1), counted from its first reply; no newer notification counted
+-- since that, and no write to the resource was answered since the earlier ask.
 pub record IsServed (h : List Written) (t c k : ℕ) (js : List ℕ) : Type 0 where
   pub request : CoapRequest
   pub asked : IsAsked h k c t (Requests request)
@@ -256,6 +335,7 @@ pub record IsServed (h : List Written) (t c k : ℕ) (js : List ℕ) : Type 0 wh
   pub same : IsSameGet request other
   pub messages : List Content
   pub heard : AreHeardFor h opening other (first_point other) js messages
+      ⊎ AreNotified h opening other js messages
   pub before : (j : ℕ) → Contains js j → j < k
   pub response : Response
   pub whole : whole_of other messages ≡ Some response
@@ -263,6 +343,7 @@ pub record IsServed (h : List Written) (t c k : ℕ) (js : List ℕ) : Type 0 wh
   pub since : ℕ
   pub first : IsHeardFirst h since js
   pub fresh : t < since + lifetime response.max_age
+  pub newest : IsNewest h js k request
   pub current : (n : ℕ) → IsWriteAnswer h request n → n < k → n < opening
 
 -- In every journal that stands, so does an answer that was kept.

@@ -16,6 +16,7 @@ use Rattle.history_laws.specs.WorkedUploads as U
 use Rattle.history_laws.specs.WorkedReaders as R
 use Rattle.history_laws.specs.WorkedSpoiled as S
 use Rattle.history_laws.specs.WorkedStore as K
+use Rattle.history_laws.specs.WorkedWatches as O
 use Rattle.history_claims.specs.Headline.{IsSentFor, IsRepeat, IsPending, RestsOn, IsServed}
 use Rattle.history_claims.specs.Causes.{AreUnshared, IsTurnedAway, IsCausedBy}
 
@@ -219,3 +220,11 @@ Overwritten = IsServed (entries K.read_outdated) 5400 0 18 (9 ∷ []) → ⊥
 
 abbrev pub OtherQuery : Type 0
 OtherQuery = IsServed (entries K.other_query) 800 0 5 (3 ∷ []) → ⊥
+
+-- What the update of entry 6 brought is kept for an equal GET.
+abbrev pub Updated : Type 0
+Updated = IsServed (entries O.served) 4000 1 9 (6 ∷ [])
+
+-- Not so: the one before it, which that outdates.
+abbrev pub Outdated : Type 0
+Outdated = IsServed (entries O.served) 4000 1 9 (5 ∷ []) → ⊥

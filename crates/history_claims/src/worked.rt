@@ -35,6 +35,8 @@ ghost use Rattle.history_claims.specs.Worked.{
   Expired,
   Overwritten,
   OtherQuery,
+  Updated,
+  Outdated,
 };
 
 /// A separate response, and one in an ACK.
@@ -115,4 +117,10 @@ pub fn worked_store()
     ensures expired { Expired }
     ensures overwritten { Overwritten }
     ensures query { OtherQuery }
+{}
+
+/// A notification that is kept for an equal GET (RFC 7641 section 3.2), and one that a newer one outdates.
+pub fn worked_watches()
+    ensures updated { Updated }
+    ensures outdated { Outdated }
 {}

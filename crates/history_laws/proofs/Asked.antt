@@ -16,7 +16,7 @@ use Rattle.history_laws.specs.Justified.{IsAsk, reads_by, reads_in, reads, IsTur
 use Rattle.history_laws.specs.Laws.{IsFirst, IsAnswer, JoinsOne, ServesOne, OpensNone, OpensFor, IsAskSent, IsConfirmation}
 use Rattle.history_laws.proofs.Basis.{grounds-of}
 use Rattle.history_laws.proofs.Places.{at-below, at-same}
-use Rattle.history_laws.proofs.Facts.{follows-at, at-before, length-before, eqb-apart}
+use Rattle.history_laws.proofs.Facts.{follows-at, at-before, length-before}
 use Rattle.history_laws.proofs.Sent.{begun-before, begun-below, begun-opening, opening-begun, asked-for, next-is, sent-for, sent-once}
 use Rattle.history_laws.proofs.Joining.{joins-is}
 use Rattle.history_laws.proofs.Resting.{none-some}
@@ -215,7 +215,7 @@ ask-sent : (l : List Noted) (i t : ℕ) (p : Peer) (b : List ℕ) (w : Option �
 ask-sent l i t p b w o m legal e =
     let it = sent-for l t o i p m legal (record { bytes = b; timeout = w; stands = e }) in
     let ask = asked-for l o it.exchange legal it.opened in
-    let asks = next-is it.exchange.request _ m.mid m.token m it.next in
+    let asks = next-is _ it.exchange.request _ m.mid m.token m it.next in
     record {
       ask = o;
       conn = ask.conn;
@@ -230,7 +230,8 @@ ask-sent l i t p b w o m legal e =
       sense = ask.sense;
       peer = it.peer;
       block = asks.0;
-      carries = asks.1;
+      observes = asks.1;
+      carries = asks.2;
       spelled = it.spelled;
     }
 

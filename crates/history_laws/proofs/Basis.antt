@@ -1,21 +1,20 @@
 -- What an answer rests on: replies to the exchange that its ask reads.
-use Rattle.std.proofs.Common.{◌≡◌, ℕ, zero, suc, Bool, true, false, cond, ◌<◌, inl, inr, List, [], ◌∷◌, ◌++◌, length, Option, Some, None, refl, sym, ap, subst, ◌∙◌, arith}
+use Rattle.std.proofs.Common.{◌≡◌, ℕ, zero, suc, Bool, false, ◌<◌, inl, inr, List, [], ◌∷◌, ◌++◌, length, Option, Some, None, refl, sym, ap, subst, ◌∙◌, arith}
 use Rattle.std.specs.List.{Contains}
 use Rattle.std.proofs.lemmas.List.Elements.{Contains-append_left, Contains-append_right}
 use Rattle.coap_codec.specs.Spelling.{Content}
 use Rattle.uri_map.specs.declared.peer.Peer.{Peer}
 use Rattle.coap_codec.specs.declared.block.Block.{Block}
 use Rattle.uri_map.specs.Limits.{option_with}
-use Rattle.ask_model.specs.Requests.{CoapRequest, Requests, request_message, block_message, block_option, block_value, carried_by, uint_bytes}
+use Rattle.ask_model.specs.Requests.{CoapRequest, Requests, asking, request_message, block_message, block_option, block_value, carried_by, uint_bytes}
 use Rattle.ask_model.specs.Views.{Ask}
 use Rattle.journal_book.specs.Entries.{Grounds, Live, Asks, Answers}
 use Rattle.history_laws.specs.Responses.{Response}
 use Rattle.history_laws.specs.Readings.{Noted, Note, at}
-use Rattle.history_laws.specs.Progress.{Reply, numbers, Ending, Whole, NotUnderstood, Reset, TimedOut}
+use Rattle.history_laws.specs.Progress.{Reply, numbers, Ending, Whole, Reset, TimedOut}
 use Rattle.history_laws.specs.Exchanges.{Begun, begun, Turn, Nothing, Sent, Replied, Rejected, Expired, turn, replies_by, replies, End, replied_end, end_here, end_by, end_of}
 use Rattle.history_laws.specs.Justified.{IsAsk, Ends as EndsAs, reads_in, reads, HasGrounds, Follows, Legal}
 use Rattle.history_laws.specs.Laws.{IsFirst, IsAnswer, IsReplyTo, RestsOn}
-use Rattle.history_laws.proofs.Elements.{contains-none, first-or-later}
 use Rattle.history_laws.proofs.Facts.{IsAsk-keeps, IsFirst-keeps}
 use Rattle.history_laws.proofs.Answering.{IsAnswer-old}
 use Rattle.history_laws.proofs.Replies.{IsReplyTo-keeps, replies-fit}
@@ -109,6 +108,7 @@ RestsOn-keeps x l k j h =
       mid = h.mid;
       token = h.token;
       block = h.block;
+      observes = h.observes;
       first = IsFirst-keeps x l _ h.opening _ _ _ h.first;
     }
 
@@ -120,7 +120,8 @@ pub record Brought (l : List Noted) (o : ℕ) (q : CoapRequest) (r : Reply) : Ty
   pub mid : ℕ
   pub token : List ℕ
   pub block : Option Block
-  pub first : IsFirst l moment o r.sending q.peer (block_message q block mid token)
+  pub observes : Bool
+  pub first : IsFirst l moment o r.sending q.peer (asking observes q block mid token)
 
 -- A request that is alike is so with each block.
 pub blocks-alike : (q r : CoapRequest) (mid : ℕ) (token : List ℕ) (block : Option Block) → request_message q mid token ≡ request_message r mid token
@@ -132,17 +133,22 @@ blocks-alike q r mid token (Some b) e =
       payload = carried_by m.code (Some b) m.payload;
     }) e
 
-pub brought : (l : List Noted) (o : ℕ) (b : Begun) (q : CoapRequest) (r : Reply) → Legal l → begun l o ≡ Some b → Alike q b.request
-    → Contains (replies l o) r → Brought l o q r
-brought l o b q r legal opened alike has =
-    let fits = replies-fit l o r legal has in
+pub asking-alike : (observes : Bool) (q r : CoapRequest) (mid : ℕ) (token : List ℕ) (block : Option Block) → Alike q r
+    → asking observes q block mid token ≡ asking observes r block mid token
+asking-alike observes q r mid token None alike = alike.1 observes mid token
+asking-alike observes q r mid token (Some b) alike = blocks-alike q r mid token (Some b) (alike.1 false mid token)
+
+-- The same of what was heard for the exchange.
+pub brought-by : (l : List Noted) (o : ℕ) (b : Begun) (q : CoapRequest) (r : Reply) → Legal l → begun l o ≡ Some b → Alike q b.request
+    → IsReplyTo l o r → Brought l o q r
+brought-by l o b q r legal opened alike fits =
     let sent = sent-for l fits.sent_at o r.sending fits.peer fits.sent legal fits.first in
-    let asks = next-is sent.exchange.request _ fits.sent.mid fits.sent.token fits.sent sent.next in
+    let asks = next-is _ sent.exchange.request _ fits.sent.mid fits.sent.token fits.sent sent.next in
     let same : sent.exchange ≡ b = some-is _ _ (sym sent.opened ∙ opened) in
     let peer : fits.peer ≡ q.peer = sent.peer ∙ (ap (λ (b : Begun). b.request.peer) same ∙ sym alike.0) in
-    let message : fits.sent ≡ block_message q asks.0 fits.sent.mid fits.sent.token =
-    asks.1 ∙ (ap (λ (b : Begun). block_message b.request asks.0 fits.sent.mid fits.sent.token) same
-    ∙ sym (blocks-alike q b.request fits.sent.mid fits.sent.token asks.0 (alike.1 fits.sent.mid fits.sent.token))) in
+    let message : fits.sent ≡ asking asks.1 q asks.0 fits.sent.mid fits.sent.token =
+    asks.2 ∙ (ap (λ (b : Begun). asking asks.1 b.request asks.0 fits.sent.mid fits.sent.token) same
+    ∙ sym (asking-alike asks.1 q b.request fits.sent.mid fits.sent.token asks.0 alike)) in
     record {
       fits = fits;
       after = sent.after;
@@ -150,9 +156,14 @@ brought l o b q r legal opened alike has =
       mid = fits.sent.mid;
       token = fits.sent.token;
       block = asks.0;
-      first = subst (λ (p : Peer). IsFirst l fits.sent_at o r.sending p (block_message q asks.0 fits.sent.mid fits.sent.token)) peer
+      observes = asks.1;
+      first = subst (λ (p : Peer). IsFirst l fits.sent_at o r.sending p (asking asks.1 q asks.0 fits.sent.mid fits.sent.token)) peer
           (subst (λ (m : Content). IsFirst l fits.sent_at o r.sending fits.peer m) message fits.first);
     }
+
+pub brought : (l : List Noted) (o : ℕ) (b : Begun) (q : CoapRequest) (r : Reply) → Legal l → begun l o ≡ Some b → Alike q b.request
+    → Contains (replies l o) r → Brought l o q r
+brought l o b q r legal opened alike has = brought-by l o b q r legal opened alike (replies-fit l o r legal has)
 
 rests-own : (l : List Noted) (k o : ℕ) (r : Reply) → Legal l → reads l k ≡ Some o → Contains (replies l o) r → RestsOn l k r.number
 rests-own l k o r legal e has =
@@ -175,6 +186,7 @@ rests-own l k o r legal e has =
       mid = came.mid;
       token = came.token;
       block = came.block;
+      observes = came.observes;
       first = came.first;
     }
 

@@ -1,10 +1,9 @@
 -- The lemmas on a history that other crates cite. Declares nothing, and no other module of proofs/ can be named from outside.
 pub use Rattle.history_laws.proofs.Answering.{answered-in-order, answered-once, asks-keep, asks-once, asks-stand, IsAnswer-old, more-answers, next-ask, push-cases}
-pub use Rattle.history_laws.proofs.Basis.{blocks-alike, made-of, number-of, requests-same, rests-on-its-own}
+pub use Rattle.history_laws.proofs.Basis.{asking-alike, blocks-alike, brought-by, made-of, number-of, requests-same, rests-on-its-own}
 pub use Rattle.history_laws.proofs.Wholes.{end-below, ends-all, EndsAll}
 pub use Rattle.history_laws.proofs.Going.{EndsWhole, ends-whole, going-not, goes-so, GoesSo, IsGoing, MadeTurn}
 pub use Rattle.history_laws.proofs.Fetching.{AreAsked, AreGiven, asks-first, CameTo, came-to, GivenSoFar, IsMadeOf, pieces_in, progress-push, SoFar, split-push, upload_in}
-pub use Rattle.history_laws.proofs.Order.{came-next, CameNext, fetched-in-order}
 pub use Rattle.history_laws.proofs.Storing.{kept-served, rests-on-the-store, Served, served-by, stored-current, stored-shared}
 pub use Rattle.history_laws.proofs.Copied.{answered_anew-holds, get-again-spelled}
 pub use Rattle.history_laws.proofs.Copying.{at-still, before-twice, ticked-newest}
@@ -25,7 +24,7 @@ pub use Rattle.history_laws.proofs.Firsts.{all-listed, first-found, first-is, fi
 pub use Rattle.history_laws.proofs.Replies.{found, Found, replies-fit}
 pub use Rattle.history_laws.proofs.Resting.{and-left, and-right, none-is, none-of, none-some, some-is}
 pub use Rattle.history_laws.proofs.Sendings.{any-first, IsFirst-old, may-be}
-pub use Rattle.history_laws.proofs.Sent.{asked-for, begun-before, begun-below, begun-keeps, begun-opening, next-is, opening-begun, past, Past, sent-for, sent-once}
+pub use Rattle.history_laws.proofs.Sent.{asked-for, asking-plain, begun-before, begun-below, begun-keeps, begun-opening, next-is, opening-begun, past, Past, sent-for, sent-once}
 pub use Rattle.history_laws.proofs.Settled.{ask-listed, few-waiting, next-above, open-below, range-passes, waited-or-answered}
 pub use Rattle.history_laws.proofs.Turns.{heard-sends, NotRst, turn-replied, turn-sent, waits-first}
 pub use Rattle.history_laws.proofs.Queue.{awaiting-stays, filter-all, filter-none, going-before, issued-few, issued-same, none-submitted, NoReply, opened-issued, opened-queued, opened-rank, IsReplyAt, issued-more, listed-are, queue-kept, queue-rises, queue-same, rank-apart, rank-below, rank-keeps, replies-stay, submits-by, submitted-apart, submitted-below, submitted-cases, submitted-once, unawaited-quiet, waiting-begun, waiting-goes, waiting-has, waiting-stays, waiting-unsent}
@@ -36,3 +35,8 @@ pub use Rattle.history_laws.proofs.Ended.{none-after-end}
 pub use Rattle.history_laws.proofs.Outrunning.{end-before, end-keeps, end-old, end-since, ended-begun, EndsWrite, is-outrun, none-outran, not-true, outran, Outran, outrun-keeps, outrun-new, outrun-quiet, outrun-since, write-outruns}
 pub use Rattle.history_laws.proofs.Joining.{Alike, begun-early, is-joinable, joinable-is, Joined, joins-found, joins-is, joins-none, joins-same, none-joined, one-joinable, open-same, outrun-same, reader, Reader, reader-alike, ReadsAlong, reads-opened, Shared, shared-is, unoutrun-earlier, write-earlier}
 pub use Rattle.history_laws.proofs.Order.{came-next, CameNext, fetched-in-order, quiet-since, sends-next}
+pub use Rattle.history_laws.proofs.Watching.{IsRegistering, IsSaid, not-rst, registering, said, this-is, watch-fits, watch-unwaited, WatchFits, watches-few, watches-fit}
+pub use Rattle.history_laws.proofs.Counted.{HeldFrom, uncounted, watches-held}
+pub use Rattle.history_laws.proofs.Notified.{comes-fit, comes-since, counted, first-response, first-whole, IsCounted, IsNews, IsTold, IsUnderWatch, never-both, news-fits, news-since, news-told, news-unreplied, NewsFits, one-update, tell-fits, TellFits, under-watch, update-fits, update-news, updates-since}
+pub use Rattle.history_laws.proofs.Watched.{forgotten-holds, greatest-1-spelled, greatest-3-spelled, least-2-spelled, registers-spelled, rejected-t-holds, served-holds, watch-get-spelled}
+pub use Rattle.history_laws.proofs.Outdated.{counts-since, CountsFor, outdated-by, outdated-keeps, outdated-since, update-counts}

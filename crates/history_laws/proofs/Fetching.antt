@@ -1,23 +1,22 @@
 -- What a whole response is made of: the replies of the last try, piece by piece.
-use Rattle.std.proofs.Common.{◌≡◌, ◌⊎◌, inl, inr, ℕ, zero, suc, ◌+◌, ◌<◌, Bool, true, false, cond, eqb, List, [], ◌∷◌, ◌++◌, length, Option, Some, None, Ok, Err, refl, sym, ap, subst, ◌∙◌, arith, append_assoc, append-nil, length-append}
-use Rattle.std.specs.Prelude.{fold, map, is_some, ◌&&◌, ⊤}
-use Rattle.std.specs.List.{Contains, list_all}
+use Rattle.std.proofs.Common.{◌≡◌, ◌⊎◌, inl, inr, ℕ, ◌+◌, Bool, true, false, cond, eqb, List, [], ◌∷◌, ◌++◌, length, Option, Some, None, Ok, Err, refl, sym, ap, subst, ◌∙◌, arith, append_assoc, append-nil, length-append}
+use Rattle.std.specs.Prelude.{fold, is_some, ◌&&◌, ⊤}
+use Rattle.std.specs.List.{list_all}
 use Rattle.std.proofs.lemmas.Bool.{false≢true, and_from}
 use Rattle.std.proofs.lemmas.List.Sums.{fold-append}
-use Rattle.std.proofs.lemmas.List.Elements.{Contains-append_left, Contains-append_right}
 use Rattle.coap_codec.specs.Spelling.{Content}
-use Rattle.blockwise.specs.Downloads.{PiecesValue, no_pieces, Judged, judged, with_piece, DownloadValue, nothing, given, given_by, takes, taken_by, adds_by}
+use Rattle.blockwise.specs.Downloads.{PiecesValue, no_pieces, Judged, judged, with_piece, DownloadValue, nothing, given, given_by, taken_by, adds_by}
 use Rattle.blockwise.specs.Joins.{payloads}
-use Rattle.blockwise.specs.declared.fault.BlockFault.{BlockFault}
 use Rattle.blockwise.specs.declared.fault.BlockFault.TheVariants as F
 use Rattle.blockwise.specs.declared.pieces.Step.TheVariants.{Next, Last}
 use Rattle.coap_codec.specs.Recognition.{is_forwardable}
+use Rattle.coap_codec.specs.declared.block.Block.{Block}
 use Rattle.blockwise.specs.Uploads.{UploadValue, begun, answer_to, next_block, next_of}
 use Rattle.blockwise.specs.declared.upload.Answered.{Answered}
 use Rattle.blockwise.specs.declared.upload.Answered.TheVariants as A
-use Rattle.ask_model.specs.Requests.{CoapRequest, first_message}
-use Rattle.history_laws.specs.Responses.{Response, response_of, joined, is_tellable, whole_by, whole_fetched, whole_given, whole_of}
-use Rattle.history_laws.specs.Progress.{Reply, messages, Ending, Whole, NotUnderstood, Reset, TimedOut, Turned, Progress, Fetches, Gives, Ends, first_progress, answered_so, answered, anew, faulted, fetched_by, fetched, fetched_whole, step, progress, next_message}
+use Rattle.ask_model.specs.Requests.{CoapRequest, asking, block_message, opening_message}
+use Rattle.history_laws.specs.Responses.{Response, response_of, joined, is_tellable, whole_by, whole_given, whole_of}
+use Rattle.history_laws.specs.Progress.{Reply, messages, Ending, Whole, NotUnderstood, Reset, TimedOut, Turned, Progress, Fetches, Gives, Ends, first_progress, answered_so, anew, fetched_by, fetched_whole, step, progress, next_message}
 
 -- lists of replies
 
@@ -357,10 +356,15 @@ came-first q = by (eqb q.method 1) refl
     by false is = (is, record { all = refl; is = refl; gives = λ ms. refl; asked = λ g h r e. absurd (none-split g h r e) }, rw (is) refl)
 
 -- Its first message is that of the request, or of the first block of its body.
-pub asks-first : (q : CoapRequest) (mid : ℕ) (token : List ℕ) → next_message q (progress q []) mid token ≡ Some (first_message q mid token)
-asks-first q mid token = by (eqb q.method 1) refl
+pub asks-first : (f : Bool) (q : CoapRequest) (mid : ℕ) (token : List ℕ) → (eqb q.method 1 ≡ false → f ≡ false)
+    → next_message f q (progress q []) mid token ≡ Some (opening_message f q mid token)
+asks-first f q mid token gives = by (eqb q.method 1) refl
   where
+    plain : (q : CoapRequest) (block : Option Block) (mid : ℕ) (token : List ℕ) → asking false q block mid token ≡ block_message q block mid token
+    plain q None mid token = refl
+    plain q (Some b) mid token = refl
+
     by : (b : Bool) → eqb q.method 1 ≡ b
-        → next_message q (cond b (Fetches 0 no_pieces []) (Gives (begun (length q.body) 6) [])) mid token ≡ Some (first_message q mid token)
+        → next_message f q (cond b (Fetches 0 no_pieces []) (Gives (begun (length q.body) 6) [])) mid token ≡ Some (opening_message f q mid token)
     by true is = rw (is) refl
-    by false is = rw (is) refl
+    by false is = rw (is, gives is) (ap (λ (m : Content). Some m) (sym (plain q (next_block (begun (length q.body) 6)) mid token)))

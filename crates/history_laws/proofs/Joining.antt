@@ -8,7 +8,7 @@ use Rattle.uri_map.specs.declared.peer.Peer.{Peer}
 use Rattle.cache_key.specs.declared.place.Place.{Place}
 use Rattle.cache_key.specs.Keys.{same_place}
 use Rattle.cache_key.proofs.CallerLemmas.{places_decided}
-use Rattle.ask_model.specs.Requests.{CoapRequest, Sense, Requests, Refuses, request_message}
+use Rattle.ask_model.specs.Requests.{CoapRequest, Sense, Requests, Refuses, asking}
 use Rattle.ask_model.specs.Sharing.{asked_place, asks_same}
 use Rattle.ask_model.specs.Views.{Ask}
 use Rattle.ask_model.proofs.CallerLemmas.{asks-alike, asks-onward, same-place}
@@ -241,13 +241,15 @@ reads-opened l k o legal e =
 
 -- and is for a request that goes to one server in equal messages
 abbrev pub Alike : CoapRequest → CoapRequest → Type 0
-Alike q r = (q.peer ≡ r.peer) × ((mid : ℕ) (token : List ℕ) → request_message q mid token ≡ request_message r mid token)
+Alike q r =
+    (q.peer ≡ r.peer)
+    × ((observes : Bool) (mid : ℕ) (token : List ℕ) → asking observes q None mid token ≡ asking observes r None mid token)
 
 pub reader-alike : (l : List Noted) (k o : ℕ) → (it : Reader l k o) → Alike it.request it.exchange.request
 reader-alike l k o it = by it.request it.exchange it.way
   where
     by : (q : CoapRequest) (b : Begun) → ((o ≡ k) × (q ≡ b.request)) ⊎ ReadsAlong l k o q b → Alike q b.request
-    by q b (inl own) = subst (Alike q) own.1 (refl, λ mid token. refl)
+    by q b (inl own) = subst (Alike q) own.1 (refl, λ observes mid token. refl)
     by q b (inr along) = asks-alike q b.request along.same
 
 -- the end of a write to the place of a request is one there

@@ -28,6 +28,10 @@ mod Basis
 mod Wholes
 mod Order
 mod Missing
+mod Watching
+mod Notified
+mod Counted
+mod Outdated
 mod Storing
 mod Confirmed
 mod Asked
@@ -41,3 +45,4 @@ mod Store
 mod Pieces
 mod Uploads
 mod Parts
+mod Watched

@@ -1,15 +1,19 @@
 -- Where nothing is stored for a GET.
-use Rattle.std.proofs.Common.{◌≡◌, ℕ, Bool, true, false, ◌&&◌, eqb, List, Option, Some, None, is_some, refl, sym, ◌∙◌}
+use Rattle.std.proofs.Common.{◌≡◌, ℕ, Bool, true, false, ◌&&◌, ◌||◌, eqb, inl, inr, List, [], ◌∷◌, Option, Some, None, is_some, refl, sym, ap, ◌∙◌}
 use Rattle.std.specs.List.{Contains, list_any}
-use Rattle.std.proofs.lemmas.Bool.{false≢true, and_parts}
+use Rattle.std.proofs.lemmas.Bool.{false≢true, and_parts, or_left, or_parts, or_right}
 use Rattle.ask_model.specs.Requests.{CoapRequest}
-use Rattle.history_laws.specs.Readings.{Noted}
-use Rattle.history_laws.specs.Progress.{Ending, Whole}
+use Rattle.history_laws.specs.Responses.{Response}
+use Rattle.history_laws.specs.Readings.{Noted, Note, Says, Observation, Updates, at}
+use Rattle.history_laws.specs.Progress.{Reply, Ending, Whole}
 use Rattle.history_laws.specs.Exchanges.{Begun, begun, openings, End, end_of}
 use Rattle.history_laws.specs.Joining.{asks_the_same, is_joinable}
-use Rattle.history_laws.specs.Storing.{content, MissesAlone}
+use Rattle.history_laws.specs.Storing.{content, EndsSo, MissesAlone, UpdatesSo, IsCrowdedOut}
 use Rattle.history_laws.proofs.Elements.{any-of}
 use Rattle.history_laws.proofs.Openings.{begun-listed}
+use Rattle.history_laws.proofs.Places.{at-old}
+use Rattle.history_laws.proofs.Resting.{none-some}
+use Rattle.ask_model.specs.Sharing.{asked_key}
 
 -- the exchange ended with a whole 2.05
 abbrev is-content : Ending → Bool
@@ -23,9 +27,36 @@ ended-content (Some e) = is-content e.how
 abbrev pub might-answer : List Noted → CoapRequest → ℕ → Bool
 might-answer l q o = is_joinable l q o && ended-content (end_of l o)
 
-pub none-stored : (l : List Noted) (t : ℕ) (q : CoapRequest) → list_any (might-answer l q) (openings l) ≡ false → MissesAlone l t q
-none-stored l t q none s a fresh = absurd (false≢true (sym none ∙ any-of (might-answer l q) (openings l) a.opening listed might))
+-- a notification brought one
+abbrev is-update : Observation → Bool
+is-update Updates = true
+is-update observation = false
+
+abbrev updates : Note → Bool
+updates (Says m (Some i) notice) = is-update notice.observation
+updates note = false
+
+abbrev pub has-update : List Noted → Bool
+has-update l = list_any (λ (x : Noted). updates x.note) l
+
+-- what stands passes, if it does
+any-at : (p : Noted → Bool) (l : List Noted) (n : ℕ) (x : Noted) → at l n ≡ Some x → p x ≡ true → list_any p l ≡ true
+any-at p [] n x e h = absurd (none-some x e)
+any-at p (y ∷ older) n x e h =
+    elim (at-old y older n x e) [
+      | inl w ↦ or_left (p y) (list_any p older) (ap p w.1 ∙ h)
+      | inr w ↦ or_right (p y) (list_any p older) (any-at p older n x w h)
+    ]
+
+pub no-updates : (l : List Noted) (o e : ℕ) (w : Response) (rs : List Reply) → has-update l ≡ false → UpdatesSo l o e w rs → ⊥
+no-updates l o e w rs none u = false≢true (sym none ∙ any-at (λ (x : Noted). updates x.note) l e _ u.stands refl)
+
+pub none-stored : (l : List Noted) (t : ℕ) (q : CoapRequest) → (list_any (might-answer l q) (openings l) || has-update l) ≡ false → MissesAlone l t q
+none-stored l t q none s a fresh = elim a.comes [ inl it ↦ not-ended it | inr it ↦ absurd (no-updates l _ _ _ _ both.1 it) ]
   where
+    both : (list_any (might-answer l q) (openings l) ≡ false) × (has-update l ≡ false)
+    both = or_parts (list_any (might-answer l q) (openings l)) (has-update l) none
+
     same : asks_the_same q (begun l a.opening) ≡ true
     same = (and_parts (asks_the_same q (begun l a.opening)) _ a.shared).0
 
@@ -36,5 +67,7 @@ none-stored l t q none s a fresh = absurd (false≢true (sym none ∙ any-of (mi
     listed : Contains (openings l) a.opening
     listed = begun-listed l a.opening (was (begun l a.opening) same)
 
-    might : might-answer l q a.opening ≡ true
-    might = rw (a.shared, a.ends.ended, a.ends.code) refl
+    not-ended : EndsSo l a.opening a.ending s.response (a.first ∷ a.more) → IsCrowdedOut l (asked_key q)
+    not-ended it =
+        let might : might-answer l q a.opening ≡ true = rw (a.shared, it.ended, it.code) refl in
+        absurd (false≢true (sym both.0 ∙ any-of (might-answer l q) (openings l) a.opening listed might))

@@ -1,5 +1,5 @@
 -- The first sendings of a write bring its body piece by piece.
-use Rattle.std.proofs.Common.{◌≡◌, ◌≢◌, ◌⊎◌, inl, inr, ℕ, ◌+◌, ◌*◌, ◌<◌, ◌≤◌, Bool, true, false, cond, eqb, List, [], ◌∷◌, ◌++◌, length, take, drop, Option, Some, None, refl, sym, ap, subst, ◌∙◌, arith, length-append, length-drop}
+use Rattle.std.proofs.Common.{◌≡◌, ◌≢◌, ◌⊎◌, inl, inr, ℕ, ◌+◌, ◌*◌, ◌<◌, Bool, true, false, cond, eqb, List, [], ◌∷◌, ◌++◌, length, take, drop, Option, Some, None, refl, sym, ap, subst, ◌∙◌, arith, length-append, length-drop}
 use Rattle.std.specs.Prelude.{fold, is_none, ◌&&◌}
 use Rattle.std.proofs.Math.Nat.{zero-mul}
 use Rattle.std.proofs.lemmas.Bool.{false≢true, and_parts}
@@ -16,9 +16,10 @@ use Rattle.blockwise.specs.declared.upload.Answered.{Answered}
 use Rattle.blockwise.specs.declared.upload.Answered.TheVariants as A
 use Rattle.blockwise.proofs.CallerLemmas.{more_left, next_continues, next_szx-le, one_block_more, slice_is_next, whole_number}
 use Rattle.ask_model.specs.Requests.{CoapRequest, block_message, carried_by}
-use Rattle.history_laws.specs.Readings.{Noted, at, before}
+use Rattle.history_laws.specs.Readings.{Noted, before}
 use Rattle.history_laws.specs.Progress.{Reply, messages, NotUnderstood, Progress, Fetches, Gives, Ends, answered_so, progress, next_message, step}
 use Rattle.history_laws.specs.Exchanges.{Begun, begun, replies, End, end_of, goes_to, waits_for}
+use Rattle.history_laws.specs.Observing.{observes}
 use Rattle.history_laws.specs.Justified.{Legal, MayBeFirst}
 use Rattle.history_laws.specs.Laws.{IsFirst, IsSending, IsPart, block_sent, brings, bytes_sent}
 use Rattle.history_laws.proofs.Copying.{at-still, before-twice}
@@ -27,8 +28,8 @@ use Rattle.history_laws.proofs.Fetching.{CameTo, messages-push, progress-push, u
 use Rattle.history_laws.proofs.Going.{goes-so, GoesSo, IsGoing}
 use Rattle.history_laws.proofs.Members.{first-waits}
 use Rattle.history_laws.proofs.Order.{came-next, sends-next}
-use Rattle.history_laws.proofs.Resting.{some-is, none-some}
-use Rattle.history_laws.proofs.Sent.{begun-before, first-more, sent-for}
+use Rattle.history_laws.proofs.Resting.{some-is}
+use Rattle.history_laws.proofs.Sent.{begun-before, first-more}
 
 -- how much of the body was taken
 
@@ -159,8 +160,8 @@ module _ (l : List Noted) (o : ℕ) (b : Begun) (legal : Legal l) (opened : begu
   part-message t i p m f =
       let it = stands i (t, p, m, f) in
       let next = sends-next l t o i p m b legal f opened in
-      let given : next_message q (Gives (upload_in q (replies (before l i) o)) (replies (before l i) o)) m.mid m.token ≡ Some m =
-      ap (λ (u : Progress). next_message q u m.mid m.token) (sym it.given) ∙ next in
+      let given : next_message (observes (before l i) o) q (Gives (upload_in q (replies (before l i) o)) (replies (before l i) o)) m.mid m.token ≡ Some m =
+      ap (λ (u : Progress). next_message (observes (before l i) o) q u m.mid m.token) (sym it.given) ∙ next in
       sym (some-is _ _ given) ∙ ap (λ (u : Progress). block_message q (brings u) m.mid m.token) (sym it.given)
 
   block-is : (i : ℕ) → IsSending l o i → block_sent l o q i ≡ next_block (upload_in q (replies (before l i) o))

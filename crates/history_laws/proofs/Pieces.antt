@@ -1,5 +1,5 @@
 -- The worked journals of a response in two pieces.
-use Rattle.std.proofs.Common.{◌≡◌, ℕ, List, [], ◌∷◌, Option, Some, None, refl, sym, ap, subst, arith, lit≤}
+use Rattle.std.proofs.Common.{◌≡◌, ℕ, List, [], ◌∷◌, Option, Some, None, refl, sym, ap, subst, arith, lit≤, false}
 use Rattle.coap_codec.specs.Spelling.{Entry, Content, Spells}
 use Rattle.coap_codec.specs.Reading.{message_at}
 use Rattle.coap_codec.specs.Reading as X
@@ -107,8 +107,8 @@ other_asked-refused h =
     let may = h.2.1.1 in
     let opened : record { since = 0; request = get_light } ≡ record { since = may.since; request = may.request } = some-is _ _ may.opening in
     let asks : get_light ≡ may.request = ap (λ (b : Begun). b.request) opened in
-    let next : next_message get_light (progress get_light (replies piece_heard 1)) (get_block 2).mid (get_block 2).token ≡ Some (get_block 2) =
-    subst (λ (q : CoapRequest). next_message q (progress q (replies piece_heard 1)) (get_block 2).mid (get_block 2).token ≡ Some (get_block 2)) (sym asks)
+    let next : next_message false get_light (progress get_light (replies piece_heard 1)) (get_block 2).mid (get_block 2).token ≡ Some (get_block 2) =
+    subst (λ (q : CoapRequest). next_message false q (progress q (replies piece_heard 1)) (get_block 2).mid (get_block 2).token ≡ Some (get_block 2)) (sym asks)
     may.message in
     let other : 16 ≡ 32 = ap third_of next in
     absurd (omega (arith, other))

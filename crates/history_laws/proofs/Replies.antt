@@ -17,7 +17,7 @@ use Rattle.history_laws.specs.Readings.{Noted, Says, Notice}
 use Rattle.history_laws.specs.Progress.{Reply}
 use Rattle.history_laws.specs.Transmissions.{FirstSending, first_at}
 use Rattle.history_laws.specs.Exchanges.{Turn, Nothing, Sent, Replied, Rejected, Expired, turn, replies_by, replies, awaited}
-use Rattle.history_laws.specs.Hearing.{went_under, went_as, is_under, is_as, open_at, answers_by, answers}
+use Rattle.history_laws.specs.Hearing.{went_under, went_as, is_under, is_as, open_at, expected, answers_by, answers}
 use Rattle.history_laws.specs.Justified.{Follows, Legal, MaySay}
 use Rattle.history_laws.specs.Laws.{IsFirst, IsReplyKind, IsReplyTo}
 use Rattle.history_laws.proofs.Places.{at-new, at-keeps, at-below, before-keeps, before-new}
@@ -33,10 +33,10 @@ Under _ l p m i = is_under l p m i ≡ true
 
 answered-under : (l : List Noted) (p : Peer) (m : Content) (i : ℕ) (k : MsgType) (vain : Bool) → NotRst k → answers_by l p m k vain true ≡ Some i
     → Under k l p m i
-answered-under l p m i Con true not e = (find-some (is_under l p m) (awaited l) i e).1
-answered-under l p m i Con false not e = (find-some (is_under l p m) (awaited l) i e).1
-answered-under l p m i Non true not e = (find-some (is_under l p m) (awaited l) i e).1
-answered-under l p m i Non false not e = (find-some (is_under l p m) (awaited l) i e).1
+answered-under l p m i Con true not e = (find-some (is_under l p m) (expected l) i e).1
+answered-under l p m i Con false not e = (find-some (is_under l p m) (expected l) i e).1
+answered-under l p m i Non true not e = (find-some (is_under l p m) (expected l) i e).1
+answered-under l p m i Non false not e = (find-some (is_under l p m) (expected l) i e).1
 answered-under l p m i Ack true not e =
     and_parts (is_under l p m i) (is_as l p m i) (find-some (λ (i : ℕ). is_under l p m i && is_as l p m i) (awaited l ++ open_at l p) i e).1
 answered-under l p m i Ack false not e =

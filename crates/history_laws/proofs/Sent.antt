@@ -1,19 +1,20 @@
 -- What a first sending asks, and of whom; after the same replies an exchange has one.
-use Rattle.std.proofs.Common.{◌≡◌, ℕ, ◌<◌, ◌≤◌, ◌⊎◌, Bool, true, false, ◌&&◌, eqb, inl, inr, List, [], ◌∷◌, ◌++◌, length, Option, Some, None, is_some, refl, sym, ap, subst, ◌∙◌, arith, length-append}
-use Rattle.std.specs.Prelude.{fold, is_none, ⊤}
+use Rattle.std.proofs.Common.{◌≡◌, ℕ, ◌<◌, ◌≤◌, ◌⊎◌, Bool, true, false, ◌&&◌, eqb, inl, inr, List, [], ◌∷◌, length, Option, Some, None, is_some, refl, sym, ap, subst, ◌∙◌, arith, length-append}
+use Rattle.std.specs.Prelude.{is_none}
 use Rattle.std.proofs.lemmas.Bool.Decides.{eqb_tells}
 use Rattle.std.proofs.lemmas.Bool.{false≢true, and_parts}
 use Rattle.coap_codec.specs.Spelling.{Content, Spells}
 use Rattle.uri_map.specs.declared.peer.Peer.{Peer}
 use Rattle.coap_codec.specs.declared.block.Block.{Block}
 use Rattle.blockwise.specs.Uploads.{next_block}
-use Rattle.ask_model.specs.Requests.{CoapRequest, Sense, Requests, Refuses, block_message}
+use Rattle.ask_model.specs.Requests.{CoapRequest, Sense, Requests, Refuses, asking, block_message}
 use Rattle.ask_model.specs.Views.{Ask}
 use Rattle.journal_book.specs.Entries.{Deed, Opens, Asks, Sends, Hears, Passes, Answers, Shuts, Seals, Mark, Carries}
 use Rattle.journal_book.specs.Entries as D
 use Rattle.history_laws.specs.Readings.{Noted, Note, Begins, First, at, before, noted}
 use Rattle.history_laws.specs.Progress.{Reply, Progress, Fetches, Gives, Ends, Ending, Reset, TimedOut, progress, block_after, next_message}
 use Rattle.history_laws.specs.Exchanges.{Begun, opens_by, begun_by, begun, Turn, Nothing, Sent, Replied, Rejected, Expired, turn, waits_by, waits_for, replies_by, replies, End, end_here, end_by, end_of, goes_to}
+use Rattle.history_laws.specs.Observing.{observes}
 use Rattle.history_laws.specs.Justified.{AskNote, MayBeFirst, Follows, Legal, CopiedNote}
 use Rattle.history_laws.specs.Laws.{IsFirst}
 use Rattle.history_laws.proofs.Resting.{some-is}
@@ -129,7 +130,7 @@ pub record SentFor (l : List Noted) (o i : ℕ) (p : Peer) (m : Content) (bytes 
   pub opened : begun l o ≡ Some exchange
   pub after : o < i
   pub peer : p ≡ exchange.request.peer
-  pub next : next_message exchange.request (progress exchange.request (replies (before l i) o)) m.mid m.token ≡ Some m
+  pub next : next_message (observes (before l i) o) exchange.request (progress exchange.request (replies (before l i) o)) m.mid m.token ≡ Some m
   pub spelled : Spells m bytes
 
 pub sent-for : (l : List Noted) (t o i : ℕ) (p : Peer) (m : Content) → Legal l → (f : IsFirst l t o i p m) → SentFor l o i p m f.bytes
@@ -146,11 +147,16 @@ sent-for l t o i p m legal f =
     }
 
 -- It is for a block of what that asks for, or of its body, or for all.
-pub next-is : (q : CoapRequest) (w : Progress) (mid : ℕ) (token : List ℕ) (m : Content) → next_message q w mid token ≡ Some m
-    → (block : Option Block) × (m ≡ block_message q block mid token)
-next-is q (Fetches restarts pieces got) mid token m e = (block_after pieces, sym (some-is _ _ e))
-next-is q (Gives upload got) mid token m e = (next_block upload, sym (some-is _ _ e))
-next-is q (Ends how) mid token m e = cc
+pub asking-plain : (q : CoapRequest) (block : Option Block) (mid : ℕ) (token : List ℕ) → asking false q block mid token ≡ block_message q block mid token
+asking-plain q None mid token = refl
+asking-plain q (Some b) mid token = refl
+
+pub next-is : (f : Bool) (q : CoapRequest) (w : Progress) (mid : ℕ) (token : List ℕ) (m : Content) → next_message f q w mid token ≡ Some m
+    → (block : Option Block) × (observes : Bool) × (m ≡ asking observes q block mid token)
+next-is f q (Fetches restarts pieces got) mid token m e = (block_after pieces, f, sym (some-is _ _ e))
+next-is f q (Gives upload got) mid token m e =
+    (next_block upload, false, sym (some-is _ _ e) ∙ sym (asking-plain q (next_block upload) mid token))
+next-is f q (Ends how) mid token m e = cc
 
 -- After its first sending an exchange waits for the reply, or has ended, or has got a reply more.
 abbrev pub Past : Option ℕ → Option End → ℕ → ℕ → Type 0

@@ -14,7 +14,7 @@ use Rattle.history_laws.specs.Readings.{Noted, Plain, Serves, at, noted}
 use Rattle.history_laws.specs.Progress.{Reply, numbers, Ending, Whole}
 use Rattle.history_laws.specs.Exchanges.{begun, openings, End, end_of}
 use Rattle.history_laws.specs.Joining.{is_joinable}
-use Rattle.history_laws.specs.Storing.{IsStored, IsUse, IsUsedSince}
+use Rattle.history_laws.specs.Storing.{ComesSo, EndsSo, IsStored, IsUse, IsUsedSince}
 use Rattle.history_laws.specs.Justified.{Legal}
 use Rattle.history_laws.specs.Worked.{Holds, Refused}
 use Rattle.history_laws.specs.WorkedMessages.{get_light, all_answered}
@@ -26,6 +26,7 @@ use Rattle.history_laws.proofs.Elements.{contains-none, first-or-later}
 use Rattle.history_laws.proofs.Endings.{non-spelled}
 use Rattle.history_laws.proofs.Joining.{shared-is}
 use Rattle.history_laws.proofs.Messages.{legal-waiting}
+use Rattle.history_laws.proofs.Missing.{no-updates}
 use Rattle.history_laws.proofs.Openings.{begun-listed}
 use Rattle.history_laws.proofs.Places.{at-below}
 use Rattle.history_laws.proofs.Resting.{at-rest, may-come, some-is}
@@ -70,6 +71,11 @@ ends-once o e how one ended =
     let same = some-is _ _ (subst (λ (o : ℕ). end_of read_once o ≡ Some (record { number = e; how = how })) (sym one) ended) in
     (ap (λ (x : End). x.number) same, ap (λ (x : End). x.how) same)
 
+-- No notification came there.
+ended-once : (o e : ℕ) (w : Response) (rs : List Reply) → ComesSo read_once o e w rs → EndsSo read_once o e w rs
+ended-once o e w rs (inl it) = it
+ended-once o e w rs (inr u) = absurd (no-updates read_once o e w rs refl u)
+
 is-stored-once : IsStored read_once get_light stored-once
 is-stored-once =
     record {
@@ -77,10 +83,11 @@ is-stored-once =
       ending = 3;
       first = reply-of-once;
       more = [];
-      ends = record { ended = refl; code = refl };
+      comes = inl (record { ended = refl; code = refl });
       shared = refl;
-      latest = λ o e w rs it may.
-          let here = (ends-once o e (Whole w rs) (opened-one read_once get_light 1 o refl may) it.ended).0 in
+      newest = refl;
+      latest = λ o e w r rs it may new.
+          let here = (ends-once o e (Whole w (r ∷ rs)) (opened-one read_once get_light 1 o refl may) (ended-once o e w (r ∷ rs) it).ended).0 in
           omega (arith, here);
       entry = _;
       heard_in = refl;
@@ -102,7 +109,7 @@ read_from_store-holds = (
 -- what that journal has stored
 only-stored : (q : CoapRequest) (s : Stored) → IsStored read_once q s → (s.heard ≡ 700) × (s.response ≡ response_of non_message)
 only-stored q s is =
-    let how = (ends-once is.opening is.ending _ (opened-one read_once q 1 is.opening refl is.shared) is.ends.ended).1 in
+    let how = (ends-once is.opening is.ending _ (opened-one read_once q 1 is.opening refl is.shared) (ended-once _ _ _ _ is.comes).ended).1 in
     let first = first-of _ _ (replies-same _ _ _ _ how) in
     let heard = some-is _ _ (subst (λ (n : ℕ). at read_once n ≡ Some is.entry) (sym (ap (λ (r : Reply). r.number) first)) is.heard_in) in
     (is.heard ∙ sym (ap (λ (x : Noted). x.written.moment) heard), sym (response-same _ _ _ _ how))
@@ -176,7 +183,7 @@ unused n key (inl s) lt =
     unserved : Plain ≡ Serves s.replies → ⊥
     unserved e = cc
 unused n key (inr s) lt =
-    let here = (ends-once s.opening n (Whole s.response s.replies) (begun-once s.opening (ap is_some s.opened)) s.ends.ended).0 in
+    let here = (ends-once s.opening n (Whole s.response (s.first ∷ s.more)) (begun-once s.opening (ap is_some s.opened)) (ended-once _ _ _ _ s.comes).ended).0 in
     absurd (omega (arith, here, lt))
 
 used-once : IsUse read_once 3 (asked_key get_light)
@@ -184,14 +191,16 @@ used-once =
     inr (record {
       opening = 1;
       response = response_of non_message;
-      replies = reply-of-once ∷ [];
-      ends = record { ended = refl; code = refl };
+      first = reply-of-once;
+      more = [];
+      comes = inl (record { ended = refl; code = refl });
       since = 0;
       request = get_light;
       opened = refl;
       get = refl;
       is = refl;
       current = refl;
+      newest = refl;
       lasts = refl;
     })
 
@@ -235,13 +244,17 @@ pub read_older-refused : Refused read_older
 read_older-refused h =
     let s : Stored = h.2.3.0 in
     let is : IsStored read_twice get_light s = h.2.3.1 in
-    let latest : 7 ≤ is.ending = is.latest 5 7 (response_of content_again) (record { number = 7; sending = 6; message = content_again } ∷ []) (record { ended = refl; code = refl }) refl in
-    let all = ends-all read_twice is.opening is.ending s.response (is.first ∷ is.more) is.ends.ended in
+    let latest : 7 ≤ is.ending = is.latest 5 7 (response_of content_again) (record { number = 7; sending = 6; message = content_again }) [] (inl (record { ended = refl; code = refl })) refl refl in
+    let all = ends-all read_twice is.opening is.ending s.response (is.first ∷ is.more) (ended-twice is.comes).ended in
     let numbered : numbers (all.others ++ all.last ∷ []) ≡ 3 ∷ [] = sym (ap numbers all.all) ∙ (sym is.list ∙ h.2.3.3) in
     let number : all.last.number ≡ 3 = only all.others all.last 3 numbered in
     let ending = all.number in
     absurd (omega (arith, latest, number, ending))
   where
+    ended-twice : {o e : ℕ} {w : Response} {rs : List Reply} → ComesSo read_twice o e w rs → EndsSo read_twice o e w rs
+    ended-twice (inl it) = it
+    ended-twice {o} {e} {w} {rs} (inr u) = absurd (no-updates read_twice o e w rs refl u)
+
     only : (rs : List Reply) (r : Reply) (n : ℕ) → numbers (rs ++ r ∷ []) ≡ n ∷ [] → r.number ≡ n
     only [] r n e = cc
     only (s ∷ []) r n e = cc

@@ -11,13 +11,12 @@ use Rattle.history_laws.specs.Progress.{Reply}
 use Rattle.history_laws.specs.Storing.{IsStored}
 use Rattle.history_laws.specs.Justified.{HasGrounds, AskNote, Legal}
 use Rattle.history_laws.specs.Laws.{IsWriteEnd, RestsOnStored, RestsOnTheStore, NothingOutrun}
-use Rattle.history_laws.proofs.Basis.{brought, grounds-of, made-of, number-of, requests-same, rests-on-its-own}
+use Rattle.history_laws.proofs.Basis.{brought-by, grounds-of, number-of, requests-same, rests-on-its-own}
 use Rattle.history_laws.proofs.Elements.{contains-none}
 use Rattle.history_laws.proofs.Facts.{at-before, follows-at, legal-before, length-before}
 use Rattle.history_laws.proofs.Joining.{Shared, shared-is, reader, unoutrun-earlier, write-earlier}
-use Rattle.history_laws.proofs.Outrunning.{end-since}
+use Rattle.history_laws.proofs.Notified.{comes-fit, comes-since}
 use Rattle.history_laws.proofs.Places.{at-below}
-use Rattle.history_laws.proofs.Replies.{replies-fit}
 use Rattle.history_laws.proofs.Sent.{begun-before}
 
 -- what an ask was served
@@ -63,12 +62,11 @@ module _ (l : List Noted) (t k c : ℕ) (a : Ask) (js : List ℕ) (legal : Legal
       let found = number-of ws j (subst (λ (ns : List ℕ). Contains ns j) it.is.list has_it) in
       let r : Reply = found.0 in
       let o : ℕ = it.is.opening in
-      let old = made-of (before l k) o it.is.ending it.stored.response ws r it.is.ends.ended found.1 in
-      let now = made-of l o it.is.ending it.stored.response ws r (end-since l k o _ it.is.ends.ended) found.1 in
-      let was = replies-fit (before l k) o r (legal-before l k legal) old in
+      let was = comes-fit (before l k) o it.is.ending it.stored.response ws r (legal-before l k legal) it.is.comes found.1 in
+      let now = comes-fit l o it.is.ending it.stored.response ws r legal (comes-since l k _ o it.is.ending it.stored.response ws it.stands it.is.comes) found.1 in
       let below = at-below (before l k) r.number (noted was.moment (Hears was.peer was.bytes) (Says r.message (Some r.sending) was.notice)) was.heard in
       let exchange = stored-shared in
-      let came = brought l o exchange.exchange it.request r legal (begun-before l k o exchange.exchange exchange.opened)
+      let came = brought-by l o exchange.exchange it.request r legal (begun-before l k o exchange.exchange exchange.opened)
       (asks-alike it.request exchange.exchange.request exchange.same) now in
       let same = found.2 in
       let len = length-before l k _ it.stands in (
@@ -91,6 +89,7 @@ module _ (l : List Noted) (t k c : ℕ) (a : Ask) (js : List ℕ) (legal : Legal
           mid = came.mid;
           token = came.token;
           block = came.block;
+          observes = came.observes;
           first = came.first;
         },
         refl,

@@ -1,5 +1,5 @@
 -- The worked journals of a body that goes in pieces.
-use Rattle.std.proofs.Common.{◌≡◌, ℕ, List, [], ◌∷◌, Option, Some, None, refl, sym, ap, subst, arith, lit≤}
+use Rattle.std.proofs.Common.{◌≡◌, ℕ, List, [], ◌∷◌, Option, Some, None, refl, sym, ap, subst, arith, lit≤, false}
 use Rattle.coap_codec.specs.Spelling.{Entry, Content, Spells}
 use Rattle.coap_codec.specs.Reading.{message_at}
 use Rattle.coap_codec.specs.Reading as X
@@ -154,7 +154,7 @@ overlapping-refused h =
     let may = h.2.1.1 in
     let opened : record { since = 0; request = put_file } ≡ record { since = may.since; request = may.request } = some-is _ _ may.opening in
     let asks : put_file ≡ may.request = ap (λ (b : Begun). b.request) opened in
-    let next : next_message put_file (progress put_file (replies piece_taken 1)) again.mid again.token ≡ Some again =
-    subst (λ (q : CoapRequest). next_message q (progress q (replies piece_taken 1)) again.mid again.token ≡ Some again) (sym asks) may.message in
+    let next : next_message false put_file (progress put_file (replies piece_taken 1)) again.mid again.token ≡ Some again =
+    subst (λ (q : CoapRequest). next_message false q (progress q (replies piece_taken 1)) again.mid again.token ≡ Some again) (sym asks) may.message in
     let other : 68 ≡ 60 = ap third_of next in
     absurd (omega (arith, other))

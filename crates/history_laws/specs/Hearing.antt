@@ -9,11 +9,18 @@ use Rattle.coap_codec.specs.Spelling.{Content}
 use Rattle.uri_map.specs.declared.peer.Peer.{Peer}
 use Rattle.uri_map.specs.Peers.{same_peer}
 use Rattle.ask_model.specs.Requests.{CoapRequest}
+use Rattle.ask_model.specs.Sharing.{asked_place}
 use Rattle.journal_book.specs.Entries.{Deed, Hears, Carries}
 use Rattle.journal_book.specs.Entries as D
-use Rattle.history_laws.specs.Readings.{Noted, Note, Says, Recalls, Notice, Unobserved}
+use Rattle.observe_share.specs.declared.notice.Notice as Shared
+use Rattle.observe_share.specs.declared.notice.Notice.TheVariants.{Update, Other}
+use Rattle.observe_share.specs.Watches.{counts_for}
+use Rattle.history_laws.specs.Readings.{Noted, Note, Says, Recalls, Notice, Observation, Unobserved, Registers, Updates, Outdates, Cancels}
+use Rattle.history_laws.specs.Progress.{Progress, Ends}
 use Rattle.history_laws.specs.Transmissions.{FirstSending, first_at, last_sent, outstanding, transmission, mids_used}
-use Rattle.history_laws.specs.Exchanges.{open_exchanges, awaited, waiting}
+use Rattle.history_laws.specs.Exchanges.{Begun, begun, waits_for, open_exchanges, awaited, waiting}
+use Rattle.history_laws.specs.Joining.{outrun}
+use Rattle.history_laws.specs.Observing.{Watch, watches, watched, watch_under, most_watches, observes, notice_in, as_first}
 
 -- A CON or NON that is heard at this moment, from this peer and with this ID, repeats one that was
 -- heard less than EXCHANGE_LIFETIME before and repeats none (RFC 7252 section 4.5).
@@ -82,6 +89,10 @@ is_under l p m i = went_under p m.token (first_at l i)
 abbrev pub is_as : List Noted → Peer → Content → ℕ → Bool
 is_as l p m i = went_as p m.mid (first_at l i)
 
+-- the first sendings to which a reply is awaited, or notifications come
+abbrev pub expected : List Noted → List ℕ
+expected l = awaited l ++ watched l
+
 abbrev pub open_at : List Noted → Peer → List ℕ
 open_at l p = option_to_list (option_map (λ (f : FirstSending). f.number) (outstanding l p))
 
@@ -89,8 +100,8 @@ open_at l p = option_to_list (option_map (λ (f : FirstSending). f.number) (outs
 -- response bears the token; in an ACK it bears the ID too, and so does an empty ACK or RST (RFC 7252
 -- sections 4.2, 5.3.2).
 abbrev pub answers_by : List Noted → Peer → Content → MsgType → Bool → Bool → Option ℕ
-answers_by l p m Con empty true = find (is_under l p m) (awaited l)
-answers_by l p m Non empty true = find (is_under l p m) (awaited l)
+answers_by l p m Con empty true = find (is_under l p m) (expected l)
+answers_by l p m Non empty true = find (is_under l p m) (expected l)
 answers_by l p m Ack empty true =
     find (λ (i : ℕ). is_under l p m i && is_as l p m i) (awaited l ++ open_at l p)
 answers_by l p m Ack true response = find (is_as l p m) (open_at l p)
@@ -111,9 +122,56 @@ has_place l t p (Some i) =
     nat_lt (length (waiting l p) - let_go l i) MAX_WAITING
     && nat_lt (mids_used l t p + length (waiting l p)) MAX_MESSAGE_IDS
 
+-- By its first reply an exchange registers the proxy as an observer, where it asked for that, the
+-- reply is an update, no write outran it, and one resource more may be observed (RFC 7641 section 4.1).
+abbrev pub is_update : Shared.Notice → Bool
+is_update (Update v) = true
+is_update (Other v) = false
+
+abbrev pub is_free : List Noted → ℕ → Option Begun → Bool
+is_free l o None = false
+is_free l o (Some b) =
+    not (outrun l (asked_place b.request) o) && nat_lt (length (watches l)) most_watches
+
+abbrev pub may_register : List Noted → ℕ → Content → Bool
+may_register l o m = observes l o && (is_update (notice_in m) && is_free l o (begun l o))
+
+abbrev pub registers : Bool → Observation
+registers true = Registers
+registers false = Unobserved
+
+-- A CON or NON under the token of a watch is a notification. It counts where it is newer than what counted
+-- last (RFC 7641 section 3.4).
+abbrev pub counts_as : Shared.Notice → Progress → Observation
+counts_as (Other v) progress = Cancels
+counts_as (Update v) (Ends how) = Updates
+counts_as (Update v) progress = Outdates
+
+abbrev pub notified : ℕ → Content → Option Watch → Observation
+notified t m None = Unobserved
+notified t m (Some w) =
+    if is_such m.kind && counts_for (notice_in m) t w.held
+    then counts_as (notice_in m) (as_first 0 0 m) else Unobserved
+
+abbrev pub is_this : ℕ → Option ℕ → Bool
+is_this i None = false
+is_this i (Some j) = j == i
+
+abbrev pub observation_by : List Noted → ℕ → Content → ℕ → Option FirstSending → Observation
+observation_by l t m i None = Unobserved
+observation_by l t m i (Some f) =
+    if is_this i (waits_for l f.opening) then registers (may_register l f.opening m)
+    else notified t m (watch_under l m.token)
+
+abbrev pub observation_of : List Noted → ℕ → Content → Option ℕ → Observation
+observation_of l t m None = Unobserved
+observation_of l t m (Some i) =
+    if nat_le 32 m.code then observation_by l t m i (first_at l i) else Unobserved
+
 -- what comes of it
 abbrev pub notice_of : List Noted → ℕ → Peer → Content → Option ℕ → Notice
-notice_of l t p m to = record { place = has_place l t p to; observation = Unobserved }
+notice_of l t p m to =
+    record { place = has_place l t p to; observation = observation_of l t m to }
 
 -- There is room for one exchange more: a place among the open ones, one among those that wait at its
 -- peer, and a message ID.

@@ -20,6 +20,7 @@ use Rattle.history_laws.specs.Progress.{Reply, numbers, Ending, Whole, NotUnders
 use Rattle.history_laws.specs.Transmissions.{FirstSending, firsts, sent_last, bears_token, bears_mid, Transmission, transmission, due, outstanding}
 use Rattle.history_laws.specs.Exchanges.{Begun, begun, is_late, waits_for, replies, end_of, is_going, open_exchanges, waiting}
 use Rattle.history_laws.specs.Joining.{joins}
+use Rattle.history_laws.specs.Observing.{Watch, idles, watches, observes}
 use Rattle.history_laws.specs.Storing.{IsStored, MissesAlone}
 use Rattle.history_laws.specs.Hearing.{is_such, knows, repeated, can_be_remembered, answers, notice_of, has_room}
 use Rattle.history_laws.specs.Confirming.{owed}
@@ -122,7 +123,7 @@ pub record MayBeFirst
   pub first : waiting l p ≡ o ∷ others
   pub free : outstanding l p ≡ None
   pub peer : p ≡ request.peer
-  pub message : next_message request (progress request (replies l o)) m.mid m.token ≡ Some m
+  pub message : next_message (observes l o) request (progress request (replies l o)) m.mid m.token ≡ Some m
   pub spelled : Spells m bytes
   pub token_size : length m.token ≡ 8
   pub token_apart : bears_token l m.token ≡ false
@@ -213,6 +214,10 @@ is_done l f = is_early (ticked l) (transmission l f.number)
 abbrev pub is_in_time : List Noted → ℕ → Bool
 is_in_time l o = not (is_late (ticked l) (begun l o))
 
+-- no watch was idle then
+abbrev pub is_asked_for : List Noted → Watch → Bool
+is_asked_for l w = not (idles (ticked l) w)
+
 -- What is done between two steps, and not only begun.
 pub record AtRest (l : List Noted) : Type 0 where
   -- each ask of an open connection is answered, or reads an exchange that is open
@@ -221,9 +226,11 @@ pub record AtRest (l : List Noted) : Type 0 where
   pub given : is_sealed l ≡ false → owed l ≡ None
   -- no message waits where none is outstanding,
   pub sent : is_sealed l ≡ false → list_all (is_under_way l) (open_exchanges l) ≡ true
-  -- and what was due at the last tick is done: copies, and deadlines of exchanges
+  -- and what was due at the last tick is done: copies, deadlines of exchanges, and the end of watches
+  -- of what nobody asks for
   pub copied : is_sealed l ≡ false → list_all (is_done l) (firsts l) ≡ true
   pub ended : is_sealed l ≡ false → list_all (is_in_time l) (open_exchanges l) ≡ true
+  pub forgotten : is_sealed l ≡ false → list_all (is_asked_for l) (watches l) ≡ true
 
 -- While the journal isn't sealed and all is done, an input may come.
 abbrev pub MayCome : List Noted → Type 0

@@ -1,5 +1,5 @@
 -- What holds of every legal reading of a history.
-use Rattle.std.specs.Prelude.{◌≡◌, ◌≢◌, ◌↔◌, ◌⊎◌, ℕ, ◌+◌, ◌<◌, ◌≤◌, true, false, List, [], ◌∷◌, length, take, Option, Some, None, is_some, ⊤}
+use Rattle.std.specs.Prelude.{◌≡◌, ◌≢◌, ◌↔◌, ◌⊎◌, ℕ, ◌+◌, ◌<◌, ◌≤◌, Bool, true, false, List, [], ◌∷◌, length, take, Option, Some, None, is_some, ⊤}
 use Rattle.std.specs.List.{Contains}
 use Rattle.limits.specs.declared.TheConstants.{MAX_RETRANSMIT, MESSAGE_ID_LIFETIME}
 use Rattle.coap_codec.specs.declared.message.MsgType.{MsgType}
@@ -9,13 +9,14 @@ use Rattle.coap_codec.specs.declared.block.Block.{Block}
 use Rattle.uri_map.specs.declared.peer.Peer.{Peer}
 use Rattle.ask_model.specs.declared.cause.Cause.{Cause}
 use Rattle.ask_model.specs.declared.cause.Cause.TheVariants as C
-use Rattle.ask_model.specs.Requests.{CoapRequest, Sense, Requests, Refuses, block_message, carried_by}
-use Rattle.ask_model.specs.Sharing.{asked_place, asks_same}
+use Rattle.ask_model.specs.Requests.{CoapRequest, Sense, Requests, Refuses, asking, block_message, carried_by, observe_message}
+use Rattle.ask_model.specs.Sharing.{asked_key, asked_place, asks_same}
+use Rattle.ask_model.specs.Observing.{may_observe}
 use Rattle.ask_model.specs.Views.{Ask}
 use Rattle.resp_cache.specs.Stored.{Stored, is_fresh}
-use Rattle.journal_book.specs.Entries.{Grounds, Live, Kept, Fault, Deed, Sends, Hears, Passes, Answers, Shuts}
+use Rattle.journal_book.specs.Entries.{Grounds, Live, Kept, Fault, Deed, Asks, Sends, Hears, Passes, Answers, Shuts}
 use Rattle.history_laws.specs.Confirmations.{empty}
-use Rattle.history_laws.specs.Readings.{Noted, Note, First, Copies, Says, Notice, noted, at, before, ticked}
+use Rattle.history_laws.specs.Readings.{Noted, Note, Begins, First, Copies, Says, Notice, noted, at, before, ticked}
 use Rattle.history_laws.specs.Responses.{Response}
 use Rattle.history_laws.specs.Connections.{is_open, asks_of, answers_of, is_sealed}
 use Rattle.blockwise.specs.Reading.{offset_in}
@@ -24,6 +25,7 @@ use Rattle.history_laws.specs.Progress.{Reply, Ending, Whole, Progress, Gives, p
 use Rattle.history_laws.specs.Transmissions.{FirstSending, firsts, Transmission, transmission, due, outstanding}
 use Rattle.history_laws.specs.Exchanges.{Begun, begun, turn, waits_for, replies, end_here, end_of, open_exchanges}
 use Rattle.history_laws.specs.Joining.{outrun, is_joinable, joins}
+use Rattle.history_laws.specs.Observing.{Watch, most_watches, observes, watches}
 use Rattle.history_laws.specs.Storing.{IsStored, MissesAlone}
 use Rattle.history_laws.specs.Hearing.{repeated, has_room}
 use Rattle.history_laws.specs.Justified.{IsAsk, Ends, reads, Legal, AtRest}
@@ -158,7 +160,7 @@ abbrev pub SendsNext : Type 0
 SendsNext =
     (l : List Noted) (t o i : ℕ) (p : Peer) (m : Content) (b : Begun) → Legal l → IsFirst l t o i p m
     → begun l o ≡ Some b
-    → next_message b.request (progress b.request (replies (before l i) o)) m.mid m.token ≡ Some m
+    → next_message (observes (before l i) o) b.request (progress b.request (replies (before l i) o)) m.mid m.token ≡ Some m
 
 -- The reply came to a message for this block: one of its representation, or of its body.
 pub record IsFetched (l : List Noted) (o : ℕ) (q : CoapRequest) (block : Option Block) (r : Reply) : Type 0 where
@@ -166,7 +168,8 @@ pub record IsFetched (l : List Noted) (o : ℕ) (q : CoapRequest) (block : Optio
   pub moment : ℕ
   pub mid : ℕ
   pub token : List ℕ
-  pub first : IsFirst l moment o r.sending q.peer (block_message q block mid token)
+  pub observes : Bool
+  pub first : IsFirst l moment o r.sending q.peer (asking observes q block mid token)
 
 -- So did each of these, to one for the block after those before.
 abbrev pub AreFetched : List Noted → ℕ → CoapRequest → Point → List Reply → Type 0
@@ -232,7 +235,8 @@ pub record RestsOn (l : List Noted) (k j : ℕ) : Type 0 where
   pub mid : ℕ
   pub token : List ℕ
   pub block : Option Block
-  pub first : IsFirst l moment opening reply.sending request.peer (block_message request block mid token)
+  pub observes : Bool
+  pub first : IsFirst l moment opening reply.sending request.peer (asking observes request block mid token)
 
 -- An answer rests on replies to the exchange that its ask reads alone.
 abbrev pub RestsOnItsOwn : Type 0
@@ -260,7 +264,8 @@ pub record RestsOnStored (l : List Noted) (k j : ℕ) : Type 0 where
   pub mid : ℕ
   pub token : List ℕ
   pub block : Option Block
-  pub first : IsFirst l moment is.opening reply.sending request.peer (block_message request block mid token)
+  pub observes : Bool
+  pub first : IsFirst l moment is.opening reply.sending request.peer (asking observes request block mid token)
 
 -- An answer from the store rests on a response that is stored for what its ask means, and is given in the moment of
 -- the ask.
@@ -387,7 +392,8 @@ pub record IsAskSent (l : List Noted) (i : ℕ) (p : Peer) (bytes : List ℕ) : 
   pub sense : asked.sense ≡ Requests request
   pub peer : p ≡ request.peer
   pub block : Option Block
-  pub carries : message ≡ block_message request block message.mid message.token
+  pub observes : Bool
+  pub carries : message ≡ asking observes request block message.mid message.token
   pub spelled : Spells message bytes
 
 -- These bytes are an empty ACK or RST to the peer of the datagram that was heard just before.
@@ -409,3 +415,28 @@ NothingElseSent =
     (l : List Noted) (i t : ℕ) (p : Peer) (bytes : List ℕ) (w : Option ℕ) (note : Note) → Legal l
     → at l i ≡ Some (noted t (Sends p bytes w) note)
     → IsAskSent l i p bytes ⊎ (((j : ℕ) × (j < i) × IsAskSent l j p bytes) ⊎ IsConfirmation l i p bytes)
+
+-- A watch came of a GET that a server was asked whose resources are to be observed, by a message that asked for that
+-- (RFC 7641 section 3.1). Notifications come under its token, after the reply to it that registered the proxy.
+pub record IsObserved (l : List Noted) (w : Watch) : Type 0 where
+  pub since : ℕ
+  pub conn : ℕ
+  pub ask : Ask
+  pub request : CoapRequest
+  pub asked : at l w.held.opening ≡ Some (noted since (Asks conn ask) (Begins request))
+  pub sense : ask.sense ≡ Requests request
+  pub may : may_observe ask.rules request ≡ true
+  pub key : w.held.key ≡ asked_key request
+  pub moment : ℕ
+  pub mid : ℕ
+  pub sent : IsFirst l moment w.held.opening w.sending request.peer (observe_message request mid w.held.token)
+  pub reply : Reply
+  pub replied : IsReplyTo l w.held.opening reply
+  pub under : reply.sending ≡ w.sending
+
+abbrev pub ObservesAsked : Type 0
+ObservesAsked = (l : List Noted) (w : Watch) → Legal l → Contains (watches l) w → IsObserved l w
+
+-- At most 64 resources are observed.
+abbrev pub ObservesFew : Type 0
+ObservesFew = (l : List Noted) → Legal l → length (watches l) ≤ most_watches

@@ -8,6 +8,7 @@ pub mod Progress
 pub mod Transmissions
 pub mod Exchanges
 pub mod Joining
+pub mod Observing
 pub mod Storing
 pub mod Hearing
 pub mod Confirming
@@ -24,3 +25,4 @@ pub mod WorkedCopies
 pub mod WorkedStore
 pub mod WorkedPieces
 pub mod WorkedUploads
+pub mod WorkedWatches

@@ -3,7 +3,7 @@ use Rattle.std.specs.Prelude.{ℕ, ◌+◌, ◌/◌, Bool, true, false, List, []
 use Rattle.coap_codec.specs.Spelling.{Content}
 use Rattle.coap_codec.specs.Recognition.{is_forwardable}
 use Rattle.coap_codec.specs.declared.block.Block.{Block}
-use Rattle.ask_model.specs.Requests.{CoapRequest, block_message}
+use Rattle.ask_model.specs.Requests.{CoapRequest, asking, block_message}
 use Rattle.blockwise.specs.Reading.{size_of}
 use Rattle.blockwise.specs.Downloads.{PiecesValue, no_pieces, Judged, judged, with_piece}
 use Rattle.blockwise.specs.Uploads.{UploadValue, begun, answer_to, next_block, next_of}
@@ -113,12 +113,12 @@ block_at p first = record { num = p.len / size_of p.szx; more = false; szx = p.s
 abbrev pub block_after : PiecesValue → Option Block
 block_after p = option_map (block_at p) p.of
 
--- the next message, with this ID and token, where there is one
-abbrev pub next_message : CoapRequest → Progress → ℕ → List ℕ → Option Content
-next_message q (Fetches restarts pieces got) mid token =
-    Some (block_message q (block_after pieces) mid token)
-next_message q (Gives upload got) mid token = Some (block_message q (next_block upload) mid token)
-next_message q (Ends how) mid token = None
+-- the next message, with this ID and token, where there is one: a GET may ask to observe
+abbrev pub next_message : Bool → CoapRequest → Progress → ℕ → List ℕ → Option Content
+next_message observes q (Fetches restarts pieces got) mid token =
+    Some (asking observes q (block_after pieces) mid token)
+next_message observes q (Gives upload got) mid token = Some (block_message q (next_block upload) mid token)
+next_message observes q (Ends how) mid token = None
 
 -- what is known of the pieces so far: of those of a representation, which come, or of a body, which go
 pub data Point : Type 0 where

@@ -11,10 +11,9 @@ pub data Observation : Type 0 where
   Unobserved : Observation
   -- by it the proxy became an observer
   Registers : Observation
-  -- a newer notification with a representation: it opens an exchange for this request, whose first
-  -- reply it is
-  Updates : (request : CoapRequest) → Observation
-  -- the same, but the rest of it can't be fetched now
+  -- a newer notification with a whole representation
+  Updates : Observation
+  -- a newer notification with the first piece of one
   Outdates : Observation
   -- a newer notification that is the last
   Cancels : Observation

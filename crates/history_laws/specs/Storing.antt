@@ -1,19 +1,23 @@
--- Which response a store has for a GET (RFC 7252 section 5.6): the latest whole 2.05 to an equal one, to whose place
--- no write has ended since that was asked for.
-use Rattle.std.specs.Prelude.{◌≡◌, ◌≢◌, ◌⊎◌, ℕ, ◌<◌, ◌≤◌, true, false, ◌==◌, List, [], ◌∷◌, length, Some, ⊤}
+-- Which response a store has for a GET (RFC 7252 section 5.6): the latest whole 2.05 to an equal one, or in a
+-- notification of what that reads, to whose place no write has ended since that was asked for, and after which no
+-- notification came that counts (RFC 7641 section 3.4).
+use Rattle.std.specs.Prelude.{◌≡◌, ◌≢◌, ◌⊎◌, ℕ, ◌<◌, ◌≤◌, Bool, true, false, ◌==◌, List, [], ◌∷◌, length, Some, ⊤}
 use Rattle.std.specs.List.{AllByRecursion}
 use Rattle.limits.specs.declared.TheConstants.{MAX_STORED}
 use Rattle.cache_key.specs.Keys.{CacheKey}
 use Rattle.ask_model.specs.Requests.{CoapRequest, Requests}
 use Rattle.ask_model.specs.Sharing.{asked_key, is_get}
 use Rattle.ask_model.specs.Views.{Ask}
-use Rattle.journal_book.specs.Entries.{Asks}
+use Rattle.coap_codec.specs.Spelling.{Content}
+use Rattle.uri_map.specs.declared.peer.Peer.{Peer}
+use Rattle.journal_book.specs.Entries.{Asks, Hears}
 use Rattle.resp_cache.specs.Stored.{Stored, lifetime, is_fresh}
 use Rattle.history_laws.specs.Responses.{Response}
-use Rattle.history_laws.specs.Readings.{Noted, Serves, noted, at, before}
-use Rattle.history_laws.specs.Progress.{Reply, numbers, Whole}
+use Rattle.history_laws.specs.Readings.{Noted, Serves, Says, Updates, noted, at, before}
+use Rattle.history_laws.specs.Progress.{Reply, numbers, Whole, Ends}
 use Rattle.history_laws.specs.Exchanges.{begun, end_of}
 use Rattle.history_laws.specs.Joining.{outrun, is_joinable}
+use Rattle.history_laws.specs.Observing.{Watch, watch_under, as_first, outdated}
 
 -- 2.05 Content
 abbrev pub content : ℕ
@@ -24,16 +28,40 @@ pub record EndsSo (l : List Noted) (o e : ℕ) (w : Response) (rs : List Reply) 
   pub ended : end_of l o ≡ Some (record { number = e; how = Whole w rs })
   pub code : w.code ≡ content
 
--- A GET may be answered with the response of the exchange: that was for an equal one, and no write to the place has
--- ended since it was opened. None that may answer it came later. It counts from its first reply.
+-- In this entry a notification brought such a response, under the token of a watch that the exchange registered
+-- (RFC 7641 section 4.2).
+pub record UpdatesSo (l : List Noted) (o e : ℕ) (w : Response) (rs : List Reply) : Type 0 where
+  pub moment : ℕ
+  pub peer : Peer
+  pub bytes : List ℕ
+  pub message : Content
+  pub sending : ℕ
+  pub place : Bool
+  pub stands : at l e
+      ≡ Some (noted moment (Hears peer bytes) (Says message (Some sending) (record { place = place; observation = Updates })))
+  pub watch : Watch
+  pub under : watch_under (before l e) message.token ≡ Some watch
+  pub registered : watch.held.opening ≡ o
+  pub whole : as_first e sending message ≡ Ends (Whole w rs)
+  pub code : w.code ≡ content
+
+-- A response came so by either.
+abbrev pub ComesSo : List Noted → ℕ → ℕ → Response → List Reply → Type 0
+ComesSo l o e w rs = EndsSo l o e w rs ⊎ UpdatesSo l o e w rs
+
+-- A GET may be answered with the response of the exchange: that was for an equal one, no write to the place has
+-- ended since it was opened, and no notification that counts came since its first reply. None that may answer it came
+-- later. It counts from its first reply.
 pub record IsStored (l : List Noted) (q : CoapRequest) (s : Stored) : Type 0 where
   pub opening : ℕ
   pub ending : ℕ
   pub first : Reply
   pub more : List Reply
-  pub ends : EndsSo l opening ending s.response (first ∷ more)
+  pub comes : ComesSo l opening ending s.response (first ∷ more)
   pub shared : is_joinable l q opening ≡ true
-  pub latest : (o e : ℕ) (w : Response) (rs : List Reply) → EndsSo l o e w rs → is_joinable l q o ≡ true → e ≤ ending
+  pub newest : outdated l (asked_key q) first.number ≡ false
+  pub latest : (o e : ℕ) (w : Response) (r : Reply) (rs : List Reply) → ComesSo l o e w (r ∷ rs) → is_joinable l q o ≡ true
+      → outdated l (asked_key q) r.number ≡ false → e ≤ ending
   pub entry : Noted
   pub heard_in : at l first.number ≡ Some entry
   pub heard : s.heard ≡ entry.written.moment
@@ -51,18 +79,21 @@ pub record IsServing (l : List Noted) (n : ℕ) (key : CacheKey) : Type 0 where
   pub sense : ask.sense ≡ Requests request
   pub is : asked_key request ≡ key
 
--- Stored is what ends the exchange of a GET, while no write has outrun it, and is fresh for a while.
+-- Stored is what comes so for a GET, while no write has outrun it and no newer notification came, and is fresh for a
+-- while.
 pub record IsStoring (l : List Noted) (n : ℕ) (key : CacheKey) : Type 0 where
   pub opening : ℕ
   pub response : Response
-  pub replies : List Reply
-  pub ends : EndsSo l opening n response replies
+  pub first : Reply
+  pub more : List Reply
+  pub comes : ComesSo l opening n response (first ∷ more)
   pub since : ℕ
   pub request : CoapRequest
   pub opened : begun l opening ≡ Some (record { since = since; request = request })
   pub get : is_get request ≡ true
   pub is : asked_key request ≡ key
   pub current : outrun (before l n) key.place opening ≡ false
+  pub newest : outdated (before l n) key first.number ≡ false
   pub lasts : (lifetime response.max_age == 0) ≡ false
 
 abbrev pub IsUse : List Noted → ℕ → CacheKey → Type 0

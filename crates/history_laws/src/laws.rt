@@ -26,6 +26,8 @@ ghost use Rattle.history_laws.specs.Laws.{
   OneJoinable,
   WritesInOrder,
   ReadsOpened,
+  ObservesAsked,
+  ObservesFew,
 };
 
 /// Tokens and message IDs keep the proxy's messages apart (RFC 7252 sections 4.4, 5.3.1): a token is
@@ -105,4 +107,11 @@ pub fn asked_once()
     ensures sent { SentAtOnce }
     ensures answered { AnsweredAtOnce }
     ensures nothing_else { NothingElseSent }
+{}
+
+/// A resource is observed by a GET that asked for that, of a server whose resources are to be observed,
+/// and was replied to (RFC 7641 section 3.1). At most 64 are.
+pub fn observed_as_asked()
+    ensures asked { ObservesAsked }
+    ensures few { ObservesFew }
 {}

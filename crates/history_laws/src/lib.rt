@@ -11,7 +11,7 @@
 //! `Responses`, when replies are one whole response, and what it says (RFC 7252 section 5.10, RFC 7959);
 //! `Confirmations`, which ACK or RST answers a datagram; `Causes`, which causes refuse a request;
 //! `Numbering`, the number that a token bears. What a history is: `Readings`, `Connections`, `Progress`,
-//! `Transmissions`, `Exchanges`, `Joining`, `Storing`, `Hearing`, `Confirming`, `Sealing`, `Justified`;
+//! `Transmissions`, `Exchanges`, `Joining`, `Observing`, `Storing`, `Hearing`, `Confirming`, `Sealing`, `Justified`;
 //! then the worked journals, and `Laws`, which says what follows.
 #![tactic(auto)]
 
@@ -19,10 +19,10 @@ mod laws;
 mod worked;
 
 pub use laws::{
-    answered_in_order, asked_once, fetched_in_order, one_outstanding, open_exactly,
-    readers_join_one, replies_fit, rests_on_its_own, sendings_apart, writes_in_order,
+    answered_in_order, asked_once, fetched_in_order, observed_as_asked, one_outstanding,
+    open_exactly, readers_join_one, replies_fit, rests_on_its_own, sendings_apart, writes_in_order,
 };
 pub use worked::{
     spoiled_answers, spoiled_sendings, worked_copies, worked_endings, worked_late, worked_messages,
-    worked_pieces, worked_readers, worked_store, worked_uploads,
+    worked_pieces, worked_readers, worked_store, worked_uploads, worked_watches,
 };

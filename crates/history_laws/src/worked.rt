@@ -10,6 +10,7 @@ ghost use Rattle.history_laws.specs.WorkedReaders as R;
 ghost use Rattle.history_laws.specs.WorkedSpoiled as S;
 ghost use Rattle.history_laws.specs.WorkedStore as K;
 ghost use Rattle.history_laws.specs.WorkedUploads as U;
+ghost use Rattle.history_laws.specs.WorkedWatches as W;
 
 /// Copies, an empty ACK, a separate response, its repeat, a message that waits, deadlines.
 pub fn worked_messages()
@@ -110,4 +111,21 @@ pub fn worked_copies()
     ensures id { Refused C.id_used_again }
     ensures heard_as_new { Refused C.copy_heard_as_new }
     ensures copied_late { Refused C.copied_late }
+{}
+
+/// A resource that is observed: an older notification that comes late and doesn't count, and an ask that
+/// is served the newest one; a write that ends it, after which notifications are rejected; a tick that
+/// forgets it. And what is wrong there: a GET that asks to observe where it may not, or doesn't where it
+/// is to; the older notification as an update, or served; what came before a write served after it, a
+/// notification that counts then.
+pub fn worked_watches()
+    ensures served { Holds W.served }
+    ensures written { Holds W.rejected }
+    ensures forgotten { Holds W.forgotten }
+    ensures unasked { Refused W.unasked }
+    ensures left_out { Refused W.left_out }
+    ensures older { Refused W.not_newer }
+    ensures older_served { Refused W.older_served }
+    ensures served_after { Refused W.served_after }
+    ensures counted_after { Refused W.counted_after }
 {}

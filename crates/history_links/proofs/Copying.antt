@@ -16,7 +16,7 @@ use Rattle.history_links.proofs.Tokens.{found-first}
 use Rattle.history_links.proofs.Still.{Still, still-by, SameHeard, rest-still, heard-at}
 
 pub still-copy : (l : List Noted) (t : ℕ) (p : Peer) (b : List ℕ) (i : ℕ) → newest l ≤ t → Still l (noted t (Sends p b None) (Copies i) ∷ l)
-still-copy l t p b i later = still-by (noted t (Sends p b None) (Copies i)) l later refl refl (λ o. refl) (λ o. refl) (λ o. refl) (λ o. tt) (λ r. refl)
+still-copy l t p b i later = still-by (noted t (Sends p b None) (Copies i)) l later refl refl (λ o. refl) (λ o. refl) (λ o. refl) (λ o. tt) (λ r. refl) refl
 
 -- the timer of the copied message
 way-copied : (l : List Noted) (t : ℕ) (p : Peer) (b : List ℕ) (i : ℕ) (x : Transmission) → transmission l i ≡ Some x

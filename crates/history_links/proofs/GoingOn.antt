@@ -105,17 +105,17 @@ goes-last l t p d m o b begins e h =
     waits = and_from _ _ goes (and_from _ _ (and-right (eqb (submitted n o) (length l)) _ e) (ap is_none h.unsent))
 
 pub goes-on-agrees : GoesOnAgrees
-goes-on-agrees start l t p s d m o token text word b none room g =
+goes-on-agrees start l t p s d m o token text word gone b none room forgets resets g =
     let to = answers l p m in
     let u = notice_of l t p m to in
     let x = heard l t p d m in
     let n = x ∷ l in
-    let so = said-so start l t p s d m b none room in
+    let so = said-so start l t p s d m gone b none room forgets resets in
     let h = onward l t p d m o _ b.legal g.opening g.is in
     let order : waiting n p ≡ waiting l p ++ o ∷ [] =
     queue-after l t p p d m to u ∙ ap (λ (v : List ℕ). waiting l p ++ v) (goes-last l t p d m o _ g.opening g.is h) in
     let w = waits token text word in
-    let link = heard_link t m.mid m.token (verdict_of t s m) s in
+    let link = heard_link t m.mid m.token gone (verdict_of t s m) s in
     record {
       owes = so.owes;
       agrees = record {

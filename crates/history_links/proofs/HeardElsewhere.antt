@@ -1,6 +1,6 @@
 -- What is heard from another peer leaves the link.
 use Rattle.std.proofs.Common.{◌≡◌, ℕ, Bool, true, false, eqb, inl, inr, List, [], ◌∷◌, length, Option, Some, None, refl, sym, ap, subst, ◌∙◌, arith}
-use Rattle.std.specs.Prelude.{◌&&◌, filter}
+use Rattle.std.specs.Prelude.{◌&&◌, filter, ◌||◌}
 use Rattle.std.specs.List.{Contains}
 use Rattle.std.proofs.lemmas.Bool.{false≢true}
 use Rattle.std.proofs.lemmas.Bool.Decides.{eqb_tells}
@@ -14,6 +14,7 @@ use Rattle.history_laws.specs.Exchanges.{Begun, begun, openings, waits_for, awai
 use Rattle.history_laws.specs.Hearing.{is_such, is_live, went_under, went_as}
 use Rattle.history_laws.specs.Justified.{Legal}
 use Rattle.history_laws.proofs.CallerLemmas.{and-left, and-right, at-keeps, begun-below, eqb-same, filter-none, first-found, is-some, listed-begun, listed-are, sent-for, some-is, submits-by, turn-replied, waits-first}
+use Rattle.history_links.specs.Agrees.{awaits, notified}
 use Rattle.history_links.specs.Steps.{SaysElsewhere}
 use Rattle.history_links.proofs.Still.{since, heard-at, heard-still}
 use Rattle.history_links.proofs.Replying.{says, is_to, ends_by, ends_what, way-after, waits-after, awaited-after}
@@ -100,7 +101,7 @@ none-here l t p r d m to u legal other =
     (listed-are (λ (o : ℕ). is_submitted_at (says t r d m to u ∷ l) p (length l) o ≡ false) (openings l) (not-here l t p r d m to u legal other))
 
 pub says-elsewhere : SaysElsewhere
-says-elsewhere start l t p r s d m to u b e other =
+says-elsewhere start l t p r s d m to u b e other same =
     let a = b.agrees in
     let n = says t r d m to u ∷ l in
     record {
@@ -113,8 +114,10 @@ says-elsewhere start l t p r s d m to u b e other =
       waits = waits-on start l t r p d m to u s.waiting a.waits (none-here l t p r d m to u b.legal other);
       awaits = λ token.
           a.awaits token
-          ∙ (sym (asked-once (λ (i : ℕ). went_under p token (first_at l i)) (ends_what to m) false (awaited l) (λ i x h. under-elsewhere l p to m other i token h))
-          ∙ sym (awaited-after (λ (i : ℕ). went_under p token (first_at l i)) to m (waits_for n) (waits_for l) (waits-after l t r d m to u) (openings l)));
+          ∙ (ap (λ (v : Bool). v || notified l p token)
+          (sym (asked-once (λ (i : ℕ). went_under p token (first_at l i)) (ends_what to m) false (awaited l) (λ i x h. under-elsewhere l p to m other i token h))
+          ∙ sym (awaited-after (λ (i : ℕ). went_under p token (first_at l i)) to m (waits_for n) (waits_for l) (waits-after l t r d m to u) (openings l)))
+          ∙ ap (λ (v : Bool). awaits n p token || v) (sym (same token)));
       acks = λ mid token.
           a.acks mid token
           ∙ (sym (asked-once (λ (i : ℕ). went_under p token (first_at l i) && went_as p mid (first_at l i)) (ends_what to m) false (awaited l)

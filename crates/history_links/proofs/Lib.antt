@@ -5,6 +5,7 @@ mod Still
 mod Copying
 mod Sending
 mod Sent
+mod Notices
 mod Nexts
 mod Queueing
 mod Silence

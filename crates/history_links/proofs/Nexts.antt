@@ -29,8 +29,8 @@ use Rattle.history_links.proofs.Mids.{count-cons, has-next}
 use Rattle.history_links.proofs.Still.{since, waiting-keeps, waits-one, heard-still}
 use Rattle.history_links.proofs.Copying.{is-outstanding, unheard-sent}
 use Rattle.history_links.proofs.Sending.{head, head-waits, next-of, next-small, message-of, may-be-first}
-use Rattle.history_links.proofs.Sent.{sent, sent-quiet, waiting-sent, not-waiting, waits-sent, one-awaited, count-push, in-use-recent}
-use Rattle.history_links.proofs.OtherPeers.{first-other}
+use Rattle.history_links.proofs.Sent.{sent, sent-quiet, waiting-sent, not-waiting, waits-sent, one-awaited, count-push, in-use-recent, first-other}
+use Rattle.history_links.proofs.Notices.{expects-more}
 
 -- those that wait still
 
@@ -184,7 +184,8 @@ next-follows start l t p s w ws b q small few free e =
               (has-next l u p s.last_mid x.mid legal (a.last u (since l later after)) (next-of s.last_mid w.first_mid)) (a.count_up u (since l later after));
           given = λ u after. given-more l t p x.datagram (Some x.timeout) o m s.given u (a.given u (since l later after)) after.1;
           waits = subst (λ (v : List ℕ). WaitIn start n v ws) (sym still) (still-waits l t p x.datagram (Some x.timeout) o w h.waits m refl legal waits h.others ws others.1 rises.0 h.more);
-          awaits = λ token. more-awaited (is_awaited token) s.awaited _ ∙ (ap (λ (v : Bool). v || bytes_eq w.token token) (a.awaits token) ∙ sym (awaits-more l t p x.datagram (Some x.timeout) o m waits token));
+          awaits = λ token. more-awaited (is_awaited token) s.awaited _ ∙ (ap (λ (v : Bool). v || bytes_eq w.token token) (a.awaits token)
+              ∙ sym (expects-more l t p x.datagram (Some x.timeout) o m token (bytes_eq m.token token) legal (awaits-more l t p x.datagram (Some x.timeout) o m waits token)));
           acks = λ mid token.
               more-awaited (is_awaited_by_ack mid token) s.awaited _
               ∙ (ap (λ (v : Bool). v || (eqb m.mid mid && bytes_eq w.token token)) (a.acks mid token)

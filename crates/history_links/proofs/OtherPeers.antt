@@ -24,14 +24,15 @@ use Rattle.history_laws.specs.Hearing.{went_under, went_as, recalls}
 use Rattle.history_laws.specs.Justified.{Legal}
 use Rattle.history_laws.proofs.CallerLemmas.{and-left, at-below, at-keeps, eqb-itself, find-some, listed-below, none-submitted, opened-queued, queue-same, rank-apart, some-is, submitted-apart, waiting-all, waiting-goes, waiting-unsent}
 use Rattle.history_links.specs.Agrees.{Start, IsLast, TurnIn, IsWaitingFor, WaitIn, awaits, awaits_ack, Agrees}
-use Rattle.history_links.specs.Steps.{AskElsewhere, FirstElsewhere, CopyElsewhere}
+use Rattle.history_links.specs.Steps.{AskElsewhere, FirstElsewhere, CopyElsewhere, IsUnnoticed}
 use Rattle.history_links.proofs.Facts.{waits-below}
 use Rattle.history_links.proofs.Mids.{count-cons}
 use Rattle.history_links.proofs.Still.{since, waiting-keeps, waits-all, waits-one, heard-at, heard-still, rest-still}
 use Rattle.history_links.proofs.Copying.{is-last, still-copy, unheard-sent}
-use Rattle.history_links.proofs.Sent.{sent, sent-quiet, waits-sent, waiting-sent, not-waiting, one-awaited}
+use Rattle.history_links.proofs.Sent.{sent, sent-quiet, waits-sent, waiting-sent, not-waiting, one-awaited, first-other}
+use Rattle.history_links.proofs.Notices.{expects-other}
 use Rattle.history_links.proofs.Tokens.{found-first}
-use Rattle.history_links.proofs.Queueing.{asked, begun-here, others-wait, awaited-same, turn-kept}
+use Rattle.history_links.proofs.Queueing.{asked, begun-here, others-wait, awaited-same, turn-kept, asked-expects}
 
 -- what is outstanding
 
@@ -148,10 +149,6 @@ mids-other : (l : List Noted) (t u : ℕ) (p r : Peer) (b : List ℕ) (w : Optio
 mids-other l t u p r b w o m e =
     count-cons (is_recent u p) (record { number = length l; moment = t; opening = o; peer = r; message = m }) (firsts l) ∙ rw (e) refl
 
-pub first-other : (l : List Noted) (t : ℕ) (r : Peer) (b : List ℕ) (w : Option ℕ) (o : ℕ) (m : Content) (i : ℕ) → i < length l
-    → first_at (sent t r b w o m ∷ l) i ≡ first_at l i
-first-other l t r b w o m i lt = elim (eqb_tells (length l) i) [ inl e ↦ let same = e.1 in absurd (omega (arith, lt, same)) | inr e ↦ rw (e.0) refl ]
-
 newest-other : (l : List Noted) (t : ℕ) (p r : Peer) (b : List ℕ) (w : Option ℕ) (o : ℕ) (m : Content) (token : List ℕ) → same_peer r p ≡ false
     → went_under p token (first_at (sent t r b w o m ∷ l) (length l)) ≡ false
 newest-other l t p r b w o m token e = rw (eqb-itself (length l)) (rw (e) refl)
@@ -194,7 +191,7 @@ first-elsewhere {start = start} l t p r s b u o m w legal later a other waits mi
       given = λ v after. a.given v (since l later after) ∙ sym (mids-other l t v p r b u o m other);
       waits = subst (λ (os : List ℕ). WaitIn start n os s.waiting) (sym (queue-other l t p r b u o m waits other))
           (waits-other l t p r b u o m w legal mine token waits (goes-elsewhere l p r o waits other) (waiting l p) s.waiting (waiting-all l p) a.waits);
-      awaits = λ v. a.awaits v ∙ sym (awaits-other l t p r b u o m waits other v);
+      awaits = λ v. a.awaits v ∙ sym (expects-other l t p r b u o m v legal (awaits-other l t p r b u o m waits other v));
       acks = λ mid v. a.acks mid v ∙ sym (acks-other l t p r b u o m waits other mid v);
       heard = heard-still l n p s.heard (unheard-sent l t r p b u (First o m) later) a.heard;
     }
@@ -209,8 +206,8 @@ waiting-elsewhere l t c a q p legal e =
     queue-same (asked t c a q) l p (opened-queued (asked t c a q) l p q legal refl (λ o. tt) false (not-here l t c a q p e)) (others-wait l t c a q p)
 
 pub asked-elsewhere : {start : Start} (l : List Noted) (t : ℕ) (p : Peer) (s : LinkState) (c : ℕ) (a : Ask) (q : CoapRequest) → Legal l → newest l ≤ t → Agrees start l p s
-    → same_peer q.peer p ≡ false → Agrees start (asked t c a q ∷ l) p s
-asked-elsewhere {start = start} l t p s c a q legal later g e =
+    → same_peer q.peer p ≡ false → IsUnnoticed l (asked t c a q) p → Agrees start (asked t c a q ∷ l) p s
+asked-elsewhere {start = start} l t p s c a q legal later g e same =
     let n = asked t c a q ∷ l in
     record {
       turn = turn-kept l n p s.outstanding (λ i x h. at-keeps (asked t c a q) l i x h) refl (λ i. refl) g.turn;
@@ -219,7 +216,7 @@ asked-elsewhere {start = start} l t p s c a q legal later g e =
       count_up = λ u after. g.count_up u (since l later after);
       given = λ u after. g.given u (since l later after);
       waits = subst (λ (v : List ℕ). WaitIn start n v s.waiting) (sym (waiting-elsewhere l t c a q p legal e)) (waits-all start (asked t c a q) l p refl (waiting l p) s.waiting (waiting-all l p) g.waits);
-      awaits = λ token. g.awaits token ∙ sym (rw (awaited-same l t c a q legal) refl);
+      awaits = λ token. g.awaits token ∙ sym (asked-expects l t c a q p token legal ∙ ap (λ (b : Bool). awaits l p token || b) (same token));
       acks = λ mid token. g.acks mid token ∙ sym (rw (awaited-same l t c a q legal) refl);
       heard = heard-still l n p s.heard (record {
         later = later;
@@ -283,7 +280,7 @@ copied-elsewhere l t p r s b i g later a e other =
     (λ f last. rw (number-differs l p i g f e other last) refl) s.outstanding a.turn) refl refl refl refl refl
 
 pub ask-elsewhere : AskElsewhere
-ask-elsewhere start l t p s c a q b e = asked-elsewhere l t p s c a q b.legal b.later b.agrees e
+ask-elsewhere start l t p s c a q b e same = asked-elsewhere l t p s c a q b.legal b.later b.agrees e same
 
 pub send-elsewhere : FirstElsewhere
 send-elsewhere start l t p r s d u o m w b e waits mine token = first-elsewhere l t p r s d u o m w b.legal b.later b.agrees e waits mine token

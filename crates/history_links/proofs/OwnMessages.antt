@@ -2,6 +2,7 @@
 use Rattle.std.proofs.Common.{◌≡◌, ℕ, Bool, true, false, cond, eqb, leb, List, Option, Some, None, refl, sym, ap, subst, ◌∙◌}
 use Rattle.std.specs.Prelude.{◌&&◌, is_some}
 use Rattle.std.specs.List.{find, list_any}
+use Rattle.std.proofs.lemmas.List.Folds.{list_any-append}
 use Rattle.std.proofs.lemmas.Bool.{false≢true}
 use Rattle.coap_codec.specs.declared.message.MsgType.{MsgType}
 use Rattle.coap_codec.specs.declared.message.MsgType.TheVariants.{Con, Non, Ack, Rst}
@@ -18,7 +19,8 @@ use Rattle.message_layer.specs.declared.verdict.News.TheVariants.{Quiet, Respons
 use Rattle.history_laws.specs.Readings.{Noted}
 use Rattle.history_laws.specs.Transmissions.{first_at}
 use Rattle.history_laws.specs.Exchanges.{awaited}
-use Rattle.history_laws.specs.Hearing.{is_such, went_under, is_under, answers_by}
+use Rattle.history_laws.specs.Observing.{watched}
+use Rattle.history_laws.specs.Hearing.{is_such, went_under, is_under, answers_by, expected}
 use Rattle.history_laws.specs.Justified.{Legal}
 use Rattle.history_laws.proofs.CallerLemmas.{any-find, find-some}
 use Rattle.history_links.specs.Agrees.{Start, reply_of, IsOut, Agrees}
@@ -40,7 +42,7 @@ abbrev pub empties : MsgType → Reply
 empties Con = R.Rst
 empties _ = R.Nothing
 
-own-to : (l : List Noted) (p : Peer) (m : Content) (k : MsgType) (e r : Bool) → IsOwn k → answers_by l p m k e r ≡ cond r (find (is_under l p m) (awaited l)) None
+own-to : (l : List Noted) (p : Peer) (m : Content) (k : MsgType) (e r : Bool) → IsOwn k → answers_by l p m k e r ≡ cond r (find (is_under l p m) (expected l)) None
 own-to l p m Con e true i = refl
 own-to l p m Con e false i = refl
 own-to l p m Non e true i = refl
@@ -84,20 +86,23 @@ pub own-judged : {start : Start} (l : List Noted) (p : Peer) (s : LinkState) (m 
     → Judged l p s m (answers_by l p m m.kind (eqb m.code 0) (leb 32 m.code)) (new_verdict s m (accepts m.kind) (empties m.kind))
 own-judged l p s m legal a own =
     subst (λ (to : Option ℕ). Judged l p s m to (new_verdict s m (accepts m.kind) (empties m.kind))) (sym (own-to l p m m.kind (eqb m.code 0) (leb 32 m.code) own))
-    (by (eqb m.code 0) refl (leb 32 m.code) refl (find (is_under l p m) (awaited l)) refl)
+    (by (eqb m.code 0) refl (leb 32 m.code) refl (find (is_under l p m) (expected l)) refl)
   where
-    told : find (is_under l p m) (awaited l) ≡ None → list_any (is_awaited m.token) s.awaited ≡ false
-    told e = a.awaits m.token ∙ (any-find (is_under l p m) (awaited l) ∙ ap (λ (v : Option ℕ). is_some v) e)
+    found-so : list_any (is_awaited m.token) s.awaited ≡ is_some (find (is_under l p m) (expected l))
+    found-so = a.awaits m.token ∙ (sym (list_any-append (is_under l p m) (awaited l) (watched l)) ∙ any-find (is_under l p m) (expected l))
 
-    tells : (i : ℕ) → find (is_under l p m) (awaited l) ≡ Some i → list_any (is_awaited m.token) s.awaited ≡ true
-    tells i e = a.awaits m.token ∙ (any-find (is_under l p m) (awaited l) ∙ ap (λ (v : Option ℕ). is_some v) e)
+    told : find (is_under l p m) (expected l) ≡ None → list_any (is_awaited m.token) s.awaited ≡ false
+    told e = found-so ∙ ap (λ (v : Option ℕ). is_some v) e
+
+    tells : (i : ℕ) → find (is_under l p m) (expected l) ≡ Some i → list_any (is_awaited m.token) s.awaited ≡ true
+    tells i e = found-so ∙ ap (λ (v : Option ℕ). is_some v) e
 
     outstanding : (i : ℕ) → went_under p m.token (first_at l i) ≡ true → (o : Outstanding) (b : IsOut l p o) → (v : Option Outstanding) → v ≡ Some o
         → is_outstanding_under m.token v ≡ eqb i b.first.number
     outstanding i e o b None f = cc
     outstanding i e o b (Some w) f = ap (is_outstanding_under m.token) f ∙ (sym (out-under l p o b m.token) ∙ same-under l p i b.first.number m.token legal e)
 
-    by : (e : Bool) → eqb m.code 0 ≡ e → (r : Bool) → leb 32 m.code ≡ r → (v : Option ℕ) → find (is_under l p m) (awaited l) ≡ v
+    by : (e : Bool) → eqb m.code 0 ≡ e → (r : Bool) → leb 32 m.code ≡ r → (v : Option ℕ) → find (is_under l p m) (expected l) ≡ v
         → Judged l p s m (cond r v None)
         (cond e (record { reply = empties m.kind; remembered = true; ends = false; news = Quiet })
         (cond (r && list_any (is_awaited m.token) s.awaited)
@@ -123,7 +128,7 @@ own-judged l p s m legal a own =
       remembered = own-such m.kind own;
     })
     by false e true f (Some i) g =
-        let under = (find-some (is_under l p m) (awaited l) i g).1 in
+        let under = (find-some (is_under l p m) (expected l) i g).1 in
         rw (tells i g) (record {
           ends = λ o b h. outstanding i under o b s.outstanding h;
           awaits = λ j token h k. ends-under l p m i m.token legal (own-ends m.kind m.code own ∙ f) under j token k;

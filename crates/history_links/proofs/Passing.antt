@@ -2,14 +2,9 @@
 use Rattle.std.proofs.Common.{◌≡◌, ℕ, Bool, true, false, cond, List, [], ◌∷◌, length, Option, Some, None, refl, sym, ap, subst, ◌∙◌}
 use Rattle.std.specs.Prelude.{◌&&◌, ◌||◌, not, is_none, option_and_then, filter}
 use Rattle.std.specs.List.{AllByRecursion, list_any, filter_map}
-use Rattle.std.specs.Str.{bytes_eq}
 use Rattle.std.proofs.lemmas.Bool.{false≢true}
-use Rattle.std.proofs.lemmas.Map.Views.{any-filter_same}
-use Rattle.std.proofs.lemmas.Slice.Eq.{bytes_eq-Decides}
 use Rattle.uri_map.specs.declared.peer.Peer.{Peer}
 use Rattle.journal_book.specs.Entries.{Passes}
-use Rattle.message_layer.specs.Hearing.{is_awaited, mid_is, is_awaited_by_ack}
-use Rattle.message_layer.specs.declared.state.Awaited.{Awaited}
 use Rattle.message_layer.specs.declared.state.Outstanding.{Outstanding}
 use Rattle.message_layer.specs.declared.state.Waiting.{Waiting}
 use Rattle.history_laws.specs.Readings.{Noted, Plain, noted}
@@ -17,9 +12,10 @@ use Rattle.history_laws.specs.Progress.{Reply}
 use Rattle.history_laws.specs.Transmissions.{FirstSending, first_at, last_sent, transmission, if_outstanding}
 use Rattle.history_laws.specs.Exchanges.{Begun, begun, is_late, Expired, Nothing, expires, turn, waits_by, waits_for, End, end_here, end_by, end_of, replies, is_going, goes_to, is_waiting, waiting, openings}
 use Rattle.history_laws.specs.Hearing.{went_under, went_as}
-use Rattle.history_laws.proofs.CallerLemmas.{all-more, and-left, and-right, at-keeps, filter-by, none-submitted, NoReply, queue-kept, waiting-all}
-use Rattle.history_links.specs.Agrees.{Start, way_of, TurnIn, IsWaitingFor, WaitIn}
+use Rattle.history_laws.proofs.CallerLemmas.{all-more, and-left, at-keeps, filter-by, none-submitted, NoReply, queue-kept, waiting-all}
+use Rattle.history_links.specs.Agrees.{Start, way_of, TurnIn, IsWaitingFor, WaitIn, awaits, notified}
 use Rattle.history_links.specs.Steps.{is_over, EndWaiting, PassAgrees}
+use Rattle.history_links.proofs.Queueing.{but-awaits, but-acks}
 use Rattle.history_links.proofs.Copying.{is-last, is-outstanding}
 use Rattle.history_links.proofs.Still.{since, waiting-keeps, waits-one, heard-at, heard-still}
 use Rattle.history_links.proofs.Saying.{none-out}
@@ -170,8 +166,9 @@ awaits-passed f ended now old over is same (q ∷ os) = by (old q) refl (awaits-
     by None e ih = rw (is q, e, nothing (over q None)) ih
     by (Some i) e ih = some i e (f i) refl (over q (Some i)) refl (λ h. same q i e h) ih
 
-token-is : (a b : List ℕ) → bytes_eq a b ≡ true → a ≡ b
-token-is a b e = (bytes_eq-Decides a b).0 e
+or-and : (c a b : Bool) → (c && (a || b)) ≡ ((c && a) || (c && b))
+or-and true a b = refl
+or-and false a b = refl
 
 pub pass-agrees : PassAgrees
 pass-agrees start l t p s gone b e =
@@ -186,13 +183,15 @@ pass-agrees start l t p s gone b e =
       waits = subst (λ (os : List ℕ). WaitIn start n os (filter (λ (w : Waiting). not (gone w.token)) s.waiting))
           (sym (queue-passed l t p)) (waits-on start l t p gone (waiting l p) s.waiting (waiting-all l p) a.waits e.waiting);
       awaits = λ token.
-          any-filter_same (is_awaited token) (λ (x : Awaited). not (gone x.token)) (not (gone token)) (λ x h. ap (λ (v : List ℕ). not (gone v)) (token-is x.token token h)) s.awaited
+          but-awaits gone token s.awaited
           ∙ (ap (λ (v : Bool). not (gone token) && v) (a.awaits token)
-          ∙ sym (awaits-passed (λ (i : ℕ). went_under p token (first_at l i)) (gone token) (waits_for n) (waits_for l) (λ q w. expires l q t w) (waits-passed l t)
-          (λ q i v h. e.awaited q i token v h) (openings l)));
+          ∙ (or-and (not (gone token)) (awaits l p token) (notified l p token)
+          ∙ sym (ap (λ (v : Bool). v || notified n p token)
+          (awaits-passed (λ (i : ℕ). went_under p token (first_at l i)) (gone token) (waits_for n) (waits_for l) (λ q w. expires l q t w) (waits-passed l t)
+          (λ q i v h. e.awaited q i token v h) (openings l))
+          ∙ ap (λ (v : Bool). (not (gone token) && awaits l p token) || v) (e.watched token))));
       acks = λ mid token.
-          any-filter_same (is_awaited_by_ack mid token) (λ (x : Awaited). not (gone x.token)) (not (gone token))
-          (λ x h. ap (λ (v : List ℕ). not (gone v)) (token-is x.token token (and-right (mid_is mid x.mid) (bytes_eq x.token token) h))) s.awaited
+          but-acks gone mid token s.awaited
           ∙ (ap (λ (v : Bool). not (gone token) && v) (a.acks mid token)
           ∙ sym (awaits-passed (λ (i : ℕ). went_under p token (first_at l i) && went_as p mid (first_at l i)) (gone token) (waits_for n) (waits_for l) (λ q w. expires l q t w) (waits-passed l t)
           (λ q i v h. e.awaited q i token v (and-left (went_under p token (first_at l i)) _ h)) (openings l)));

@@ -1,30 +1,38 @@
 -- An ask that opens an exchange puts its message behind those that wait.
-use Rattle.std.proofs.Common.{◌≡◌, ℕ, ◌<◌, ◌≤◌, ◌+◌, ◌-◌, Bool, true, false, cond, ltb, inl, inr, List, [], ◌∷◌, ◌++◌, length, Option, Some, None, refl, sym, ap, subst, ◌∙◌, arith, append-nil}
-use Rattle.std.specs.Prelude.{filter, count_by, option_and_then}
-use Rattle.std.specs.List.{filter_map}
+use Rattle.std.proofs.Common.{◌≡◌, ℕ, ◌<◌, ◌≤◌, ◌+◌, ◌-◌, Bool, true, false, cond, ltb, inl, inr, List, [], ◌∷◌, ◌++◌, length, Option, Some, None, refl, sym, ap, subst, ◌∙◌, arith, append-nil, eqb}
+use Rattle.std.specs.Prelude.{filter, count_by, option_and_then, ◌||◌, ◌&&◌, not}
+use Rattle.std.specs.List.{filter_map, list_any}
 use Rattle.std.proofs.lemmas.List.Sums.{length-filter}
 use Rattle.std.proofs.lemmas.Bool.{lt-ltb, ltb-true}
 use Rattle.std.proofs.lemmas.Bool.Decides.{eqb_tells}
+use Rattle.std.proofs.lemmas.Bool.{false≢true}
+use Rattle.std.proofs.lemmas.Map.Views.{any-filter_same}
+use Rattle.std.proofs.lemmas.Slice.Eq.{bytes_eq-Decides}
+use Rattle.std.specs.Str.{bytes_eq}
 use Rattle.std.proofs.lemmas.List.Elements.{filter_map-append}
 use Rattle.uri_map.specs.declared.peer.Peer.{Peer}
 use Rattle.uri_map.specs.Peers.{same_peer}
-use Rattle.ask_model.specs.Requests.{CoapRequest, first_message}
+use Rattle.ask_model.specs.Requests.{CoapRequest, opening_message}
 use Rattle.ask_model.specs.Views.{Ask}
 use Rattle.uri_map.proofs.CallerLemmas.{same_peer-itself}
 use Rattle.journal_book.specs.Entries.{Asks}
 use Rattle.message_layer.specs.Mids.{is_in_use, pruned}
+use Rattle.message_layer.specs.Hearing.{is_awaited, is_awaited_by_ack, mid_is}
 use Rattle.message_layer.specs.Sending.{waits}
+use Rattle.message_layer.specs.declared.state.Awaited.{Awaited}
 use Rattle.message_layer.specs.declared.state.Waiting.{Waiting}
 use Rattle.message_layer.specs.declared.state.Outstanding.{Outstanding}
 use Rattle.message_layer.proofs.Effects.{filter-kept}
-use Rattle.history_laws.specs.Readings.{Noted, Begins, at, noted}
-use Rattle.history_laws.specs.Transmissions.{FirstSending, firsts, if_outstanding, transmission, last_sent}
+use Rattle.history_laws.specs.Readings.{Noted, Begins, at, noted, before}
+use Rattle.history_laws.specs.Transmissions.{FirstSending, firsts, if_outstanding, transmission, last_sent, first_at}
 use Rattle.history_laws.specs.Progress.{Reply, progress, next_message}
 use Rattle.history_laws.specs.Exchanges.{begun, openings, waits_for, replies, awaited, is_waiting, is_submitted_at, waiting}
+use Rattle.history_laws.specs.Observing.{observes, unless_replied, wants_by, wants_in}
+use Rattle.history_laws.specs.Hearing.{went_under, went_as}
 use Rattle.history_laws.specs.Justified.{Legal}
-use Rattle.history_laws.proofs.CallerLemmas.{all-more, asks-first, at-keeps, begun-below, eqb-itself, filter-all, not-yet, opened-queued, opened-rank, replies-none, unbegun, waiting-all, waiting-begun}
-use Rattle.history_links.specs.Agrees.{Start, TurnIn, IsWaitingFor, WaitIn}
-use Rattle.history_links.specs.Steps.{QueuedAgrees}
+use Rattle.history_laws.proofs.CallerLemmas.{all-more, asks-first, at-keeps, begun-below, eqb-itself, filter-all, not-yet, opened-queued, opened-rank, replies-none, unbegun, waiting-all, waiting-begun, and-right, at-new, before-new}
+use Rattle.history_links.specs.Agrees.{Start, TurnIn, IsWaitingFor, WaitIn, awaits, awaits_ack, expects, notified}
+use Rattle.history_links.specs.Steps.{QueuedAgrees, but_gone, Forgets}
 use Rattle.history_links.proofs.Still.{since, waits-all, heard-at, heard-still}
 
 -- lists with one more
@@ -111,13 +119,78 @@ awaited-same l t c a q legal = none-more (waits_for l) (openings l) (length l) (
 replied : (l : List Noted) (t c : ℕ) (a : Ask) (q : CoapRequest) → Legal l → replies (asked t c a q ∷ l) (length l) ≡ []
 replied l t c a q legal = (replies-none l (length l) legal (not-yet l)).1
 
+-- Its first message asks to observe where that is wanted, and then it is a GET.
+wants-here : (l : List Noted) (t c : ℕ) (a : Ask) (q : CoapRequest) → Legal l → observes (asked t c a q ∷ l) (length l) ≡ wants_by l (Asks c a) (Begins q)
+wants-here l t c a q legal =
+    let n = asked t c a q ∷ l in
+    ap (λ (rs : List Reply). unless_replied (wants_in (before n (length l)) (at n (length l))) rs) (replied l t c a q legal)
+    ∙ (ap (λ (v : Option Noted). wants_in (before n (length l)) v) (at-new (asked t c a q) l) ∙ ap (λ (h : List Noted). wants_by h (Asks c a) (Begins q)) (before-new (asked t c a q) l))
+
+wants-get : (l : List Noted) (c : ℕ) (a : Ask) (q : CoapRequest) → eqb q.method 1 ≡ false → wants_by l (Asks c a) (Begins q) ≡ false
+wants-get l c a q e = rw (e) refl
+
+pub asked-expects : (l : List Noted) (t c : ℕ) (a : Ask) (q : CoapRequest) (p : Peer) (token : List ℕ) → Legal l
+    → expects (asked t c a q ∷ l) p token ≡ (awaits l p token || notified (asked t c a q ∷ l) p token)
+asked-expects l t c a q p token legal = rw (awaited-same l t c a q legal) refl
+
+-- What the link lets go of is awaited no more, and nothing else.
+pub but-awaits : (gone : List ℕ → Bool) (token : List ℕ) (xs : List Awaited)
+    → list_any (is_awaited token) (but_gone gone xs) ≡ (not (gone token) && list_any (is_awaited token) xs)
+but-awaits gone token xs =
+    any-filter_same (is_awaited token) (λ (x : Awaited). not (gone x.token)) (not (gone token))
+    (λ x h. ap (λ (v : List ℕ). not (gone v)) ((bytes_eq-Decides x.token token).0 h)) xs
+
+pub but-acks : (gone : List ℕ → Bool) (mid : ℕ) (token : List ℕ) (xs : List Awaited)
+    → list_any (is_awaited_by_ack mid token) (but_gone gone xs) ≡ (not (gone token) && list_any (is_awaited_by_ack mid token) xs)
+but-acks gone mid token xs =
+    any-filter_same (is_awaited_by_ack mid token) (λ (x : Awaited). not (gone x.token)) (not (gone token))
+    (λ x h. ap (λ (v : List ℕ). not (gone v)) ((bytes_eq-Decides x.token token).0 (and-right (mid_is mid x.mid) (bytes_eq x.token token) h))) xs
+
+-- Under what is awaited still, something is expected, so that isn't gone.
+pub kept-still : (l : List Noted) (x : Noted) (p : Peer) (gone : List ℕ → Bool) → Forgets l x p gone → (token : List ℕ) → awaits (x ∷ l) p token ≡ true
+    → gone token ≡ false
+kept-still l x p gone forgets token e = by (gone token) (sym (rw (e) refl) ∙ forgets token)
+  where
+    by : (b : Bool) → true ≡ (not b && expects l p token) → b ≡ false
+    by true h = absurd (false≢true (sym h))
+    by false h = refl
+
+pub acks-awaits : (l : List Noted) (p : Peer) (mid : ℕ) (token : List ℕ) → awaits_ack l p mid token ≡ true → awaits l p token ≡ true
+acks-awaits l p mid token e = all (awaited l) e
+  where
+    all : (os : List ℕ) → list_any (λ (i : ℕ). went_under p token (first_at l i) && went_as p mid (first_at l i)) os ≡ true
+        → list_any (λ (i : ℕ). went_under p token (first_at l i)) os ≡ true
+    all [] e = e
+    all (o ∷ os) e = by (went_under p token (first_at l o)) (went_as p mid (first_at l o)) e (all os)
+      where
+        by : (b c : Bool) → ((b && c) || list_any (λ (i : ℕ). went_under p token (first_at l i) && went_as p mid (first_at l i)) os) ≡ true
+            → (list_any (λ (i : ℕ). went_under p token (first_at l i) && went_as p mid (first_at l i)) os ≡ true
+            → list_any (λ (i : ℕ). went_under p token (first_at l i)) os ≡ true) → (b || list_any (λ (i : ℕ). went_under p token (first_at l i)) os) ≡ true
+        by true c e ih = refl
+        by false c e ih = ih e
+
+-- Where the ACKs that are awaited stay the same, they do without what is gone.
+pub acks-kept : (l : List Noted) (x : Noted) (p : Peer) (gone : List ℕ → Bool) → Forgets l x p gone → (mid : ℕ) (token : List ℕ)
+    → awaits_ack (x ∷ l) p mid token ≡ awaits_ack l p mid token → (not (gone token) && awaits_ack l p mid token) ≡ awaits_ack (x ∷ l) p mid token
+acks-kept l x p gone forgets mid token same = by (awaits_ack l p mid token) refl (gone token) refl ∙ sym same
+  where
+    by : (a : Bool) → awaits_ack l p mid token ≡ a → (g : Bool) → gone token ≡ g → (not g && a) ≡ a
+    by false e true f = refl
+    by false e false f = refl
+    by true e false f = refl
+    by true e true f =
+        absurd (false≢true (sym (kept-still l x p gone forgets token (acks-awaits (x ∷ l) p mid token (same ∙ e))) ∙ f))
+
 pub queued-agrees : QueuedAgrees
-queued-agrees start l t p s c a q token text word b to spelled size apart number =
+queued-agrees start l t p s c a q token text word gone b to spelled size apart number forgets =
     let legal = b.legal in
     let later = b.later in
     let g = b.agrees in
     let n = asked t c a q ∷ l in
     let w = waits token text word in
+    let wants = wants_by l (Asks c a) (Begins q) in
+    let observed : observes n (length l) ≡ wants = wants-here l t c a q legal in
+    let gets : eqb q.method 1 ≡ false → wants ≡ false = λ e. wants-get l c a q e in
     record {
       turn = turn-kept l n p s.outstanding (λ i x e. at-keeps (asked t c a q) l i x e) refl (λ i. refl) g.turn;
       known = g.known;
@@ -129,8 +202,9 @@ queued-agrees start l t p s c a q token text word b to spelled size apart number
             since = t;
             request = q;
             opening = begun-here l t c a q;
-            message = first_message q 0 token;
-            next = ap (λ (rs : List Reply). next_message q (progress q rs) 0 token) (replied l t c a q legal) ∙ asks-first q 0 token;
+            message = opening_message wants q 0 token;
+            next = ap (λ (f : Bool). next_message f q (progress q (replies n (length l))) 0 token) observed
+                ∙ (ap (λ (rs : List Reply). next_message wants q (progress q rs) 0 token) (replied l t c a q legal) ∙ asks-first wants q 0 token gets);
             spelled = spelled;
             token_size = size;
             token_apart = apart;
@@ -138,8 +212,10 @@ queued-agrees start l t p s c a q token text word b to spelled size apart number
             least = omega arith;
             greatest = omega arith;
           });
-      awaits = λ token. g.awaits token ∙ sym (rw (awaited-same l t c a q legal) refl);
-      acks = λ mid token. g.acks mid token ∙ sym (rw (awaited-same l t c a q legal) refl);
+      awaits = λ token. but-awaits gone token s.awaited ∙ (ap (λ (b : Bool). not (gone token) && b) (g.awaits token) ∙ sym (forgets token));
+      acks = λ mid token.
+          but-acks gone mid token s.awaited
+          ∙ (ap (λ (b : Bool). not (gone token) && b) (g.acks mid token) ∙ acks-kept l (asked t c a q) p gone forgets mid token (rw (awaited-same l t c a q legal) refl));
       heard = heard-still l n p s.heard (record {
         later = later;
         before = λ u mid. refl;

@@ -3,7 +3,8 @@ use Rattle.std.proofs.Common.{◌≡◌, ℕ, Bool, true, false, cond, eqb, leb,
 use Rattle.std.specs.Prelude.{◌&&◌, ◌||◌, filter, not, is_some, option_and_then, count_by}
 use Rattle.std.specs.List.{find, list_any}
 use Rattle.std.specs.Str.{bytes_eq}
-use Rattle.std.proofs.lemmas.Bool.{or_right, and_right, or_left}
+use Rattle.std.proofs.lemmas.Slice.Eq.{bytes_eq-Decides}
+use Rattle.std.proofs.lemmas.Bool.{or_right, and_right, or_left, false≢true}
 use Rattle.limits.specs.declared.TheConstants.{MAX_REMEMBERED}
 use Rattle.coap_codec.specs.declared.message.MsgType.{MsgType}
 use Rattle.coap_codec.specs.declared.message.MsgType.TheVariants.{Con, Non, Ack, Rst}
@@ -12,29 +13,30 @@ use Rattle.coap_codec.specs.Recognition.{is_rejected}
 use Rattle.uri_map.specs.declared.peer.Peer.{Peer}
 use Rattle.history_laws.specs.Confirmations.{answer_by}
 use Rattle.message_layer.specs.Values.{LinkState}
+use Rattle.message_layer.specs.Awaiting.{tells_under}
 use Rattle.message_layer.specs.Mids.{is_in_use}
-use Rattle.message_layer.specs.Hearing.{is_fresh, is_repeat, is_awaited, is_awaited_by_ack, answered_in, remembered_in, new_verdict, heard_verdict, verdict_by, verdict_of}
+use Rattle.message_layer.specs.Hearing.{is_fresh, is_repeat, is_awaited, is_awaited_by_ack, says as says_news, answered_in, remembered_in, new_verdict, heard_verdict, verdict_by, verdict_of}
 use Rattle.message_layer.specs.declared.state.Heard.{Heard}
-use Rattle.message_layer.specs.declared.state.Awaited.{Awaited}
 use Rattle.message_layer.specs.declared.state.Outstanding.{Outstanding}
 use Rattle.message_layer.specs.declared.state.Waiting.{Waiting}
 use Rattle.message_layer.specs.declared.state.Reply.TheVariants as R
 use Rattle.message_layer.specs.declared.verdict.News.{News}
 use Rattle.message_layer.specs.declared.verdict.News.TheVariants.{Quiet, Response, Reset, Lost}
 use Rattle.message_layer.specs.declared.verdict.Verdict.{Verdict}
-use Rattle.message_layer.proofs.AwaitTable.{news-awaited, news-acks, expected-awaited, expected-acks}
+use Rattle.message_layer.proofs.AwaitTable.{news-awaited, news-acks}
 use Rattle.history_laws.specs.Readings.{Noted, Notice}
 use Rattle.history_laws.specs.Transmissions.{FirstSending, Transmission, first_at, last_sent, transmission, if_outstanding, outstanding, mids_used}
 use Rattle.history_laws.specs.Exchanges.{openings, waits_for, awaited, waiting, is_submitted_at}
 use Rattle.history_laws.specs.Hearing.{is_such, heard_before, live_heard, repeated, can_be_remembered, went_under, went_as, answers_by, answers, notice_of, knows}
 use Rattle.history_laws.specs.Justified.{Legal}
 use Rattle.history_laws.proofs.CallerLemmas.{and-left, at-keeps, eqb-itself, waiting-all}
-use Rattle.history_links.specs.Agrees.{Start, IsFrom, way_of, due, IsOut, TurnIn, CountUp, IsLast, recent_to, WaitIn, awaits, awaits_ack, HeardIn, Agrees}
-use Rattle.history_links.specs.Steps.{Before, ended_token, unawaited, heard, heard_link, SaysAgrees}
+use Rattle.history_links.specs.Agrees.{Start, IsFrom, way_of, due, IsOut, TurnIn, CountUp, IsLast, recent_to, WaitIn, awaits, awaits_ack, HeardIn, Agrees, expects}
+use Rattle.history_links.specs.Steps.{Before, ended_token, heard, heard_link, SaysAgrees, Forgets, EndsReset}
 use Rattle.history_laws.specs.Confirming.{owed}
 use Rattle.history_links.proofs.Still.{since, waits-all, heard-at, heard-still}
 use Rattle.history_links.proofs.Copying.{is-last, is-outstanding}
 use Rattle.history_links.proofs.Repeating.{due-given, confirming-by, found-reply}
+use Rattle.history_links.proofs.Queueing.{acks-awaits, but-acks, but-awaits, kept-still}
 use Rattle.history_links.proofs.Remembering.{remembers, none-before}
 use Rattle.history_links.proofs.Replying.{says, is_to, ends_what, way-after, waits-after, awaited-after, none-goes, queue-after}
 use Rattle.history_links.proofs.Judging.{is_ended, Judged}
@@ -43,40 +45,31 @@ use Rattle.history_links.proofs.Acknowledgements.{ack-judged, rst-judged}
 
 -- who is awaited
 
-or-last : (b x : Bool) → cond b false x ≡ (not b && x)
-or-last true x = refl
-or-last false x = refl
+-- Of the ACKs that the link awaits it keeps those that the history does: by a response under the token, or a Reset message
+-- to it, none is awaited.
+settles : (g a t e : Bool) → (t ≡ true → e ≡ true) → (a ≡ true → e ≡ true → t ≡ false → g ≡ true) → (a ≡ true → e ≡ false → g ≡ false)
+    → (not g && (a && not t)) ≡ (not e && a)
+settles true false t true tells ends keeps = refl
+settles true false t false tells ends keeps = refl
+settles false false t true tells ends keeps = refl
+settles false false t false tells ends keeps = refl
+settles true true true true tells ends keeps = refl
+settles false true true true tells ends keeps = refl
+settles true true false true tells ends keeps = refl
+settles false true false true tells ends keeps = absurd (false≢true (ends refl refl refl))
+settles g true true false tells ends keeps = absurd (false≢true (tells refl))
+settles true true false false tells ends keeps = absurd (false≢true (sym (keeps refl refl)))
+settles false true false false tells ends keeps = refl
 
-pub link-awaits : (news : News) (m : Content) (token : List ℕ) (xs : List Awaited)
-    → list_any (is_awaited token) (unawaited (ended_token news m.token) (answered_in m.token news xs)) ≡ (not (is_ended (ended_token news m.token) token) && list_any (is_awaited token) xs)
-link-awaits Quiet m token xs = refl
-link-awaits Lost m token xs = refl
-link-awaits Response m token xs =
-    expected-awaited m.token token false (answered_in m.token Response xs)
-    ∙ (ap (cond (bytes_eq token m.token) false) (news-awaited Response m token xs) ∙ or-last (bytes_eq token m.token) (list_any (is_awaited token) xs))
-link-awaits (Reset of) m token xs = expected-awaited of token false xs ∙ or-last (bytes_eq token of) (list_any (is_awaited token) xs)
-
-pub link-acks : (news : News) (m : Content) (mid : ℕ) (token : List ℕ) (xs : List Awaited)
-    → list_any (is_awaited_by_ack mid token) (unawaited (ended_token news m.token) (answered_in m.token news xs))
-    ≡ (not (is_ended (ended_token news m.token) token) && list_any (is_awaited_by_ack mid token) xs)
-link-acks Quiet m mid token xs = refl
-link-acks Lost m mid token xs = refl
-link-acks Response m mid token xs =
-    expected-acks m.token token mid false (answered_in m.token Response xs)
-    ∙ (ap (λ (v : Bool). v && not (bytes_eq token m.token)) (news-acks Response m mid token xs) ∙ by (list_any (is_awaited_by_ack mid token) xs) (bytes_eq token m.token))
-  where
-    by : (x b : Bool) → ((x && not b) && not b) ≡ (not b && x)
-    by true true = refl
-    by true false = refl
-    by false true = refl
-    by false false = refl
-link-acks (Reset of) m mid token xs = expected-acks of token mid false xs ∙ by (list_any (is_awaited_by_ack mid token) xs) (bytes_eq token of)
-  where
-    by : (x b : Bool) → (x && not b) ≡ (not b && x)
-    by true true = refl
-    by true false = refl
-    by false true = refl
-    by false false = refl
+heard-acks : (news : News) (m : Content) (token : List ℕ) (g a : Bool) → ((of : List ℕ) → news ≡ Reset of → bytes_eq token of ≡ true → a ≡ true → g ≡ true)
+    → (a ≡ true → is_ended (ended_token news m.token) token ≡ false → g ≡ false)
+    → (not g && (a && not (tells_under token (says_news news m)))) ≡ (not (is_ended (ended_token news m.token) token) && a)
+heard-acks Quiet m token g a resets keeps = settles g a false false (λ e. e) (λ k e f. absurd (false≢true e)) keeps
+heard-acks Lost m token g a resets keeps = settles g a false false (λ e. e) (λ k e f. absurd (false≢true e)) keeps
+heard-acks Response m token g a resets keeps =
+    settles g a (bytes_eq token m.token) (bytes_eq token m.token) (λ e. e) (λ k e f. absurd (false≢true (sym f ∙ e))) keeps
+heard-acks (Reset of) m token g a resets keeps =
+    settles g a false (bytes_eq token of) (λ e. absurd (false≢true e)) (λ k e f. resets of refl e k) keeps
 
 -- A test that is the same for all that pass another can be asked once.
 pub asked-once : (f g : ℕ → Bool) (c : Bool) (xs : List ℕ) → ((i : ℕ) → list_any (eqb i) xs ≡ true → f i ≡ true → g i ≡ c)
@@ -201,15 +194,28 @@ pub record AgreesBut (start : Start) (l : List Noted) (p : Peer) (s : LinkState)
   pub last : (t : ℕ) → IsFrom start l t → IsLast t p s.last_mid (last_sent l p)
   pub count_up : (t : ℕ) → IsFrom start l t → CountUp (recent_to l t p)
   pub given : (t : ℕ) → IsFrom start l t → count_by (is_in_use t) s.given ≡ mids_used l t p
-  pub awaits : (token : List ℕ) → list_any (is_awaited token) s.awaited ≡ awaits l p token
+  pub awaits : (token : List ℕ) → list_any (is_awaited token) s.awaited ≡ expects l p token
   pub acks : (mid : ℕ) (token : List ℕ) → list_any (is_awaited_by_ack mid token) s.awaited ≡ awaits_ack l p mid token
   pub heard : HeardIn start l p s.heard
 
+-- Under the token that a message ends no reply is awaited any more.
+pub awaits-after : (l : List Noted) (t : ℕ) (p : Peer) (s : LinkState) (d : List ℕ) (m : Content) (to : Option ℕ) (u : Notice) (v : Verdict) → Judged l p s m to v
+    → (token : List ℕ) → awaits (says t p d m to u ∷ l) p token ≡ (not (is_ended (ended_token v.news m.token) token) && awaits l p token)
+awaits-after l t p s d m to u v j token =
+    awaited-after (λ (i : ℕ). went_under p token (first_at l i)) to m (waits_for (says t p d m to u ∷ l)) (waits_for l) (waits-after l t p d m to u) (openings l)
+    ∙ asked-once (λ (i : ℕ). went_under p token (first_at l i)) (ends_what to m) (is_ended (ended_token v.news m.token) token) (awaited l)
+    (λ i e h. j.awaits i token e h)
+
 after-judged : {start : Start} (l : List Noted) (t : ℕ) (p : Peer) (s : LinkState) (d : List ℕ) (m : Content) (to : Option ℕ) (u : Notice) (v : Verdict)
-    → IsFrom start l t → Judged l p s m to v → Agrees start l p s
-    → repeated l t p m ≡ None → AgreesBut start (says t p d m to u ∷ l) p (heard_link t m.mid m.token v s)
-after-judged {start = start} l t p s d m to u v later j a none =
+    (gone : List ℕ → Bool) → IsFrom start l t → Judged l p s m to v → Agrees start l p s
+    → Forgets l (says t p d m to u) p gone → EndsReset l p v.news gone
+    → repeated l t p m ≡ None → AgreesBut start (says t p d m to u ∷ l) p (heard_link t m.mid m.token gone v s)
+after-judged {start = start} l t p s d m to u v gone later j a forgets resets none =
     let n = says t p d m to u ∷ l in
+    let acked = λ (mid : ℕ) (token : List ℕ).
+    awaited-after (λ (i : ℕ). went_under p token (first_at l i) && went_as p mid (first_at l i)) to m (waits_for n) (waits_for l) (waits-after l t p d m to u) (openings l)
+    ∙ asked-once (λ (i : ℕ). went_under p token (first_at l i) && went_as p mid (first_at l i)) (ends_what to m) (is_ended (ended_token v.news m.token) token) (awaited l)
+    (λ i e h. j.awaits i token e (and-left (went_under p token (first_at l i)) _ h)) in
     record {
       turn = turn-after l t p s d m to u v j a;
       known = a.known;
@@ -217,16 +223,17 @@ after-judged {start = start} l t p s d m to u v later j a none =
       count_up = λ w after. a.count_up w (since l later.1 after);
       given = λ w after. a.given w (since l later.1 after);
       awaits = λ token.
-          link-awaits v.news m token s.awaited
-          ∙ (ap (λ (b : Bool). not (is_ended (ended_token v.news m.token) token) && b) (a.awaits token)
-          ∙ (sym (asked-once (λ (i : ℕ). went_under p token (first_at l i)) (ends_what to m) (is_ended (ended_token v.news m.token) token) (awaited l) (λ i e h. j.awaits i token e h))
-          ∙ sym (awaited-after (λ (i : ℕ). went_under p token (first_at l i)) to m (waits_for n) (waits_for l) (waits-after l t p d m to u) (openings l))));
+          but-awaits gone token (answered_in m.token v.news s.awaited)
+          ∙ (ap (λ (b : Bool). not (gone token) && b) (news-awaited v.news m token s.awaited ∙ a.awaits token) ∙ sym (forgets token));
       acks = λ mid token.
-          link-acks v.news m mid token s.awaited
-          ∙ (ap (λ (b : Bool). not (is_ended (ended_token v.news m.token) token) && b) (a.acks mid token)
-          ∙ (sym (asked-once (λ (i : ℕ). went_under p token (first_at l i) && went_as p mid (first_at l i)) (ends_what to m) (is_ended (ended_token v.news m.token) token) (awaited l)
-          (λ i e h. j.awaits i token e (and-left (went_under p token (first_at l i)) _ h)))
-          ∙ sym (awaited-after (λ (i : ℕ). went_under p token (first_at l i) && went_as p mid (first_at l i)) to m (waits_for n) (waits_for l) (waits-after l t p d m to u) (openings l))));
+          but-acks gone mid token (answered_in m.token v.news s.awaited)
+          ∙ (ap (λ (b : Bool). not (gone token) && b)
+          (news-acks v.news m mid token s.awaited ∙ ap (λ (b : Bool). b && not (tells_under token (says_news v.news m))) (a.acks mid token))
+          ∙ (heard-acks v.news m token (gone token) (awaits_ack l p mid token)
+          (λ of e same acked_so. let is = (bytes_eq-Decides token of).0 same in
+          ap gone is ∙ resets of e (subst (λ (k : List ℕ). awaits l p k ≡ true) is (acks-awaits l p mid token acked_so)))
+          (λ e f. kept-still l (says t p d m to u) p gone forgets token (acks-awaits n p mid token (acked mid token ∙ rw (e, f) refl)))
+          ∙ sym (acked mid token)));
       heard = heard-after l t p s d m to u v later j a.heard none;
     }
 
@@ -254,24 +261,25 @@ judge l t p s m Ack later legal a kind none room = ack-judged l p s m legal a ki
 judge l t p s m Rst later legal a kind none room = rst-judged l p s m legal a kind
 
 -- What answers it, and all but the queue.
-pub record SaidSo (start : Start) (l : List Noted) (t : ℕ) (p : Peer) (s : LinkState) (d : List ℕ) (m : Content) : Type 0 where
+pub record SaidSo (start : Start) (l : List Noted) (t : ℕ) (p : Peer) (s : LinkState) (d : List ℕ) (m : Content) (gone : List ℕ → Bool) : Type 0 where
   pub owes : owed (heard l t p d m ∷ l) ≡ due p m.mid (verdict_of t s m).reply
-  pub but : AgreesBut start (heard l t p d m ∷ l) p (heard_link t m.mid m.token (verdict_of t s m) s)
+  pub but : AgreesBut start (heard l t p d m ∷ l) p (heard_link t m.mid m.token gone (verdict_of t s m) s)
 
-pub said-so : (start : Start) (l : List Noted) (t : ℕ) (p : Peer) (s : LinkState) (d : List ℕ) (m : Content)
-    → Before start l t p s → repeated l t p m ≡ None → can_be_remembered l t p m ≡ true → SaidSo start l t p s d m
-said-so start l t p s d m b none room =
+pub said-so : (start : Start) (l : List Noted) (t : ℕ) (p : Peer) (s : LinkState) (d : List ℕ) (m : Content) (gone : List ℕ → Bool)
+    → Before start l t p s → repeated l t p m ≡ None → can_be_remembered l t p m ≡ true
+    → Forgets l (heard l t p d m) p gone → EndsReset l p (verdict_of t s m).news gone → SaidSo start l t p s d m gone
+said-so start l t p s d m gone b none room forgets resets =
     let judged = judge l t p s m m.kind (b.started, b.later) b.legal b.agrees refl none room in
     record {
       owes = sym (ap (due p m.mid) judged.reply ∙ due-given p m.mid (answer_by m.kind (is_some (answers l p m)) (is_rejected m) (eqb m.code 0)) (confirming-by m.kind (is_some (answers l p m)) (is_rejected m) (eqb m.code 0)));
-      but = after-judged l t p s d m (answers l p m) (notice_of l t p m (answers l p m)) (verdict_of t s m) (b.started, b.later) judged b.agrees none;
+      but = after-judged l t p s d m (answers l p m) (notice_of l t p m (answers l p m)) (verdict_of t s m) gone (b.started, b.later) judged b.agrees forgets resets none;
     }
 
 pub says-agrees : SaysAgrees
-says-agrees start l t p s d m b none room quiet =
+says-agrees start l t p s d m gone b none room forgets resets quiet =
     let to = answers l p m in
     let u = notice_of l t p m to in
-    let so = said-so start l t p s d m b none room in
+    let so = said-so start l t p s d m gone b none room forgets resets in
     record {
       owes = so.owes;
       agrees = record {

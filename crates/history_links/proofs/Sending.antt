@@ -1,11 +1,11 @@
 -- The message that waits first may follow, where nothing is outstanding.
-use Rattle.std.proofs.Common.{◌≡◌, ℕ, ◌<◌, ◌+◌, ◌%◌, true, List, [], ◌∷◌, Option, Some, None, refl, sym, ap, subst, ◌∙◌, arith}
+use Rattle.std.proofs.Common.{◌≡◌, ℕ, ◌<◌, ◌+◌, ◌%◌, true, List, [], ◌∷◌, Option, Some, None, refl, sym, ap, subst, ◌∙◌, arith, Bool, false}
 use Rattle.std.specs.List.{AllByRecursion}
 use Rattle.limits.specs.declared.TheConstants.{MAX_MESSAGE_IDS}
 use Rattle.coap_codec.specs.Spelling.{Content, Spells}
 use Rattle.uri_map.specs.declared.peer.Peer.{Peer}
 use Rattle.uri_map.specs.Peers.{same_peer}
-use Rattle.ask_model.specs.Requests.{CoapRequest, request_message, block_message}
+use Rattle.ask_model.specs.Requests.{CoapRequest, request_message, block_message, asking, observe_message}
 use Rattle.uri_map.proofs.CallerLemmas.{same_peer-same}
 use Rattle.message_layer.specs.Values.{LinkState}
 use Rattle.message_layer.specs.Sending.{next_mid, first_sent}
@@ -17,6 +17,7 @@ use Rattle.blockwise.specs.Uploads.{next_block}
 use Rattle.history_laws.specs.Progress.{Progress, Ends, progress, next_message, Fetches, Gives, block_after}
 use Rattle.history_laws.specs.Transmissions.{mids_used}
 use Rattle.history_laws.specs.Exchanges.{Begun, begun, replies, goes_to, is_waiting, waiting}
+use Rattle.history_laws.specs.Observing.{observes}
 use Rattle.history_laws.specs.Justified.{Legal, MayBeFirst}
 use Rattle.history_links.specs.Agrees.{Start, IsFrom, TurnIn, IsWaitingFor, WaitIn, Agrees}
 use Rattle.history_laws.proofs.CallerLemmas.{and-left, none-some, some-is, waiting-all}
@@ -63,11 +64,17 @@ block-under q None token mid m e = ap (λ (n : Content). Some (record n { mid = 
 block-under q (Some b) token mid m e =
     ap (λ (n : Content). Some (record n { mid = mid; token = token })) (some-is (block_message q (Some b) 0 token) m e)
 
-next-under : (q : CoapRequest) (pr : Progress) (token : List ℕ) (mid : ℕ) (m : Content) → next_message q pr 0 token ≡ Some m
-    → next_message q pr mid token ≡ Some (record m { mid = mid; token = token })
-next-under q (Fetches restarts pieces got) token mid m e = block-under q (block_after pieces) token mid m e
-next-under q (Gives upload got) token mid m e = block-under q (next_block upload) token mid m e
-next-under q (Ends how) token mid m e = absurd (none-some m e)
+asking-under : (f : Bool) (q : CoapRequest) (block : Option Block) (token : List ℕ) (mid : ℕ) (m : Content) → Some (asking f q block 0 token) ≡ Some m
+    → Some (asking f q block mid token) ≡ Some (record m { mid = mid; token = token })
+asking-under true q None token mid m e = ap (λ (n : Content). Some (record n { mid = mid; token = token })) (some-is (observe_message q 0 token) m e)
+asking-under false q None token mid m e = ap (λ (n : Content). Some (record n { mid = mid; token = token })) (some-is (request_message q 0 token) m e)
+asking-under f q (Some b) token mid m e = block-under q (Some b) token mid m e
+
+next-under : (f : Bool) (q : CoapRequest) (pr : Progress) (token : List ℕ) (mid : ℕ) (m : Content) → next_message f q pr 0 token ≡ Some m
+    → next_message f q pr mid token ≡ Some (record m { mid = mid; token = token })
+next-under f q (Fetches restarts pieces got) token mid m e = asking-under f q (block_after pieces) token mid m e
+next-under f q (Gives upload got) token mid m e = block-under q (next_block upload) token mid m e
+next-under f q (Ends how) token mid m e = absurd (none-some m e)
 
 pub may-be-first : {start : Start} (l : List Noted) (t : ℕ) (p : Peer) (s : LinkState) (w : Waiting) (ws : List Waiting) (h : Head start l (waiting l p) w ws) → Legal l
     → IsFrom start l t → Agrees start l p s → mids_used l t p < MAX_MESSAGE_IDS → s.outstanding ≡ None
@@ -79,7 +86,7 @@ may-be-first l t p s w ws h legal from a few free =
     let mid = next_mid s.last_mid w.first_mid in
     let progressed = progress h.waits.request (replies l h.opening) in
     let waiting_one : Content = record h.waits.message { token = w.token } in
-    let same : h.waits.message ≡ record waiting_one { mid = 0 } = some-is _ _ (sym h.waits.next ∙ next-under h.waits.request progressed w.token 0 h.waits.message h.waits.next) in
+    let same : h.waits.message ≡ record waiting_one { mid = 0 } = some-is _ _ (sym h.waits.next ∙ next-under (observes l h.opening) h.waits.request progressed w.token 0 h.waits.message h.waits.next) in
     record {
       since = h.waits.since;
       request = h.waits.request;
@@ -88,7 +95,7 @@ may-be-first l t p s w ws h legal from a few free =
       first = h.is;
       free = subst (TurnIn l p) free a.turn;
       peer = sym (same_peer-same h.waits.request.peer p peer);
-      message = next-under h.waits.request progressed w.token mid h.waits.message h.waits.next;
+      message = next-under (observes l h.opening) h.waits.request progressed w.token mid h.waits.message h.waits.next;
       spelled = sent-spells waiting_one w.datagram mid (subst (λ (m : Content). Spells m w.datagram) same h.waits.spelled);
       token_size = h.waits.token_size;
       token_apart = h.waits.token_apart;

@@ -1,5 +1,5 @@
 -- What a first sending leaves: its exchange awaits a reply, and the others are as they were.
-use Rattle.std.proofs.Common.{◌≡◌, ℕ, ◌≤◌, ◌+◌, ◌-◌, Bool, true, false, cond, eqb, ltb, inl, inr, List, [], ◌∷◌, ◌++◌, length, Option, Some, None, refl, sym, ap, ◌∙◌, arith}
+use Rattle.std.proofs.Common.{◌≡◌, ℕ, ◌≤◌, ◌+◌, ◌-◌, Bool, true, false, cond, eqb, ltb, inl, inr, List, [], ◌∷◌, ◌++◌, length, Option, Some, None, refl, sym, ap, ◌∙◌, arith, ◌<◌}
 use Rattle.std.specs.Prelude.{count_by, ◌&&◌, ◌||◌, is_none}
 use Rattle.std.specs.List.{list_any, filter_map}
 use Rattle.std.proofs.lemmas.Bool.{false≢true, lt-ltb, le-ltb, ltb-true, ltb-false}
@@ -12,6 +12,7 @@ use Rattle.history_laws.specs.Progress.{Reply}
 use Rattle.history_laws.specs.Exchanges.{Begun, Sent, Nothing, End, end_here, end_by, end_of, turn, waits_by, waits_for, replies, goes_to, begun, is_waiting}
 use Rattle.history_laws.proofs.CallerLemmas.{none-some, NoReply}
 use Rattle.history_links.proofs.Mids.{count-cons}
+use Rattle.history_laws.specs.Transmissions.{first_at}
 
 abbrev pub sent : ℕ → Peer → List ℕ → Option ℕ → ℕ → Content → Noted
 sent t p b w o m = noted t (Sends p b w) (First o m)
@@ -113,3 +114,8 @@ in-use-recent u t later = by (ltb u (t + 494000)) refl
     by : (b : Bool) → ltb u (t + 494000) ≡ b → ltb (u - t) 494000 ≡ b
     by true e = lt-ltb (u - t) 494000 (let h = ltb-true u (t + 494000) e in omega (arith, h, later))
     by false e = le-ltb (u - t) 494000 (let h = ltb-false u (t + 494000) e in omega (arith, h, later))
+
+-- Older first sendings are found as before.
+pub first-other : (l : List Noted) (t : ℕ) (r : Peer) (b : List ℕ) (w : Option ℕ) (o : ℕ) (m : Content) (i : ℕ) → i < length l
+    → first_at (sent t r b w o m ∷ l) i ≡ first_at l i
+first-other l t r b w o m i lt = elim (eqb_tells (length l) i) [ inl e ↦ let same = e.1 in absurd (omega (arith, lt, same)) | inr e ↦ rw (e.0) refl ]

@@ -1,20 +1,21 @@
 -- What an entry that leaves a peer alone leaves of what a link keeps.
 use Rattle.std.proofs.Common.{◌≡◌, ℕ, ◌≤◌, ◌<◌, Bool, inl, inr, length, arith, is_some, true, false, ◌+◌, ◌&&◌, List, [], ◌∷◌, Option, Some, None, refl, sym, ap, subst, ◌∙◌, cond}
-use Rattle.std.specs.Prelude.{option_map}
+use Rattle.std.specs.Prelude.{option_map, ◌||◌}
 use Rattle.std.specs.List.{AllByRecursion, list_any, filter_map}
 use Rattle.uri_map.specs.declared.peer.Peer.{Peer}
 use Rattle.message_layer.specs.Values.{LinkState}
 use Rattle.message_layer.specs.declared.state.Waiting.{Waiting}
 use Rattle.message_layer.specs.declared.state.Heard.{Heard}
 use Rattle.message_layer.specs.declared.state.Reply.{Reply}
-use Rattle.history_laws.specs.Readings.{Noted, at, newest}
+use Rattle.history_laws.specs.Readings.{Noted, at, newest, before}
 use Rattle.history_laws.specs.Transmissions.{bears_token, firsts, first_at}
 use Rattle.history_laws.specs.Progress.{Reply as ExchangeReply, progress, next_message}
 use Rattle.history_laws.specs.Exchanges.{Begun, begun, openings, turn, waits_for, replies, end_of, awaited, is_waiting, waiting, issued, rank}
 use Rattle.history_laws.specs.Hearing.{went_under, went_as, is_like, heard_before, live_heard, recalls}
 use Rattle.history_laws.specs.Confirming.{answered_as}
-use Rattle.history_laws.proofs.CallerLemmas.{all-more, at-cases, at-keeps, begun-keeps, issued-same, none-submitted, NoReply, queue-same, rank-keeps, replies-stay, waiting-all, waiting-begun, waiting-stays}
-use Rattle.history_links.specs.Agrees.{Start, IsWaitingFor, TurnIn, WaitIn, reply_of, awaits, awaits_ack, HeardIn, Agrees}
+use Rattle.history_laws.proofs.CallerLemmas.{all-more, at-cases, at-keeps, begun-keeps, issued-same, none-submitted, NoReply, queue-same, rank-keeps, replies-stay, waiting-all, waiting-begun, waiting-stays, before-keeps, begun-below}
+use Rattle.history_links.specs.Agrees.{Start, IsWaitingFor, TurnIn, WaitIn, reply_of, awaits, awaits_ack, HeardIn, Agrees, notified, expects}
+use Rattle.history_laws.specs.Observing.{observes, unless_replied, wants_in, watched}
 
 -- From the newest entry on is from an older one on.
 pub since : {s : ℕ} (l : List Noted) {t u : ℕ} → newest l ≤ t → (s ≤ u) × (t ≤ u) → (s ≤ u) × (newest l ≤ u)
@@ -38,6 +39,8 @@ pub record Still (l n : List Noted) : Type 0 where
   pub ranks_are : (o : ℕ) {b : Begun} → begun l o ≡ Some b → rank n o ≡ rank l o
   pub waiting_are : (p : Peer) → waiting n p ≡ waiting l p
   pub issued_are : issued n ≡ issued l
+  pub watched_are : watched n ≡ watched l
+  pub observes_are : (o : ℕ) {b : Begun} → begun l o ≡ Some b → observes n o ≡ observes l o
 
 pub first_at-still : (l n : List Noted) → Still l n → (i : ℕ) → first_at n i ≡ first_at l i
 first_at-still l n e i = rw (e.firsts_are) refl
@@ -50,6 +53,7 @@ pub record Keeps (l n : List Noted) (o : ℕ) : Type 0 where
   pub begun_is : (b : Begun) → begun l o ≡ Some b → begun n o ≡ Some b
   pub replies_are : replies n o ≡ replies l o
   pub rank_is : rank n o ≡ rank l o
+  pub observes_is : observes n o ≡ observes l o
 
 pub waits-one : {start : Start} (l n : List Noted) (o : ℕ) (w : Waiting) → Keeps l n o → (bears_token l w.token ≡ false → bears_token n w.token ≡ false)
     → IsWaitingFor start l o w → IsWaitingFor start n o w
@@ -58,7 +62,8 @@ waits-one {start = start} l n o w keeps apart a = record {
   request = a.request;
   opening = keeps.begun_is (record { since = a.since; request = a.request }) a.opening;
   message = a.message;
-  next = ap (λ (rs : List ExchangeReply). next_message a.request (progress a.request rs) 0 w.token) keeps.replies_are ∙ a.next;
+  next = ap (λ (f : Bool). next_message f a.request (progress a.request (replies n o)) 0 w.token) keeps.observes_is
+      ∙ (ap (λ (rs : List ExchangeReply). next_message (observes l o) a.request (progress a.request rs) 0 w.token) keeps.replies_are ∙ a.next);
   spelled = a.spelled;
   token_size = a.token_size;
   token_apart = apart a.token_apart;
@@ -73,12 +78,29 @@ waits-each start l n same [] (w ∷ ws) keeps a = a
 waits-each start l n same (o ∷ os) [] keeps a = a
 waits-each start l n same (o ∷ os) (w ∷ ws) keeps a = (waits-one l n o w keeps.0 (λ e. rw (same) e) a.0, waits-each start l n same os ws keeps.1 a.1)
 
+-- While no reply comes to it, an exchange asks to observe, or doesn't.
+pub observes-keep : (x : Noted) (l : List Noted) (o : ℕ) (b : Begun) → begun l o ≡ Some b → replies (x ∷ l) o ≡ replies l o → observes (x ∷ l) o ≡ observes l o
+observes-keep x l o b begins same =
+    ap (λ (h : List Noted). unless_replied (wants_in h (at (x ∷ l) o)) (replies (x ∷ l) o)) (before-keeps x l o below)
+    ∙ (ap (λ (v : Option Noted). unless_replied (wants_in (before l o) v) (replies (x ∷ l) o)) here ∙ ap (unless_replied (wants_in (before l o) (at l o))) same)
+  where
+    below : o < length l
+    below = begun-below l o b begins
+
+    here : at (x ∷ l) o ≡ at l o
+    here = elim (at-cases x l o) [ inl w ↦ let place = w.0 in let lt = below in absurd (omega (arith, place, lt)) | inr w ↦ w.1 ]
+
 -- Who waits keeps it, whatever comes.
 pub waiting-keeps : (x : Noted) (l : List Noted) (p : Peer) (o : ℕ) → is_waiting l p o ≡ true → Keeps l (x ∷ l) o
 waiting-keeps x l p o e =
     let b = waiting-begun l p o e in
     let same = waiting-stays x l p o e in
-    record { begun_is = λ c is. begun-keeps x l o c is; replies_are = same; rank_is = rank-keeps x l o b.0 b.1 same }
+    record {
+      begun_is = λ c is. begun-keeps x l o c is;
+      replies_are = same;
+      rank_is = rank-keeps x l o b.0 b.1 same;
+      observes_is = observes-keep x l o b.0 b.1 same;
+    }
 
 pub waits-all : (start : Start) (x : Noted) (l : List Noted) (p : Peer) → firsts (x ∷ l) ≡ firsts l → (os : List ℕ) (ws : List Waiting)
     → AllByRecursion (λ (o : ℕ). is_waiting l p o ≡ true) os → WaitIn start l os ws → WaitIn start (x ∷ l) os ws
@@ -88,8 +110,8 @@ waits-all start x l p same os ws waiting =
 -- One entry more leaves what it says, where it leaves these.
 pub still-by : (x : Noted) (l : List Noted) → newest l ≤ x.written.moment → firsts (x ∷ l) ≡ firsts l → openings (x ∷ l) ≡ openings l
     → ((o : ℕ) → begun (x ∷ l) o ≡ begun l o) → ((o : ℕ) → waits_for (x ∷ l) o ≡ waits_for l o) → ((o : ℕ) → end_of (x ∷ l) o ≡ end_of l o)
-    → ((o : ℕ) → NoReply (turn l o x)) → ((p : Peer) → recalls p x ≡ false) → Still l (x ∷ l)
-still-by x l later firsts_are openings_are begun_are waits_are ends_are quiet own = record {
+    → ((o : ℕ) → NoReply (turn l o x)) → ((p : Peer) → recalls p x ≡ false) → watched (x ∷ l) ≡ watched l → Still l (x ∷ l)
+still-by x l later firsts_are openings_are begun_are waits_are ends_are quiet own watched_are = record {
   later = later;
   stands = λ i y e. at-keeps x l i y e;
   firsts_are = firsts_are;
@@ -102,6 +124,8 @@ still-by x l later firsts_are openings_are begun_are waits_are ends_are quiet ow
   ranks_are = λ o {b} e. rank-keeps x l o b e (replied o);
   waiting_are = λ p. queue-same x l p (none-submitted x l p openings_are (λ o w. quiet o)) (λ o w. waiting p o ∙ w);
   issued_are = issued-same x l openings_are (λ o goes. quiet o);
+  watched_are = watched_are;
+  observes_are = λ o {b} e. observes-keep x l o b e (replied o);
 }
   where
     replied : (o : ℕ) → replies (x ∷ l) o ≡ replies l o
@@ -170,7 +194,7 @@ rest-still {start = start} l n p s r e h a turn waiting_is last_is given_is awai
   count_up = λ t later. rw (e.firsts_are) (a.count_up t (since l e.later later));
   given = λ t later. rw (given_is, e.firsts_are) (a.given t (since l e.later later));
   waits = rw (waiting_is, e.waiting_are p) (waits-each start l n e.firsts_are (waiting l p) s.waiting (all-more (λ (o : ℕ). is_waiting l p o ≡ true) (Keeps l n) (keeps l n e p) (waiting l p) (waiting-all l p)) a.waits);
-  awaits = λ token. rw (awaited_is) (a.awaits token ∙ sym (awaits-still l n e p token));
+  awaits = λ token. rw (awaited_is) (a.awaits token ∙ sym (expects-still l n e p token));
   acks = λ mid token. rw (awaited_is) (a.acks mid token ∙ sym (acks-still l n e p mid token));
   heard = rw (heard_is) (heard-still l n p s.heard h a.heard);
 }
@@ -178,12 +202,21 @@ rest-still {start = start} l n p s r e h a turn waiting_is last_is given_is awai
     keeps : (l n : List Noted) → Still l n → (p : Peer) (o : ℕ) → is_waiting l p o ≡ true → Keeps l n o
     keeps l n e p o w =
         let b = waiting-begun l p o w in
-        record { begun_is = λ c is. e.begun_are o ∙ is; replies_are = e.replies_are o; rank_is = e.ranks_are o b.1 }
+        record { begun_is = λ c is. e.begun_are o ∙ is; replies_are = e.replies_are o; rank_is = e.ranks_are o b.1; observes_is = e.observes_are o b.1 }
 
     awaits-still : (l n : List Noted) → Still l n → (p : Peer) (token : List ℕ) → awaits n p token ≡ awaits l p token
     awaits-still l n e p token =
         rw (awaited-still l n e)
         (list_any-same (λ (i : ℕ). went_under p token (first_at n i)) (λ (i : ℕ). went_under p token (first_at l i)) (λ i. rw (first_at-still l n e i) refl) (awaited l))
+
+    notified-still : (l n : List Noted) → Still l n → (p : Peer) (token : List ℕ) → notified n p token ≡ notified l p token
+    notified-still l n e p token =
+        rw (e.watched_are)
+        (list_any-same (λ (i : ℕ). went_under p token (first_at n i)) (λ (i : ℕ). went_under p token (first_at l i)) (λ i. rw (first_at-still l n e i) refl) (watched l))
+
+    expects-still : (l n : List Noted) → Still l n → (p : Peer) (token : List ℕ) → expects n p token ≡ expects l p token
+    expects-still l n e p token =
+        ap (λ (b : Bool). b || notified n p token) (awaits-still l n e p token) ∙ ap (λ (b : Bool). awaits l p token || b) (notified-still l n e p token)
 
     acks-still : (l n : List Noted) → Still l n → (p : Peer) (mid : ℕ) (token : List ℕ) → awaits_ack n p mid token ≡ awaits_ack l p mid token
     acks-still l n e p mid token =

@@ -1,5 +1,5 @@
 -- What a link keeps of a history: the part of it that concerns its peer.
-use Rattle.std.specs.Prelude.{◌≡◌, ℕ, ◌+◌, ◌%◌, ◌<◌, ◌≤◌, Bool, false, ◌&&◌, List, [], ◌∷◌, length, filter, count_by, Option, Some, None, is_some, option_map, true, ⊤}
+use Rattle.std.specs.Prelude.{◌≡◌, ℕ, ◌+◌, ◌%◌, ◌<◌, ◌≤◌, Bool, false, ◌&&◌, List, [], ◌∷◌, length, filter, count_by, Option, Some, None, is_some, option_map, true, ⊤, ◌||◌}
 use Rattle.std.specs.List.{list_any, find}
 use Rattle.limits.specs.declared.TheConstants.{ACK_TIMEOUT, LONGEST_ACK_TIMEOUT}
 use Rattle.coap_codec.specs.declared.message.MsgType.{MsgType}
@@ -22,6 +22,7 @@ use Rattle.history_laws.specs.Readings.{Noted, First, noted, at, newest}
 use Rattle.history_laws.specs.Transmissions.{FirstSending, firsts, first_at, last_sent, is_recent, bears_token, mids_used, Transmission, transmission, outstanding}
 use Rattle.history_laws.specs.Progress.{progress, next_message}
 use Rattle.history_laws.specs.Exchanges.{begun, replies, rank, awaited, waiting}
+use Rattle.history_laws.specs.Observing.{observes, watched}
 use Rattle.history_laws.specs.Hearing.{knows, went_under, went_as, heard_before, live_heard}
 use Rattle.history_laws.specs.Confirming.{answered_as}
 
@@ -78,7 +79,7 @@ pub record IsWaitingFor (start : Start) (l : List Noted) (o : ℕ) (w : Waiting)
   pub request : CoapRequest
   pub opening : begun l o ≡ Some (record { since = since; request = request })
   pub message : Content
-  pub next : next_message request (progress request (replies l o)) 0 w.token ≡ Some message
+  pub next : next_message (observes l o) request (progress request (replies l o)) 0 w.token ≡ Some message
   pub spelled : Spells message w.datagram
   pub token_size : length w.token ≡ 8
   pub token_apart : bears_token l w.token ≡ false
@@ -94,6 +95,14 @@ WaitIn start l _ _ = ⊥
 -- a first sending that a reply is awaited to went under the token, or under it and with the ID
 abbrev pub awaits : List Noted → Peer → List ℕ → Bool
 awaits l p token = list_any (λ (i : ℕ). went_under p token (first_at l i)) (awaited l)
+
+-- notifications come to one that went to the peer under the token
+abbrev pub notified : List Noted → Peer → List ℕ → Bool
+notified l p token = list_any (λ (i : ℕ). went_under p token (first_at l i)) (watched l)
+
+-- Something is expected under it: a reply, or notifications.
+abbrev pub expects : List Noted → Peer → List ℕ → Bool
+expects l p token = awaits l p token || notified l p token
 
 abbrev pub awaits_ack : List Noted → Peer → ℕ → List ℕ → Bool
 awaits_ack l p mid token = list_any (λ (i : ℕ). went_under p token (first_at l i) && went_as p mid (first_at l i)) (awaited l)
@@ -125,6 +134,6 @@ pub record Agrees (start : Start) (l : List Noted) (p : Peer) (s : LinkState) : 
   pub count_up : (t : ℕ) → IsFrom start l t → CountUp (recent_to l t p)
   pub given : (t : ℕ) → IsFrom start l t → count_by (is_in_use t) s.given ≡ mids_used l t p
   pub waits : WaitIn start l (waiting l p) s.waiting
-  pub awaits : (token : List ℕ) → list_any (is_awaited token) s.awaited ≡ awaits l p token
+  pub awaits : (token : List ℕ) → list_any (is_awaited token) s.awaited ≡ expects l p token
   pub acks : (mid : ℕ) (token : List ℕ) → list_any (is_awaited_by_ack mid token) s.awaited ≡ awaits_ack l p mid token
   pub heard : HeardIn start l p s.heard

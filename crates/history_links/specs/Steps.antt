@@ -5,13 +5,12 @@ use Rattle.limits.specs.declared.TheConstants.{MAX_MESSAGE_IDS, MAX_RETRANSMIT}
 use Rattle.coap_codec.specs.Spelling.{Content, Spells}
 use Rattle.uri_map.specs.declared.peer.Peer.{Peer}
 use Rattle.uri_map.specs.Peers.{same_peer}
-use Rattle.ask_model.specs.Requests.{CoapRequest, first_message}
+use Rattle.ask_model.specs.Requests.{CoapRequest, opening_message}
 use Rattle.ask_model.specs.Views.{Ask}
 use Rattle.journal_book.specs.Entries.{Deed, Opens, Asks, Sends, Hears, Passes, Answers, Shuts, Seals}
 use Rattle.history_laws.specs.Confirmations.{Confirmation}
 use Rattle.history_laws.specs.Numbering.{token_number}
 use Rattle.message_layer.specs.Values.{LinkState}
-use Rattle.message_layer.specs.Calls.{expected_in}
 use Rattle.message_layer.specs.Sending.{due_of, with_copy, first_sent, with_outstanding, waits, queued}
 use Rattle.message_layer.specs.Hearing.{answered_in, remembered_in, verdict_of, reset_for}
 use Rattle.message_layer.specs.declared.state.Awaited.{Awaited}
@@ -26,10 +25,11 @@ use Rattle.history_laws.specs.Connections.{is_sealed}
 use Rattle.history_laws.specs.Transmissions.{FirstSending, first_at, bears_token, mids_used}
 use Rattle.history_laws.specs.Progress.{progress, next_message}
 use Rattle.history_laws.specs.Exchanges.{begun, openings, replies, issued, is_issued_at, is_late, expires, waits_for, is_waiting, waiting}
+use Rattle.history_laws.specs.Observing.{observes, wants_by}
 use Rattle.history_laws.specs.Hearing.{went_under, repeated, can_be_remembered, answers, notice_of}
 use Rattle.history_laws.specs.Confirming.{owed}
 use Rattle.history_laws.specs.Justified.{Legal, Follows}
-use Rattle.history_links.specs.Agrees.{Start, IsWaitingFor, due, Agrees}
+use Rattle.history_links.specs.Agrees.{Start, IsWaitingFor, due, Agrees, awaits, notified, expects}
 
 -- Before an entry at this moment, the history is legal, and the link agrees with it.
 pub record Before (start : Start) (l : List Noted) (t : ℕ) (p : Peer) (s : LinkState) : Type 0 where
@@ -92,14 +92,30 @@ NextFollows =
     → (o : ℕ) × (m : Content) × (is_waiting l p o ≡ true) × IsWaitingFor start l o w × (m.token ≡ w.token)
     × Leads start l p (first t p (first_sent t s.last_mid w) o m) (with_outstanding s ws (first_sent t s.last_mid w))
 
--- Its message waits last where an ask opens an exchange with the peer.
+-- Under these tokens nothing is expected any more.
+abbrev pub but_gone : (List ℕ → Bool) → List Awaited → List Awaited
+but_gone gone awaited = filter (λ (a : Awaited). not (gone a.token)) awaited
+
+abbrev pub lets_go : (List ℕ → Bool) → LinkState → LinkState
+lets_go gone s = record s { awaited = but_gone gone s.awaited }
+
+-- So it is after the entry.
+abbrev pub Forgets : List Noted → Noted → Peer → (List ℕ → Bool) → Type 0
+Forgets l x p gone = (token : List ℕ) → expects (x ∷ l) p token ≡ (not (gone token) && expects l p token)
+
+-- To the peer the same notifications come after it.
+abbrev pub IsUnnoticed : List Noted → Noted → Peer → Type 0
+IsUnnoticed l x p = (token : List ℕ) → notified (x ∷ l) p token ≡ notified l p token
+
+-- Its message waits last where an ask opens an exchange with the peer. By that a watch for the same may end.
 abbrev pub QueuedAgrees : Type 0
 QueuedAgrees =
     (start : Start) (l : List Noted) (t : ℕ) (p : Peer) (s : LinkState)
-    (c : ℕ) (a : Ask) (q : CoapRequest) (token text : List ℕ) (word : ℕ)
-    → Before start l t p s → q.peer ≡ p → Spells (first_message q 0 token) text
+    (c : ℕ) (a : Ask) (q : CoapRequest) (token text : List ℕ) (word : ℕ) (gone : List ℕ → Bool)
+    → Before start l t p s → q.peer ≡ p → Spells (opening_message (wants_by l (Asks c a) (Begins q)) q 0 token) text
     → length token ≡ 8 → bears_token l token ≡ false → token_number token ≡ start.issued + issued l
-    → Agrees start (noted t (Asks c a) (Begins q) ∷ l) p (queued t (waits token text word) s)
+    → Forgets l (noted t (Asks c a) (Begins q)) p gone
+    → Agrees start (noted t (Asks c a) (Begins q) ∷ l) p (queued t (waits token text word) (lets_go gone s))
 
 -- What is heard asks for just what the link answers (RFC 7252 sections 4.2, 4.3, 4.5), which is this after it.
 pub record Heeds
@@ -126,25 +142,22 @@ GarbledAgrees =
     → Before start l t p s
     → Heeds start l p (noted t (Hears p d) Garbled) (reset p (reset_for d)) s
 
--- The token under which nothing is awaited any more: that of a response that is told, or of a message that is reset.
+-- The token under which no reply is awaited any more: that of a response that is told, or of a message that is reset.
 abbrev pub ended_token : News → List ℕ → Option (List ℕ)
 ended_token Quiet token = None
 ended_token Response token = Some token
 ended_token (Reset of) token = Some of
 ended_token Lost token = None
 
-abbrev pub unawaited : Option (List ℕ) → List Awaited → List Awaited
-unawaited None awaited = awaited
-unawaited (Some token) awaited = expected_in token false awaited
-
--- What a link keeps after a message that it hears, before the next of its own has its turn.
-abbrev pub heard_link : ℕ → ℕ → List ℕ → Verdict → LinkState → LinkState
-heard_link t mid token v s = record {
+-- What a link keeps after a message that it hears, before the next of its own has its turn: under these tokens nothing
+-- is expected any more.
+abbrev pub heard_link : ℕ → ℕ → List ℕ → (List ℕ → Bool) → Verdict → LinkState → LinkState
+heard_link t mid token gone v s = record {
   waiting = s.waiting;
   outstanding = if v.ends then None else s.outstanding;
   last_mid = s.last_mid;
   given = s.given;
-  awaited = unawaited (ended_token v.news token) (answered_in token v.news s.awaited);
+  awaited = but_gone gone (answered_in token v.news s.awaited);
   heard = remembered_in t mid v.reply v.remembered s.heard;
   out = s.out;
 }
@@ -157,12 +170,17 @@ heard l t p d m = noted t (Hears p d) (Says m (answers l p m) (notice_of l t p m
 abbrev pub NoneGoesOn : List Noted → Noted → Type 0
 NoneGoesOn l x = list_any (is_issued_at (x ∷ l) (length l)) (openings l) ≡ false
 
+-- That of a message that is reset is one of these, where a reply to it was awaited.
+abbrev pub EndsReset : List Noted → Peer → News → (List ℕ → Bool) → Type 0
+EndsReset l p news gone = (of : List ℕ) → news ≡ Reset of → awaits l p of ≡ true → gone of ≡ true
+
 abbrev pub SaysAgrees : Type 0
 SaysAgrees =
-    (start : Start) (l : List Noted) (t : ℕ) (p : Peer) (s : LinkState) (d : List ℕ) (m : Content)
+    (start : Start) (l : List Noted) (t : ℕ) (p : Peer) (s : LinkState) (d : List ℕ) (m : Content) (gone : List ℕ → Bool)
     → Before start l t p s → repeated l t p m ≡ None → can_be_remembered l t p m ≡ true
+    → Forgets l (heard l t p d m) p gone → EndsReset l p (verdict_of t s m).news gone
     → NoneGoesOn l (heard l t p d m)
-    → Heeds start l p (heard l t p d m) (due p m.mid (verdict_of t s m).reply) (heard_link t m.mid m.token (verdict_of t s m) s)
+    → Heeds start l p (heard l t p d m) (due p m.mid (verdict_of t s m).reply) (heard_link t m.mid m.token gone (verdict_of t s m) s)
 
 -- By it this exchange goes on: its next message, under a token of its own, waits last.
 pub record GoesOn (start : Start) (l : List Noted) (x : Noted) (o : ℕ) (token text : List ℕ) : Type 0 where
@@ -171,7 +189,7 @@ pub record GoesOn (start : Start) (l : List Noted) (x : Noted) (o : ℕ) (token 
   pub request : CoapRequest
   pub opening : begun l o ≡ Some (record { since = since; request = request })
   pub message : Content
-  pub next : next_message request (progress request (replies (x ∷ l) o)) 0 token ≡ Some message
+  pub next : next_message (observes (x ∷ l) o) request (progress request (replies (x ∷ l) o)) 0 token ≡ Some message
   pub spelled : Spells message text
   pub token_size : length token ≡ 8
   pub token_apart : bears_token l token ≡ false
@@ -180,14 +198,15 @@ pub record GoesOn (start : Start) (l : List Noted) (x : Noted) (o : ℕ) (token 
 abbrev pub GoesOnAgrees : Type 0
 GoesOnAgrees =
     (start : Start) (l : List Noted) (t : ℕ) (p : Peer) (s : LinkState) (d : List ℕ) (m : Content)
-    (o : ℕ) (token text : List ℕ) (word : ℕ)
+    (o : ℕ) (token text : List ℕ) (word : ℕ) (gone : List ℕ → Bool)
     → Before start l t p s → repeated l t p m ≡ None → can_be_remembered l t p m ≡ true
+    → Forgets l (heard l t p d m) p gone → EndsReset l p (verdict_of t s m).news gone
     → GoesOn start l (heard l t p d m) o token text
     → Heeds start l p (heard l t p d m) (due p m.mid (verdict_of t s m).reply)
-    (queued t (waits token text word) (heard_link t m.mid m.token (verdict_of t s m) s))
+    (queued t (waits token text word) (heard_link t m.mid m.token gone (verdict_of t s m) s))
 
--- A tick gives up what was sent five times, and ends exchanges: what bears a token of these is neither awaited nor
--- sent any more (RFC 7252 sections 4.2, 4.8.2).
+-- A tick gives up what was sent five times, and ends exchanges and watches: what bears a token of these is neither
+-- expected nor sent any more (RFC 7252 sections 4.2, 4.8.2).
 abbrev pub is_over : ℕ → Option Outstanding → Bool
 is_over t None = false
 is_over t (Some o) = (o.retransmissions == MAX_RETRANSMIT) && nat_le (due_of o) t
@@ -198,12 +217,12 @@ passed_link t gone s = record {
   outstanding = if is_over t s.outstanding then None else s.outstanding;
   last_mid = s.last_mid;
   given = s.given;
-  awaited = filter (λ (a : Awaited). not (gone a.token)) s.awaited;
+  awaited = but_gone gone s.awaited;
   heard = s.heard;
   out = s.out;
 }
 
--- These are the tokens of the exchanges with the peer that end at this moment.
+-- These are the tokens of the exchanges with the peer, and of the watches, that end at this moment.
 abbrev pub EndWaiting : List Noted → ℕ → (List ℕ → Bool) → List ℕ → List Waiting → Type 0
 EndWaiting l t gone (o ∷ os) (w ∷ ws) = (is_late t (begun l o) ≡ gone w.token) × EndWaiting l t gone os ws
 EndWaiting l t gone _ _ = ⊤
@@ -212,6 +231,7 @@ pub record EndTokens (l : List Noted) (t : ℕ) (p : Peer) (s : LinkState) (gone
   pub awaited : (o i : ℕ) (token : List ℕ) → waits_for l o ≡ Some i
       → went_under p token (first_at l i) ≡ true → expires l o t (Some i) ≡ gone token
   pub waiting : EndWaiting l t gone (waiting l p) s.waiting
+  pub watched : (token : List ℕ) → notified (noted t Passes Plain ∷ l) p token ≡ (not (gone token) && notified l p token)
 
 abbrev pub PassAgrees : Type 0
 PassAgrees =
@@ -225,6 +245,7 @@ abbrev pub AskElsewhere : Type 0
 AskElsewhere =
     (start : Start) (l : List Noted) (t : ℕ) (p : Peer) (s : LinkState) (c : ℕ) (a : Ask) (q : CoapRequest)
     → Before start l t p s → same_peer q.peer p ≡ false
+    → IsUnnoticed l (noted t (Asks c a) (Begins q)) p
     → Agrees start (noted t (Asks c a) (Begins q) ∷ l) p s
 
 abbrev pub FirstElsewhere : Type 0
@@ -247,4 +268,5 @@ SaysElsewhere =
     (notice : Notice)
     → Before start l t p s → same_peer r p ≡ false
     → ((i : ℕ) (f : FirstSending) → to ≡ Some i → first_at l i ≡ Some f → same_peer f.peer p ≡ false)
+    → IsUnnoticed l (noted t (Hears r d) (Says m to notice)) p
     → Agrees start (noted t (Hears r d) (Says m to notice) ∷ l) p s

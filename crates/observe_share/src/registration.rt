@@ -1,9 +1,10 @@
 //! One watch.
 
 ghost use Rattle.std.specs.Prelude.{◌≡◌, IfOk};
+ghost use Rattle.cache_key.specs.Keys.{key_of};
 ghost use Rattle.observe_share.specs.Watches.{asked_at, is_idle};
 
-use cache_key::Key;
+use cache_key::{Key, Reading};
 use coap_codec::Token;
 use std::alloc::AllocError;
 
@@ -43,7 +44,7 @@ impl Registration {
     }
 
     /// Whether nobody asked for its key in the last 120,000 ms.
-    pub(crate) fn is_idle(&self, moment: u64) -> bool
+    pub fn is_idle(&self, moment: u64) -> bool
         ensures { result ≡ is_idle moment self.now }
     {
         moment.saturating_sub(self.asked) >= IDLE
@@ -57,11 +58,12 @@ impl Registration {
         self.moment = moment;
     }
 
-    /// The key was asked for at this moment: that counts, should it be its own.
-    pub(crate) fn touch(&mut self, key: &Key, moment: u64)
-        ensures { self.new ≡ asked_at key.now moment self.old }
+    /// What is read was asked for at this moment: that counts, should it have its key.
+    pub(crate) fn touch(&mut self, reading: &Reading<'_>, moment: u64)
+        ensures { let key = key_of reading.now.peer reading.now.target.now reading.now.accept in
+            self.new ≡ asked_at key moment self.old }
     {
-        if self.key.is_same(key) {
+        if self.key.is_of(reading) {
             self.asked = moment;
         }
     }

@@ -1,8 +1,9 @@
 //! The watches that stand.
 
-ghost use Rattle.std.specs.Prelude.{◌≡◌, ◌==◌, ◌≤◌, ◌<◌, ◌+◌, ◌∷◌, ◌++◌, ◌↔◌, [], map, length, true, false, vec_capacity, All, Any, OnOk, OnErr, IfOk, IfNone, IfSome, IsErrOf};
+ghost use Rattle.std.specs.Prelude.{◌≡◌, ◌==◌, ◌≤◌, ◌<◌, ◌+◌, ◌∷◌, ◌++◌, ◌↔◌, [], map, length, nat_lt, not, true, false, vec_capacity, All, Any, OnOk, OnErr, IfOk, IfNone, IfSome, IsErrOf};
 ghost use Rattle.std.specs.Option.{option_copied};
 ghost use Rattle.std.specs.List.{position, find};
+ghost use Rattle.cache_key.specs.Keys.{key_of, place_of};
 ghost use Rattle.observe_share.specs.Watches.{is_under, is_of, is_at, is_idle, with_room, without, asked_at, counts_for, if_counts, noticed, told_of, notice_tells};
 ghost use Rattle.observe_share.specs.Due.{IsNextDue};
 ghost use Rattle.observe_share.specs.declared.fault.WatchFault.{WatchFault};
@@ -11,7 +12,7 @@ use crate::fault::WatchFault;
 use crate::notice::{Notice, Notified};
 use crate::order::newer;
 use crate::registration::{IDLE, Registration};
-use cache_key::{Key, Place};
+use cache_key::Reading;
 use coap_codec::Token;
 use std::alloc::{AllocError, Global};
 use std::marker::Model;
@@ -65,13 +66,22 @@ fn counts(notice: Notice, moment: u64, r: &Registration) -> bool
     }
 }
 
-/// The key was asked for at this moment.
-fn touch(standing: &mut [Registration], key: &Key, moment: u64)
-    ensures { standing.new ≡ map (asked_at key.now moment) standing.old }
+/// What is read was asked for at this moment.
+fn touch(standing: &mut [Registration], reading: &Reading<'_>, moment: u64)
+    ensures { let key = key_of reading.now.peer reading.now.target.now reading.now.accept in
+        standing.new ≡ map (asked_at key moment) standing.old }
 {
     'each: for r in standing {
-        r.touch(key, moment);
+        r.touch(reading, moment);
     }
+}
+
+/// How many are of other keys than that of what is read.
+fn count_beside(standing: &[Registration], reading: &Reading<'_>) -> usize
+    ensures { let key = key_of reading.now.peer reading.now.target.now reading.now.accept in
+        result ≡ length (without (is_of key) standing.now) }
+{
+    standing.iter().filter(|r| !r.key.is_of(reading)).count()
 }
 
 /// The least of the moments at which their keys were asked for last.
@@ -83,20 +93,22 @@ fn first_asked(standing: &[Registration]) -> Option<u64>
     standing.iter().map(|r| r.asked).min()
 }
 
-fn drop_key(standing: &mut Vec<Registration>, key: &Key)
-    ensures items { standing.new.items ≡ without (is_of key.now) standing.old.items }
+fn drop_key(standing: &mut Vec<Registration>, reading: &Reading<'_>)
+    ensures items { let key = key_of reading.now.peer reading.now.target.now reading.now.accept in
+        standing.new.items ≡ without (is_of key) standing.old.items }
     ensures fewer { length standing.new.items ≤ length standing.old.items }
     ensures capacity { vec_capacity standing.new ≡ vec_capacity standing.old }
 {
-    standing.retain(|r| !r.key.is_same(key));
+    standing.retain(|r| !r.key.is_of(reading));
 }
 
-fn drop_place(standing: &mut Vec<Registration>, place: &Place)
-    ensures items { standing.new.items ≡ without (is_at place.now) standing.old.items }
+fn drop_place(standing: &mut Vec<Registration>, writing: &Reading<'_>)
+    ensures items { let place = place_of writing.now.peer writing.now.target.now in
+        standing.new.items ≡ without (is_at place) standing.old.items }
     ensures fewer { length standing.new.items ≤ length standing.old.items }
     ensures capacity { vec_capacity standing.new ≡ vec_capacity standing.old }
 {
-    standing.retain(|r| !r.key.place().is_same(place));
+    standing.retain(|r| !r.key.place().is_of(writing));
 }
 
 fn drop_idle(standing: &mut Vec<Registration>, moment: u64)
@@ -123,6 +135,21 @@ impl Watch {
         ensures few { length self.now.standing ≤ 64 }
     {
         self.standing.len()
+    }
+
+    /// Whether no further one may stand.
+    pub fn is_full(&self) -> bool
+        ensures { result ≡ not (nat_lt (length self.now.standing) 64) }
+    {
+        self.standing.len() >= LIMIT
+    }
+
+    /// All of them, in the order of their registration.
+    pub fn as_slice(&self) -> &[Registration]
+        ensures all { result.now ≡ self.now.standing }
+        ensures few { length self.now.standing ≤ 64 }
+    {
+        &self.standing
     }
 
     /// Whether none stands.
@@ -211,28 +238,39 @@ impl Watch {
         }
     }
 
-    /// The key was asked for at this moment.
-    pub fn touched(&mut self, key: &Key, moment: u64)
-        ensures watches { self.new.standing ≡ map (asked_at key.now moment) self.old.standing }
+    /// What is read was asked for at this moment.
+    pub fn touched(&mut self, reading: &Reading<'_>, moment: u64)
+        ensures watches { let key = key_of reading.now.peer reading.now.target.now reading.now.accept in
+            self.new.standing ≡ map (asked_at key moment) self.old.standing }
         ensures room { self.new.room ≡ self.old.room }
     {
-        touch(&mut self.standing, key, moment);
+        touch(&mut self.standing, reading, moment);
     }
 
-    /// The watches of this key are forgotten, since an exchange is opened for it.
-    pub fn forget(&mut self, key: &Key)
-        ensures watches { self.new.standing ≡ without (is_of key.now) self.old.standing }
-        ensures room { self.old.room ≡ true → self.new.room ≡ true }
+    /// Whether one of what is read may stand, once those of its key are forgotten.
+    pub fn has_place(&self, reading: &Reading<'_>) -> bool
+        ensures { let key = key_of reading.now.peer reading.now.target.now reading.now.accept in
+            result ≡ nat_lt (length (without (is_of key) self.now.standing)) 64 }
     {
-        drop_key(&mut self.standing, key);
+        count_beside(&self.standing, reading) < LIMIT
     }
 
-    /// The watches of this place are forgotten, since a write to it ended.
-    pub fn retire(&mut self, place: &Place)
-        ensures watches { self.new.standing ≡ without (is_at place.now) self.old.standing }
+    /// The watches of what is read are forgotten, since an exchange is opened for it.
+    pub fn forget(&mut self, reading: &Reading<'_>)
+        ensures watches { let key = key_of reading.now.peer reading.now.target.now reading.now.accept in
+            self.new.standing ≡ without (is_of key) self.old.standing }
         ensures room { self.old.room ≡ true → self.new.room ≡ true }
     {
-        drop_place(&mut self.standing, place);
+        drop_key(&mut self.standing, reading);
+    }
+
+    /// The watches of the place that a write changed are forgotten, since that ended.
+    pub fn retire(&mut self, writing: &Reading<'_>)
+        ensures watches { let place = place_of writing.now.peer writing.now.target.now in
+            self.new.standing ≡ without (is_at place) self.old.standing }
+        ensures room { self.old.room ≡ true → self.new.room ≡ true }
+    {
+        drop_place(&mut self.standing, writing);
     }
 
     /// The watches for whose keys nobody asked in the last 120,000 ms are forgotten; how many these

@@ -15,3 +15,4 @@ mod response;
 pub use finding::{Finding, Outcome, answer_of, fetched_of};
 pub use reading::is_tellable;
 pub use resp_cache::{Location, Response, Values};
+pub use response::version_of;

@@ -5,6 +5,7 @@ ghost use Rattle.coap_codec.specs.Spelling.{content};
 ghost use Rattle.coap_codec.specs.Values.{uint};
 ghost use Rattle.coap_codec.specs.Recognition.{value_of, values_of};
 ghost use Rattle.blockwise.specs.Joins.{payloads};
+ghost use Rattle.history_laws.specs.Observing.{version};
 ghost use Rattle.history_laws.specs.Responses.{response_of};
 ghost use Rattle.reply_reading.specs.Findings.{joined_all};
 
@@ -28,6 +29,16 @@ fn max_age_of(m: &Message) -> Option<u32>
     ensures { result ≡ option_map uint (value_of 14 (content m.now)) }
 {
     match value_of(m, number::MAX_AGE) {
+        Some(value) => Some(uint_of(value)),
+        None => None,
+    }
+}
+
+/// The number by which notifications are ordered: its Observe (RFC 7641 section 3.4).
+pub fn version_of(m: &Message) -> Option<u32>
+    ensures { result ≡ version (content m.now) }
+{
+    match value_of(m, number::OBSERVE) {
         Some(value) => Some(uint_of(value)),
         None => None,
     }
