@@ -21,6 +21,7 @@ none-added S = record {
   issued = refl;
   exchanges = refl;
   pieces = refl;
+  watches = refl;
   links = refl;
 }
 
@@ -43,6 +44,7 @@ both-added S S1 S2 a b = record {
   issued = b.issued ∙ a.issued;
   exchanges = b.exchanges ∙ a.exchanges;
   pieces = b.pieces ∙ a.pieces;
+  watches = b.watches ∙ a.watches;
   links = b.links ∙ a.links;
 }
 
@@ -56,6 +58,7 @@ one-added t S x = record {
   issued = refl;
   exchanges = refl;
   pieces = refl;
+  watches = refl;
   links = refl;
 }
 

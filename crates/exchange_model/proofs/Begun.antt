@@ -1,5 +1,5 @@
 -- What an ask leaves.
-use Rattle.std.proofs.Common.{◌≡◌, ℕ, ◌+◌, Bool, true, false, cond, List, [], ◌∷◌, ◌++◌, length, map, Option, Some, None, refl, ap, ◌∙◌, arith, length-append}
+use Rattle.std.proofs.Common.{eqb, sym, subst, ◌<◌, ◌≡◌, ℕ, ◌+◌, Bool, true, false, cond, List, [], ◌∷◌, ◌++◌, length, map, Option, Some, None, refl, ap, ◌∙◌, arith, length-append}
 use Rattle.std.specs.Prelude.{is_some, is_none, option_map}
 use Rattle.std.specs.List.{AllByRecursion}
 use Rattle.std.specs.Str.{bytes_eq}
@@ -16,19 +16,28 @@ use Rattle.ask_model.specs.Views.{Ask}
 use Rattle.ask_model.specs.declared.cause.Cause.TheVariants as C
 use Rattle.journal_book.specs.Entries.{Deed, Asks}
 use Rattle.history_laws.specs.Numbering.{token_number}
-use Rattle.history_laws.proofs.CallerLemmas.{all-more, rank-below}
+use Rattle.history_laws.specs.Readings.{Noted}
+use Rattle.history_laws.specs.Transmissions.{FirstSending, firsts}
+use Rattle.history_laws.proofs.CallerLemmas.{all-more, all-of, find-some, rank-below, watch-fits}
+use Rattle.observe_share.specs.declared.registration.Registration.{Registration}
 use Rattle.exchange_model.specs.declared.kept.Exchange.{Exchange}
 use Rattle.exchange_model.specs.declared.kept.Reader.{Reader}
 use Rattle.exchange_model.specs.State.{PeerLink, State, link_of, with_link}
-use Rattle.exchange_model.specs.Steps.{Numbers, exchange_for, begins, entered, given_out, is_under, went_out}
-use Rattle.exchange_model.specs.Calls.{served_in, IsAlone, asked_for, asked_with, asked_by, refused, next}
-use Rattle.exchange_model.specs.Entering.{going_as, sent_as, first_deeds, in_turn, at_once, begun, entered_all, BeginsEnter, ServedEnters, JoinsEnter, RefusalsEnter, BusyEnters}
+use Rattle.exchange_model.specs.Steps.{Numbers, exchange_for, begins, entered, given_out, is_under, unwatched, went_out}
+use Rattle.exchange_model.specs.Reads.{Reads}
+use Rattle.exchange_model.specs.Watching.{is_one_of, is_renewed_by, tokens_of, touched}
+use Rattle.exchange_model.proofs.Apart.{under-of}
+use Rattle.exchange_model.proofs.LetGo.{handed-let-go, let-go-all}
+use Rattle.exchange_model.proofs.Watches.{gone-stands}
+use Rattle.exchange_model.specs.Calls.{serves, served_in, IsAlone, asked_for, asked_with, asked_by, refused, next}
+use Rattle.exchange_model.specs.Entering.{going_as, sent_as, first_deeds, in_turn, at_once, awaits_no_more, begun, entered_all, BeginsEnter, ServedEnters, JoinsEnter, RefusalsEnter, BusyEnters}
 use Rattle.exchange_model.proofs.Opened.{OpenIn, open-ones}
 use Rattle.exchange_model.proofs.Entered.{put, next-put, turn_of, out-at}
 use Rattle.exchange_model.proofs.LinksHeard.{Turns, turns}
 
 pub refusals-enter : RefusalsEnter
-refusals-enter t c a n cause status S e = ap (λ (z : Sense). asked_by z t c a n S) e
+refusals-enter t c a n cause status S e =
+    ap (λ (z : Sense). asked_by z t c a n S) e ∙ ap (λ (z : Sense). record (refused t c a cause S) { watches = touched t z S.watches }) e
 
 alone : (t c : ℕ) (a : Ask) (q : CoapRequest) (n : Numbers) (S : State) → IsAlone t q S
     → asked_for (served_in q t S) t c a q n S ≡ asked_with None t c a q n S
@@ -36,14 +45,17 @@ alone t c a q n S none = ap (λ (v : Option Stored). asked_for v t c a q n S) no
 
 pub served-enters : ServedEnters
 served-enters t c a q n s S sense served =
-    ap (λ (z : Sense). asked_by z t c a n S) sense ∙ ap (λ (v : Option Stored). asked_for v t c a q n S) served
+    ap (λ (z : Sense). asked_by z t c a n S) sense
+    ∙ (ap (λ (v : Option Stored). asked_for v t c a q n S) served
+    ∙ ap (λ (z : Sense). record (serves t c a q s S) { watches = touched t z S.watches }) sense)
 
 pub busy-enters : BusyEnters
 busy-enters t c a q n S e none full =
     ap (λ (z : Sense). asked_by z t c a n S) e
     ∙ (alone t c a q n S none
-    ∙ ap (λ (b : Bool). cond b (next t q.peer (begins t c a q n.token n.text n.word S))
-    (refused t c a C.Busy S)) full)
+    ∙ (ap (λ (b : Bool). cond b (next t q.peer (begins t c a q n.token n.text n.word S))
+    (refused t c a C.Busy S)) full
+    ∙ ap (λ (z : Sense). record (refused t c a C.Busy S) { watches = touched t z S.watches }) e))
 
 pub joins-enter : JoinsEnter
 joins-enter t c a q n e S sense none found =
@@ -86,12 +98,27 @@ turn-at-once w (Some o) ws h = refl
 turn-at-once w None ws h = ap (λ (us : List Waiting). in_turn true (us ++ w ∷ [])) h
 
 -- A message that goes out is nothing to these tables.
-opens-framed : (t : ℕ) (p : Peer) (m : Option ℕ) (w : Option Waiting) (n : ℕ) (es : List Exchange) (rs : List Reader) (xs : List PeerLink)
+opens-framed : (t : ℕ) (p : Peer) (m : Option ℕ) (w : Option Waiting) (n : ℕ) (es : List Exchange) (rs : List Reader) (vs : List Registration) (xs : List PeerLink)
     (fs : List Exchange) (ys : List PeerLink) (S : State)
-    → put t (first_deeds t p m w) es xs (record S { issued = n; exchanges = fs; readers = rs; links = ys })
-    ≡ (let S1 = entered_all t (first_deeds t p m w) S in record S1 { issued = n; exchanges = es; readers = rs; links = xs })
-opens-framed t p m None n es rs xs fs ys S = refl
-opens-framed t p m (Some w) n es rs xs fs ys S = refl
+    → put t (first_deeds t p m w) es xs (record S { issued = n; exchanges = fs; readers = rs; watches = vs; links = ys })
+    ≡ (let S1 = entered_all t (first_deeds t p m w) S in record S1 { issued = n; exchanges = es; readers = rs; watches = vs; links = xs })
+opens-framed t p m None n es rs vs xs fs ys S = refl
+opens-framed t p m (Some w) n es rs vs xs fs ys S = refl
+
+-- No watch is under the new token: those have lower numbers.
+new-apart : (l : List Noted) (S : State) (r : Reads l S) (drop : Registration → Bool) (token : List ℕ) → token_number token ≡ S.issued
+    → is_one_of (tokens_of drop S.watches) token ≡ false
+new-apart l S r drop token number = by (is_one_of (tokens_of drop S.watches) token) refl
+  where
+    by : (b : Bool) → is_one_of (tokens_of drop S.watches) token ≡ b → b ≡ false
+    by false e = refl
+    by true e =
+        let w = gone-stands l token drop (subst (λ (rs : List Registration). is_one_of (tokens_of drop rs) token ≡ true) (sym r.watches_are) e) in
+        let u = under-of l w.0 (watch-fits l w.0 r.legal w.1) in
+        let it = find-some (λ (f : FirstSending). eqb f.number w.0.sending) (firsts l) u.first u.is in
+        let less = all-of (λ (f : FirstSending). token_number f.message.token < S.issued) (firsts l) u.first r.tokens_are it.0 in
+        let same = ap token_number (u.token ∙ w.2) in
+        absurd (omega (arith, less, same, number))
 
 pub begins-enter : BeginsEnter
 begins-enter t c a q n S may drained numbered sense none place =
@@ -105,11 +132,23 @@ begins-enter t c a q n S may drained numbered sense none place =
     (length-append S.entries (record { moment = t; deed = Asks c a } ∷ []))
     ∙ (ap (λ (es : List Exchange). put t ds es links S1)
     (new-sent w (length S.entries + 1) s.outstanding S.exchanges
-    (exchange_for t q n.token S) refl refl refl fresh)
-    ∙ opens-framed t q.peer s.last_mid up (S.issued + 1) (begun t c a q n S).exchanges S1.readers links S1.exchanges S1.links (entered t (Asks c a) S)))))))
+    (exchange_for t a q n.token S) refl refl refl fresh)
+    ∙ (ap (λ (u : LinkState). put t ds (begun t c a q n S).exchanges (with_link q.peer (given_out u) S.links) S1) released
+    ∙ opens-framed t q.peer s.last_mid up (S.issued + 1) (begun t c a q n S).exchanges S1.readers S1.watches (begun t c a q n S).links S1.exchanges S1.links (entered t (Asks c a) S))))))))
   where
     s : LinkState
-    s = link_of S.links q.peer
+    s = unwatched q S
+
+    tokens : List (List ℕ)
+    tokens = tokens_of (is_renewed_by q) S.watches
+
+    released : submitted t (waits n.token n.text n.word) (unwatched q S) ≡ awaits_no_more tokens (submitted t (waits n.token n.text n.word) (link_of S.links q.peer))
+    released =
+        sym (let-go-all tokens (submitted t (waits n.token n.text n.word) (link_of S.links q.peer))
+        ∙ handed-let-go t (waits n.token n.text n.word) (is_one_of tokens) (link_of S.links q.peer)
+        (new-apart may.kept.reading S may.kept.rests.reads (is_renewed_by q) n.token numbered.number)
+        (λ e. subst (λ (v : Option Outstanding). Turns v (link_of S.links q.peer).waiting) e
+        (turns _ (link_of S.links q.peer).outstanding (link_of S.links q.peer).waiting (may.kept.rests.links q.peer))))
 
     w : Waiting
     w = waits n.token n.text n.word

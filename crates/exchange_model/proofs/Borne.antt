@@ -1,7 +1,8 @@
 -- The token that a new message ends was sent to its endpoint.
-use Rattle.std.proofs.Common.{◌≡◌, ℕ, ◌⊎◌, inl, inr, Bool, true, false, cond, eqb, ltb, leb, List, ◌++◌, Option, Some, None, refl, sym, subst, ◌∙◌}
+use Rattle.std.proofs.Common.{◌≡◌, ℕ, ◌⊎◌, inl, inr, Bool, true, false, cond, eqb, ltb, leb, List, ◌++◌, Option, Some, None, refl, sym, ap, subst, ◌∙◌}
 use Rattle.std.specs.Prelude.{◌&&◌, count_by}
 use Rattle.std.specs.List.{find, list_any}
+use Rattle.std.proofs.lemmas.Bool.{false≢true, or_cases}
 use Rattle.std.proofs.lemmas.Option.{same_Some}
 use Rattle.coap_codec.specs.Spelling.{Content}
 use Rattle.coap_codec.specs.declared.message.MsgType.{MsgType}
@@ -18,9 +19,10 @@ use Rattle.message_layer.specs.declared.verdict.Verdict.{Verdict}
 use Rattle.history_laws.specs.Readings.{Noted}
 use Rattle.history_laws.specs.Transmissions.{FirstSending, first_at}
 use Rattle.history_laws.specs.Exchanges.{awaited}
-use Rattle.history_laws.specs.Hearing.{went_under, went_as, is_under, is_as, open_at, answers_by, answers}
+use Rattle.history_laws.specs.Hearing.{went_under, went_as, is_under, is_as, open_at, expected, answers_by, answers}
 use Rattle.history_laws.proofs.CallerLemmas.{and-left, and-right, find-any, find-some}
-use Rattle.history_links.specs.Agrees.{Start, TurnIn, Agrees}
+use Rattle.history_laws.specs.Observing.{watched}
+use Rattle.history_links.specs.Agrees.{Start, TurnIn, Agrees, awaits, notified}
 use Rattle.history_links.specs.Steps.{ended_token}
 use Rattle.history_links.proofs.CallerLemmas.{out-first, out-peer, token-found}
 
@@ -48,8 +50,14 @@ under-borne l p token i e =
 
 if-awaited : {start : Start} (l : List Noted) (p : Peer) (s : LinkState) (m : Content) (of : List ℕ) → Agrees start l p s → list_any (is_awaited m.token) s.awaited ≡ true → Some m.token ≡ Some of → IsBorne l p of
 if-awaited l p s m of a e same =
-    let one = any-one (λ (i : ℕ). went_under p m.token (first_at l i)) (awaited l) (sym (a.awaits m.token) ∙ e) in
-    subst (IsBorne l p) (same_Some m.token of same) (under-borne l p m.token one.0 one.1)
+    subst (IsBorne l p) (same_Some m.token of same) (elim (or_cases (awaits l p m.token) (notified l p m.token) (sym (a.awaits m.token) ∙ e)) [
+      | inl reply ↦
+          let one = any-one (λ (i : ℕ). went_under p m.token (first_at l i)) (awaited l) reply in
+          under-borne l p m.token one.0 one.1
+      | inr news ↦
+          let one = any-one (λ (i : ℕ). went_under p m.token (first_at l i)) (watched l) news in
+          under-borne l p m.token one.0 one.1
+    ])
 
 pub split : (c : Bool) (x y : Verdict) (token of : List ℕ) → ended_token (cond c x y).news token ≡ Some of
     → ((c ≡ true) × (ended_token x.news token ≡ Some of)) ⊎ ((c ≡ false) × (ended_token y.news token ≡ Some of))
@@ -125,9 +133,9 @@ under-peer p token v f is e = and-left (same_peer f.peer p) _ (subst (λ (u : Op
 
 answers-what : (l : List Noted) (p : Peer) (m : Content) (k : MsgType) (empty response : Bool) (i : ℕ) → answers_by l p m k empty response ≡ Some i
     → (is_under l p m i ≡ true) ⊎ (is_as l p m i ≡ true)
-answers-what l p m Con empty true i e = inl ((find-some (is_under l p m) (awaited l) i e).1)
+answers-what l p m Con empty true i e = inl ((find-some (is_under l p m) (expected l) i e).1)
 answers-what l p m Con empty false i e = absurd cc
-answers-what l p m Non empty true i e = inl ((find-some (is_under l p m) (awaited l) i e).1)
+answers-what l p m Non empty true i e = inl ((find-some (is_under l p m) (expected l) i e).1)
 answers-what l p m Non empty false i e = absurd cc
 answers-what l p m Ack empty true i e = inl (and-left (is_under l p m i) _ ((find-some (λ (j : ℕ). is_under l p m j && is_as l p m j) (awaited l ++ open_at l p) i e).1))
 answers-what l p m Ack true false i e = inr ((find-some (is_as l p m) (open_at l p) i e).1)
@@ -140,3 +148,12 @@ answers-peer l p m i f e is = elim (answers-what l p m m.kind (eqb m.code 0) (le
   | inl w ↦ under-peer p m.token (first_at l i) f is w
   | inr w ↦ as-peer p m.mid (first_at l i) f is w
 ]
+
+-- It is one that stands.
+pub answers-first : (l : List Noted) (p : Peer) (m : Content) (i : ℕ) → answers l p m ≡ Some i → (f : FirstSending) × (first_at l i ≡ Some f)
+answers-first l p m i e = by (first_at l i) refl (answers-what l p m m.kind (eqb m.code 0) (leb 32 m.code) i e)
+  where
+    by : (v : Option FirstSending) → first_at l i ≡ v → (is_under l p m i ≡ true) ⊎ (is_as l p m i ≡ true) → (f : FirstSending) × (first_at l i ≡ Some f)
+    by (Some f) is w = (f, is)
+    by None is (inl w) = absurd (false≢true (sym (ap (went_under p m.token) is) ∙ w))
+    by None is (inr w) = absurd (false≢true (sym (ap (went_as p m.mid) is) ∙ w))

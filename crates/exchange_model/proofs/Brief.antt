@@ -27,8 +27,8 @@ use Rattle.history_laws.specs.Readings.{Noted}
 use Rattle.history_laws.specs.Responses.{Response, is_tellable, joined, whole_by, whole_fetched, whole_given, whole_of}
 use Rattle.history_laws.specs.Progress.{Reply, numbers, messages, Ending, Whole, NotUnderstood, Reset, TimedOut, Turned}
 use Rattle.history_laws.specs.Justified.{Ends}
-use Rattle.history_laws.specs.Storing.{IsStored}
-use Rattle.history_laws.proofs.CallerLemmas.{ends-all, none-some}
+use Rattle.history_laws.specs.Storing.{ComesSo, IsStored}
+use Rattle.history_laws.proofs.CallerLemmas.{ends-all, first-whole, none-some}
 use Rattle.resp_cache.specs.Stored.{Stored}
 use Rattle.exchange_model.specs.declared.kept.Reader.{Reader}
 use Rattle.exchange_model.specs.Calls.{grounds_for}
@@ -168,7 +168,7 @@ ends-brief l o n Turned sending r short h = omega arith
 -- and of what is stored
 pub stored-few : (l : List Noted) (q : CoapRequest) (s : Stored) → IsStored l q s → length s.list ≤ 4097
 stored-few l q s a =
-    let few = ends-few l a.opening a.ending s.response (a.first ∷ a.more) get a.ends.ended in
+    let few = by a.comes in
     let same = ap (λ (js : List ℕ). length js) a.list in
     omega (arith, few, same)
   where
@@ -176,3 +176,10 @@ stored-few l q s a =
     get b opened write =
         let both = and_parts (asks_the_same q (begun_in l a.opening)) _ a.shared in
         absurd (false≢true (sym write ∙ alike-get q b.request (subst (λ (v : Option Begun). asks_the_same q v ≡ true) opened both.0)))
+
+    -- a notification is one message
+    by : ComesSo l a.opening a.ending s.response (a.first ∷ a.more) → length (numbers (a.first ∷ a.more)) ≤ 4097
+    by (inl so) = ends-few l a.opening a.ending s.response (a.first ∷ a.more) get so.ended
+    by (inr told) =
+        let one = ap (λ (rs : List Reply). length (numbers rs)) (first-whole a.ending told.sending told.message s.response (a.first ∷ a.more) told.whole) in
+        omega (arith, one)

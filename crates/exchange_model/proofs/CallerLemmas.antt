@@ -29,3 +29,4 @@ pub use Rattle.exchange_model.proofs.TurnedRoom.{rotates-drained, rotates-in-roo
 pub use Rattle.exchange_model.proofs.OverTold.{EndsWhole, over-heard}
 pub use Rattle.exchange_model.proofs.Works.{all-asked-for, comes-get, restarts-few, work-of}
 pub use Rattle.exchange_model.proofs.Opened.{OpenIn, open-ones}
+pub use Rattle.exchange_model.proofs.Handed.{asks-get, fetched-count, reset-notes}

@@ -25,7 +25,8 @@ use Rattle.ask_model.specs.declared.cause.Cause.TheVariants as C
 use Rattle.journal_book.specs.Entries.{Kept, Fault}
 use Rattle.history_laws.specs.Progress.{Progress}
 use Rattle.history_laws.specs.Readings.{Noted}
-use Rattle.exchange_model.specs.Steps.{Numbers, Matter, Nothing, Goes, Over, more_by, link_with, matter_of, recalls, joins, opens, asks, begins, hears, hears_nothing}
+use Rattle.exchange_model.specs.Watching.{is_one_of}
+use Rattle.exchange_model.specs.Steps.{gone_by, Numbers, Matter, Nothing, Tells, Goes, Over, more_by, link_with, matter_of, recalls, joins, opens, asks, begins, hears, hears_nothing, unwatched}
 use Rattle.exchange_model.specs.Calls.{served_in, serves, asked_for, joined, asked_with, next, refused, has_place, asked_by, asked, given_back, takes_new, takes_by, repeats, resets, reads_so, goes_with, goes_as, goes_by, heard}
 use Rattle.exchange_model.specs.declared.kept.Conn.{Conn}
 use Rattle.exchange_model.specs.declared.kept.Exchange.{Exchange}
@@ -87,8 +88,8 @@ begun-adds : (l : List Noted) (t c : ℕ) (a : Ask) (q : CoapRequest) (n : Numbe
 begun-adds l t c a q n S r h short =
     let S1 = begins t c a q n.token n.text n.word S in
     let tidy = tidy-with q.peer _ S.links h
-    (short-queued t (link_of S.links q.peer) n.token n.text n.word
-    (short-link S.links q.peer h.short) short) in
+    (short-queued t (unwatched q S) n.token n.text n.word
+    (record { outstanding = (short-link S.links q.peer h.short).outstanding; waiting = (short-link S.links q.peer h.short).waiting }) short) in
     let one = asks-counts l t c a S S1 r refl refl refl tidy in
     let two = next-adds t q.peer S1 tidy in
     at-most 3 (90064 + came_size a.came + 2088) 3 (92152 + came_size a.came) S (next t q.peer S1)
@@ -160,6 +161,7 @@ IsShortBy x n = (e : Exchange) (progress : Progress) → x ≡ Goes e progress �
 
 short-more : (t : ℕ) (x : Matter) (n : Numbers) (s : LinkState) → IsShortBy x n → IsShort s → IsShort (link_with t (more_by n x) s)
 short-more t Nothing n s h short = short
+short-more t (Tells r stored) n s h short = short
 short-more t (Over e how) n s h short = short
 short-more t (Goes e progress) n s h short = short-queued t s n.token n.text n.word short (h e progress refl)
 
@@ -171,7 +173,7 @@ new-adds t p d m v n S h served short little brief =
     let S1 = hears t p d m n S in
     let x = matter_of t p m (verdict_of t (link_of S.links p) m) S in
     let tidy = tidy-with p _ S.links h
-    (short-more t x n _ little (short-heard t m.mid m.token (verdict_of t (link_of S.links p) m) (link_of S.links p)
+    (short-more t x n _ little (short-heard t m.mid m.token (is_one_of (gone_by m S.entries x S.watches)) (verdict_of t (link_of S.links p) m) (link_of S.links p)
     (short-link S.links p h.short))) in
     let one = still-adds 2112 S S1 _ refl refl refl tidy (omega (arith, short)) in
     let S2 = given_back t p (replies m.mid v.reply) S1 in

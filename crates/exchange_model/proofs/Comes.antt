@@ -1,5 +1,5 @@
 -- How far an exchange comes by a reply is the same in the history and in the state.
-use Rattle.std.proofs.Common.{◌≡◌, ℕ, Bool, true, false, cond, eqb, List, [], ◌∷◌, ◌++◌, length, map, Option, Some, None, refl, sym, ap, subst, ◌∙◌}
+use Rattle.std.proofs.Common.{◌≡◌, ℕ, List, [], ◌∷◌, ◌++◌, length, map, Option, Some, None, refl, sym, ap, subst, ◌∙◌}
 use Rattle.std.specs.Prelude.{filter_map, slice_get, option_and_then}
 use Rattle.std.specs.List.{AllByRecursion, Contains}
 use Rattle.std.proofs.lemmas.List.Elements.{Contains-append_right}
@@ -29,7 +29,7 @@ got-among q rs (Fetches k p got) h r has =
 got-among q rs (Gives u got) h r has = subst (λ (v : List Reply). Contains v r) (sym h.1.all) has
 got-among q rs (Ends how) h r has = absurd (contains-none r has)
 
-got-replied : (l : List Noted) (o : ℕ) → end_of l o ≡ None → (r : Reply) → Contains (got_in l o) r → Contains (replies l o) r
+pub got-replied : (l : List Noted) (o : ℕ) → end_of l o ≡ None → (r : Reply) → Contains (got_in l o) r → Contains (replies l o) r
 got-replied l o going r has = by (begun l o) (goes-so l o going) has
   where
     by : (b : Option Begun) → GoesSo b (replies l o) → Contains (got_for b (replies l o)) r → Contains (replies l o) r
@@ -50,7 +50,7 @@ all-read : (ws : List Written) (rs : List Reply) → AllByRecursion (λ (r : Rep
 all-read ws [] h = refl
 all-read ws (r ∷ rs) h = rw (h.0) (ap (λ (v : List Reply). bare r ∷ v) (all-read ws rs h.1))
 
-fetched-same : (l : List Noted) (S : State) (e : Exchange) → Reads l S → Contains S.exchanges e → end_of l e.opening ≡ None
+pub fetched-same : (l : List Noted) (S : State) (e : Exchange) → Reads l S → Contains S.exchanges e → end_of l e.opening ≡ None
     → fetched_in S.entries e.opening S.pieces ≡ map bare (got_in l e.opening)
 fetched-same l S e r has going =
     let own : numbers (got_in l e.opening) ≡ numbers_of e.opening S.pieces =

@@ -1,13 +1,16 @@
 -- Copies begin nothing: none is outstanding, open, awaited or waits, no token is issued, and no
 -- connection opened.
-use Rattle.std.proofs.Common.{◌≡◌, ℕ, Bool, true, false, List, [], ◌∷◌, ◌++◌, length, Option, Some, None, refl, ap, ◌∙◌}
-use Rattle.std.specs.Prelude.{filter, filter_map, option_and_then}
+use Rattle.std.proofs.Common.{◌≡◌, ℕ, Bool, true, false, List, [], ◌∷◌, ◌++◌, length, Option, Some, None, map, refl, ap, ◌∙◌}
+use Rattle.std.specs.Prelude.{filter, filter_map, option_and_then, ◌||◌}
 use Rattle.std.specs.List.{list_any}
 use Rattle.uri_map.specs.declared.peer.Peer.{Peer}
 use Rattle.history_laws.specs.Readings.{Noted}
+use Rattle.history_laws.specs.Hearing.{went_under}
 use Rattle.history_laws.specs.Connections.{is_sealed, has_opened, opened}
-use Rattle.history_laws.specs.Transmissions.{FirstSending, last_sent, transmission, outstanding, if_outstanding}
+use Rattle.history_laws.specs.Transmissions.{FirstSending, first_at, last_sent, transmission, outstanding, if_outstanding}
 use Rattle.history_laws.specs.Exchanges.{openings, open_exchanges, awaited, waits_for, waiting, is_waiting, is_submitted_at, is_going, is_issued_at, issued, issued_by}
+use Rattle.history_laws.specs.Observing.{watches, watched, sending_of}
+use Rattle.history_links.specs.Agrees.{expects}
 use Rattle.exchange_model.specs.Reads.{readers_of, conns_of, opens_in}
 use Rattle.exchange_model.proofs.Shapes.{Kept, Sending, Hearing, kept_as, still_kept, copy_as}
 use Rattle.exchange_model.proofs.Copies.{cons_if, add_kept, copied}
@@ -47,6 +50,13 @@ pub sealed-copied : (t : ℕ) (l : List Noted) → is_sealed (copied t l) ≡ fa
 sealed-copied = same-copied is_sealed by
   where
     by : SameWith is_sealed
+    by n s (Sending p b w m) l = refl
+    by n s (Hearing p b m a) l = refl
+
+pub unwatched : (t : ℕ) (l : List Noted) → watches (copied t l) ≡ []
+unwatched = same-copied watches by
+  where
+    by : SameWith watches
     by n s (Sending p b w m) l = refl
     by n s (Hearing p b m a) l = refl
 
@@ -141,3 +151,16 @@ none-waits t l p = (quiet-copied t l).1 p
 
 pub none-issued : (t : ℕ) (l : List Noted) → issued (copied t l) ≡ 0
 none-issued t l = (quiet-copied t l).2
+
+-- So no reply and no notification is expected.
+
+pub none-expected : (t : ℕ) (l : List Noted) (p : Peer) (token : List ℕ) → false ≡ expects (copied t l) p token
+none-expected t l p token = by (awaited (copied t l)) (watched (copied t l)) (none-awaited t l) (ap (map sending_of) (unwatched t l))
+  where
+    under : ℕ → Bool
+    under i = went_under p token (first_at (copied t l) i)
+
+    by : (is ws : List ℕ) → is ≡ [] → ws ≡ [] → false ≡ (list_any under is || list_any under ws)
+    by [] [] a b = refl
+    by (i ∷ is) ws a b = cc
+    by [] (w ∷ ws) a b = cc

@@ -7,8 +7,7 @@ use Rattle.message_layer.specs.Values.{LinkState}
 use Rattle.message_layer.specs.Hearing.{is_fresh}
 use Rattle.message_layer.specs.declared.state.Heard.{Heard}
 use Rattle.history_laws.specs.Readings.{Noted}
-use Rattle.history_laws.specs.Hearing.{knows, went_under}
-use Rattle.history_laws.specs.Transmissions.{first_at}
+use Rattle.history_laws.specs.Hearing.{knows}
 use Rattle.history_laws.specs.Justified.{Legal}
 use Rattle.history_links.specs.Agrees.{Start, IsFrom, Agrees, HeardIn, WaitIn, TurnIn}
 use Rattle.history_links.proofs.CallerLemmas.{count-kept, firsts-falling, given-kept, repeats-kept}
@@ -16,7 +15,7 @@ use Rattle.message_layer.specs.Calls.{kept_link}
 use Rattle.exchange_model.proofs.Copies.{copied}
 use Rattle.exchange_model.proofs.CopiedSendings.{last-copied, up-copied, used-copied}
 use Rattle.exchange_model.proofs.CopiedHeard.{found-copied, live-copied}
-use Rattle.exchange_model.proofs.CopiedIdle.{none-awaited, none-out, none-waits}
+use Rattle.exchange_model.proofs.CopiedIdle.{none-awaited, none-expected, none-out, none-waits}
 
 -- From the turn on is from the beginning on.
 from-before : (start after : Start) (t : ℕ) (l : List Noted) → after.moment ≡ t → IsFrom start l t → (u : ℕ) → IsFrom after (copied t l) u → (t ≤ u) × IsFrom start l u
@@ -57,7 +56,7 @@ kept-agrees start after t l p s legal at-turn now known a = record {
       let later = from-before start after t l at-turn now u from in
       given-kept t u s.given later.0 ∙ (a.given u later.1 ∙ sym (used-copied t u p l later.0));
   waits = subst (λ (os : List ℕ). WaitIn after (copied t l) os []) (sym (none-waits t l p)) tt;
-  awaits = λ token. none-any (λ (i : ℕ). went_under p token (first_at (copied t l) i)) _ (none-awaited t l);
+  awaits = λ token. none-expected t l p token;
   acks = λ mid token. none-any _ _ (none-awaited t l);
   heard = heard-copied start after t l p s.heard at-turn now a.heard;
 }

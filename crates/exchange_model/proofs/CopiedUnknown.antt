@@ -11,13 +11,13 @@ use Rattle.uri_map.specs.Peers.{same_peer}
 use Rattle.journal_book.specs.Entries.{Written}
 use Rattle.message_layer.specs.Values.{empty_link}
 use Rattle.history_laws.specs.Readings.{Noted, entries}
-use Rattle.history_laws.specs.Transmissions.{FirstSending, firsts, first_at, last_sent, is_recent}
-use Rattle.history_laws.specs.Hearing.{is_such, knows, recalls, heard_before, live_heard, went_under}
+use Rattle.history_laws.specs.Transmissions.{FirstSending, firsts, last_sent, is_recent}
+use Rattle.history_laws.specs.Hearing.{is_such, knows, recalls, heard_before, live_heard}
 use Rattle.history_links.specs.Agrees.{Start, Agrees, WaitIn, CountUp, IsLast}
 use Rattle.exchange_model.specs.Rotating.{is_of}
 use Rattle.exchange_model.proofs.Shapes.{Kept, Sending, Hearing, kept_as, still_kept, copy_as}
 use Rattle.exchange_model.proofs.Copies.{cons_if, add_kept, copied}
-use Rattle.exchange_model.proofs.CopiedIdle.{none-awaited, none-out, none-waits}
+use Rattle.exchange_model.proofs.CopiedIdle.{none-awaited, none-expected, none-out, none-waits}
 
 -- Who is known is of whom something is copied.
 
@@ -139,7 +139,7 @@ none-agrees after t l p e =
       given = λ u from.
           sym (sym (length-filter (is_recent u p) (firsts (copied t l))) ∙ ap (λ (fs : List FirstSending). length fs) (none-to u p (firsts (copied t l)) unsent));
       waits = subst (λ (os : List ℕ). WaitIn after (copied t l) os []) (sym (none-waits t l p)) tt;
-      awaits = λ token. none-any (λ (i : ℕ). went_under p token (first_at (copied t l) i)) _ (none-awaited t l);
+      awaits = λ token. none-expected t l p token;
       acks = λ mid token. none-any _ _ (none-awaited t l);
       heard = record {
         repeats = λ u mid from. sym (ap (option_map _) (unheard.0 u mid));

@@ -1,5 +1,5 @@
 -- What a link counts as lost is no entry; and the tokens of what ends at a tick.
-use Rattle.std.proofs.Common.{◌≡◌, ℕ, Bool, true, false, cond, not, leb, List, [], ◌∷◌, length, map, Option, Some, None, Result, Ok, Err, refl, sym, ap, ◌∙◌}
+use Rattle.std.proofs.Common.{◌≡◌, ℕ, Bool, true, false, cond, not, leb, List, [], ◌∷◌, ◌++◌, length, map, Option, Some, None, Result, Ok, Err, refl, sym, ap, ◌∙◌}
 use Rattle.std.specs.Prelude.{filter, is_some, ◌&&◌, ◌||◌}
 use Rattle.std.specs.List.{find, list_any}
 use Rattle.std.specs.Str.{bytes_eq}
@@ -20,9 +20,10 @@ use Rattle.message_layer.specs.declared.verdict.Verdict.{Verdict}
 use Rattle.history_laws.specs.Hearing.{is_such}
 use Rattle.exchange_model.specs.declared.kept.Exchange.{Exchange}
 use Rattle.exchange_model.specs.State.{State, link_of}
-use Rattle.exchange_model.specs.Steps.{Numbers, hears_nothing, is_under, expires}
+use Rattle.exchange_model.specs.Steps.{Numbers, hears_nothing, is_gone, is_under, is_unwatched, expires, timed_out}
 use Rattle.exchange_model.specs.Calls.{given_back, takes_by, repeats, reads_so}
-use Rattle.exchange_model.specs.Entering.{token_of, is_one_of, DroppedStays, GoneTokens}
+use Rattle.exchange_model.specs.Watching.{is_one_of, tokens_of}
+use Rattle.exchange_model.specs.Entering.{token_of, DroppedStays, GoneTokens}
 use Rattle.exchange_model.proofs.LinksHeard.{limits}
 
 -- What repeats another is told nothing of.
@@ -127,5 +128,20 @@ ends-among token q (e ∷ es) = by (q e) (is_under token e) refl (ends-among tok
         both true = refl
         both false = refl
 
+one-joined : (token : List ℕ) (xs ys : List (List ℕ)) → is_one_of (xs ++ ys) token ≡ (is_one_of xs token || is_one_of ys token)
+one-joined token [] ys = refl
+one-joined token (x ∷ xs) ys = by (bytes_eq token x) (one-joined token xs ys)
+  where
+    by : (b : Bool) → is_one_of (xs ++ ys) token ≡ (is_one_of xs token || is_one_of ys token)
+        → (b || is_one_of (xs ++ ys) token) ≡ ((b || is_one_of xs token) || is_one_of ys token)
+    by true ih = refl
+    by false ih = ih
+
 pub gone-tokens : GoneTokens
-gone-tokens t S = λ i token. ends-among token (expires t S.links) S.exchanges i
+gone-tokens t S = λ i token.
+    let ends = map token_of (timed_out t S) in
+    let past = tokens_of (is_unwatched t S) S.watches in
+    let whole : is_gone t S token ≡ is_one_of (ends ++ past) token =
+    ap (λ (b : Bool). b || is_one_of past token) (ends-among token (expires t S.links) S.exchanges)
+    ∙ sym (one-joined token ends past) in
+    whole i

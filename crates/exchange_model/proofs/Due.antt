@@ -7,12 +7,13 @@ use Rattle.message_layer.specs.Values.{LinkState}
 use Rattle.message_layer.specs.Hearing.{is_outstanding_under}
 use Rattle.message_layer.specs.Sending.{due_of}
 use Rattle.message_layer.specs.declared.state.Outstanding.{Outstanding}
+use Rattle.observe_share.specs.Watches.{is_idle}
 use Rattle.history_links.specs.Steps.{is_over}
 use Rattle.exchange_model.specs.declared.kept.Exchange.{Exchange}
 use Rattle.exchange_model.specs.State.{PeerLink, link_of}
 use Rattle.exchange_model.specs.Steps.{is_past, is_in_vain, expires}
 use Rattle.exchange_model.specs.Calls.{is_due, link_due}
-use Rattle.exchange_model.specs.Due.{earlier, earliest, timer, deadline, has_come, NextDue}
+use Rattle.exchange_model.specs.Due.{earlier, earliest, timer, deadline, has_come, idle_from, NextDue}
 use Rattle.exchange_model.proofs.Ticking.{undue-link}
 
 least : (a b t : ℕ) → leb (min a b) t ≡ (leb a t || leb b t)
@@ -68,10 +69,13 @@ past-only t links (e ∷ es) h =
     (ap (λ (b : Bool). b || list_any (λ (e : Exchange). has_come t (deadline e)) es) (sym (or-none (is_past t e))))
 
 pub next-due : NextDue
-next-due t S = by (list_any (link_due t) S.links) refl ∙ sym (either-came t (earliest timer S.links) (earliest deadline S.exchanges)
-    ∙ rw (any-came t timer S.links, any-came t deadline S.exchanges, timer-came t S.links) refl)
+next-due t S =
+    by (list_any (link_due t) S.links) refl
+    ∙ sym (either-came t (earliest timer S.links) (earlier (earliest deadline S.exchanges) (earliest idle_from S.watches))
+    ∙ rw (either-came t (earliest deadline S.exchanges) (earliest idle_from S.watches), any-came t timer S.links, any-came t deadline S.exchanges, any-came t idle_from S.watches, timer-came t S.links) refl)
   where
     by : (b : Bool) → list_any (link_due t) S.links ≡ b
-        → (list_any (link_due t) S.links || list_any (expires t S.links) S.exchanges) ≡ (list_any (link_due t) S.links || list_any (λ (e : Exchange). has_come t (deadline e)) S.exchanges)
+        → (list_any (link_due t) S.links || (list_any (expires t S.links) S.exchanges || list_any (is_idle t) S.watches))
+        ≡ (list_any (link_due t) S.links || (list_any (λ (e : Exchange). has_come t (deadline e)) S.exchanges || list_any (is_idle t) S.watches))
     by true e = rw (e) refl
-    by false e = ap (λ (b : Bool). list_any (link_due t) S.links || b) (past-only t S.links S.exchanges e)
+    by false e = ap (λ (b : Bool). list_any (link_due t) S.links || (b || list_any (is_idle t) S.watches)) (past-only t S.links S.exchanges e)

@@ -10,6 +10,7 @@ use Rattle.message_layer.specs.Values.{LinkState}
 use Rattle.message_layer.specs.Sending.{first_sent, with_outstanding, next_by as call_next_by, submitted_by}
 use Rattle.message_layer.specs.declared.state.Outstanding.{Outstanding}
 use Rattle.message_layer.specs.declared.state.Waiting.{Waiting}
+use Rattle.observe_share.specs.declared.registration.Registration.{Registration}
 use Rattle.resp_cache.specs.declared.pair.Pair.{Pair}
 use Rattle.journal_book.specs.Entries.{Deed}
 use Rattle.exchange_model.specs.declared.kept.Exchange.{Exchange}
@@ -37,17 +38,17 @@ apart : (t : ℕ) (ds : List Deed) (es : List Exchange) (xs : List PeerLink) (S 
 apart t [] es xs S = refl
 apart t (d ∷ ds) es xs S = apart t ds es xs (entered t d S)
 
-pub stored : (t : ℕ) (ds : List Deed) (pieces : List Piece) (store : List Pair) (S : State)
-    → entered_all t ds (record S { pieces = pieces; store = store })
-    ≡ (let S1 = entered_all t ds S in record S1 { pieces = pieces; store = store })
-stored t [] pieces store S = refl
-stored t (d ∷ ds) pieces store S = stored t ds pieces store (entered t d S)
+pub stored : (t : ℕ) (ds : List Deed) (pieces : List Piece) (watches : List Registration) (store : List Pair) (S : State)
+    → entered_all t ds (record S { pieces = pieces; watches = watches; store = store })
+    ≡ (let S1 = entered_all t ds S in record S1 { pieces = pieces; watches = watches; store = store })
+stored t [] pieces watches store S = refl
+stored t (d ∷ ds) pieces watches store S = stored t ds pieces watches store (entered t d S)
 
-pub issued-stored : (t : ℕ) (ds : List Deed) (n : ℕ) (pieces : List Piece) (store : List Pair) (S : State)
-    → entered_all t ds (record S { issued = n; pieces = pieces; store = store })
-    ≡ (let S1 = entered_all t ds S in record S1 { issued = n; pieces = pieces; store = store })
-issued-stored t [] n pieces store S = refl
-issued-stored t (d ∷ ds) n pieces store S = issued-stored t ds n pieces store (entered t d S)
+pub issued-stored : (t : ℕ) (ds : List Deed) (n : ℕ) (pieces : List Piece) (watches : List Registration) (store : List Pair) (S : State)
+    → entered_all t ds (record S { issued = n; pieces = pieces; watches = watches; store = store })
+    ≡ (let S1 = entered_all t ds S in record S1 { issued = n; pieces = pieces; watches = watches; store = store })
+issued-stored t [] n pieces watches store S = refl
+issued-stored t (d ∷ ds) n pieces watches store S = issued-stored t ds n pieces watches store (entered t d S)
 
 pub entered-both : (t : ℕ) (ds fs : List Deed) (S : State)
     → entered_all t (ds ++ fs) S ≡ entered_all t fs (entered_all t ds S)

@@ -1,27 +1,32 @@
 -- Which exchanges a tick ends: a state tells just what the history tells.
-use Rattle.std.proofs.Common.{◌≡◌, ℕ, ◌⊎◌, Bool, true, false, inl, inr, List, [], ◌∷◌, length, Option, Some, None, is_some, refl, sym, ap, subst, ◌∙◌}
+use Rattle.std.proofs.Common.{eqb, ◌≡◌, ℕ, ◌⊎◌, Bool, true, false, inl, inr, List, [], ◌∷◌, length, Option, Some, None, is_some, refl, sym, ap, subst, ◌∙◌}
 use Rattle.std.specs.Prelude.{◌&&◌, ◌||◌, option_and_then}
 use Rattle.std.specs.List.{AllByRecursion, Contains, list_any}
 use Rattle.std.specs.Str.{bytes_eq}
 use Rattle.std.proofs.lemmas.Bool.{false≢true}
 use Rattle.std.proofs.lemmas.Slice.Eq.{bytes_eq-Decides}
 use Rattle.uri_map.specs.declared.peer.Peer.{Peer}
+use Rattle.uri_map.proofs.CallerLemmas.{same_peer-itself}
+use Rattle.observe_share.specs.declared.registration.Registration.{Registration}
 use Rattle.history_laws.specs.Numbering.{token_number}
 use Rattle.message_layer.specs.Hearing.{is_outstanding_under}
 use Rattle.message_layer.specs.declared.state.Outstanding.{Outstanding}
 use Rattle.history_laws.specs.Readings.{Noted}
-use Rattle.history_laws.specs.Transmissions.{FirstSending, first_at, Transmission, transmission, given_up, if_outstanding, outstanding}
+use Rattle.history_laws.specs.Transmissions.{bears_token, FirstSending, firsts, first_at, Transmission, transmission, given_up, if_outstanding, outstanding}
 use Rattle.history_laws.specs.Exchanges.{begun, is_late, expires as ends_at, waits_for, Turn, Sent, Replied, Rejected, Expired, Nothing, turn, waits_by, replies, end_here, end_by, end_of, open_exchanges}
 use Rattle.history_laws.specs.Justified.{Follows, Legal}
 use Rattle.history_laws.specs.Laws.{IsFirst}
-use Rattle.history_laws.proofs.CallerLemmas.{all-more, all-of, contains-mapped, contains-none, first-is, first-or-later, first-waits, may-be, none-is, open-exactly, outstanding-last, sent-for, some-is, turn-sent, waiting-goes, waits-first, way-first}
+use Rattle.history_laws.proofs.CallerLemmas.{all-more, all-of, any-of, find-some, watch-fits, WatchFits, contains-mapped, contains-none, first-is, first-or-later, first-waits, may-be, none-is, open-exactly, outstanding-last, sent-for, some-is, turn-sent, waiting-goes, waits-first, way-first}
 use Rattle.history_links.specs.Agrees.{Start, way_of, TurnIn, Agrees}
 use Rattle.history_links.specs.Steps.{is_over}
 use Rattle.history_links.proofs.CallerLemmas.{is-outstanding, one-token, out-first}
 use Rattle.exchange_model.specs.declared.kept.Exchange.{Exchange}
 use Rattle.exchange_model.specs.State.{PeerLink, State, link_of}
 use Rattle.exchange_model.specs.Reads.{IsSentUnder, ExchangeIn, opening_of, Reads, awaited_by}
-use Rattle.exchange_model.specs.Steps.{is_under, is_past, expires, is_gone}
+use Rattle.exchange_model.specs.Steps.{is_under, is_past, expires, is_gone, is_unwatched}
+use Rattle.exchange_model.specs.Watching.{is_one_of, tokens_of}
+use Rattle.exchange_model.proofs.Apart.{unawaited-by, under-of}
+use Rattle.exchange_model.proofs.Watches.{gone-stands, IsStanding, or-no}
 use Rattle.exchange_model.proofs.Opened.{cancel, OpenIn, one-rank, open-ones}
 
 -- what is given up
@@ -151,12 +156,46 @@ one-tells {X = X} f g v (x ∷ xs) y a h passes = by (f x) refl (first-or-later 
     by false e (inl same) ih = absurd (false≢true (sym e ∙ (ap f same ∙ passes)))
     by false e (inr later) ih = ih later
 
+-- No watch stands under the token of an exchange.
+borne-under : (l : List Noted) (f : FirstSending) (token : List ℕ) (i : ℕ) → first_at l i ≡ Some f → f.message.token ≡ token → bears_token l token ≡ true
+borne-under l f token i is same =
+    any-of (λ (g : FirstSending). bytes_eq g.message.token token) (firsts l) f (find-some (λ (g : FirstSending). eqb g.number i) (firsts l) f is).0
+    ((bytes_eq-Decides f.message.token token).1 same)
+
+pub exchange-apart : {start : Start} (l : List Noted) (e : Exchange) (token : List ℕ) → Legal l → ExchangeIn start l e → e.token ≡ token → IsStanding l token → ⊥
+exchange-apart l e token legal a same w = by (awaited_by e.awaits e.sending) a.awaits a.sent
+  where
+    fits : WatchFits l w.0
+    fits = watch-fits l w.0 legal w.1
+
+    token_is : w.0.held.token ≡ e.token
+    token_is = w.2 ∙ sym same
+
+    by : (v : Option ℕ) → waits_for l e.opening ≡ v → IsSentUnder l e.peer e.token v → ⊥
+    by None waits unborne =
+        let u = under-of l w.0 fits in
+        false≢true (sym unborne ∙ borne-under l u.first e.token w.0.sending u.is (u.token ∙ token_is))
+    by (Some i) waits sent =
+        unawaited-by l w.0 i e.opening e.peer legal fits waits
+        (rw (sent.1, sent.2, sent.3, same_peer-itself e.peer) ((bytes_eq-Decides e.token w.0.held.token).1 (sym token_is)))
+
+pub unwatched-one : (l : List Noted) (S : State) (r : Reads l S) (drop : Registration → Bool) (e : Exchange) (token : List ℕ) → ExchangeIn r.start l e → e.token ≡ token
+    → is_one_of (tokens_of drop S.watches) token ≡ false
+unwatched-one l S r drop e token a same = by (is_one_of (tokens_of drop S.watches) token) refl
+  where
+    by : (b : Bool) → is_one_of (tokens_of drop S.watches) token ≡ b → b ≡ false
+    by false is = refl
+    by true is = absurd (exchange-apart l e token r.legal a same
+        (gone-stands l token drop (subst (λ (rs : List Registration). is_one_of (tokens_of drop rs) token ≡ true) (sym r.watches_are) is)))
+
 -- A token is gone where the exchange that has it ends.
 pub gone-of : (l : List Noted) (t : ℕ) (S : State) (e : Exchange) (o : ℕ) (token : List ℕ) → Reads l S → Contains S.exchanges e → e.opening ≡ o → e.token ≡ token
     → ends_at l o t (waits_for l o) ≡ is_gone t S token
 gone-of l t S e o token r h at under =
-    sym (one-tells (is_under token) (expires t S.links) (ends_at l o t (waits_for l o)) S.exchanges e
-    (all-more (OpenIn r.start l) _ one S.exchanges (open-ones l S r)) h ((bytes_eq-Decides e.token token).1 under))
+    sym (ap (λ (b : Bool). list_any (λ (x : Exchange). is_under token x && expires t S.links x) S.exchanges || b) (unwatched-one l S r (is_unwatched t S) e token mine.0 under)
+    ∙ (or-no (list_any (λ (x : Exchange). is_under token x && expires t S.links x) S.exchanges)
+    ∙ one-tells (is_under token) (expires t S.links) (ends_at l o t (waits_for l o)) S.exchanges e
+    (all-more (OpenIn r.start l) _ one S.exchanges (open-ones l S r)) h ((bytes_eq-Decides e.token token).1 under)))
   where
     mine : OpenIn r.start l e
     mine = all-of (OpenIn r.start l) S.exchanges e (open-ones l S r) h

@@ -14,21 +14,21 @@ use Rattle.uri_map.proofs.CallerLemmas.{same_peer-same}
 use Rattle.message_layer.specs.Values.{LinkState}
 use Rattle.message_layer.specs.Sending.{first_sent, with_outstanding}
 use Rattle.message_layer.specs.declared.state.Waiting.{Waiting}
-use Rattle.ask_model.specs.Sharing.{asked_place}
+use Rattle.ask_model.specs.Sharing.{asked_key, asked_place}
 use Rattle.journal_book.specs.Entries.{Sends, Written}
 use Rattle.history_laws.specs.Numbering.{token_number}
 use Rattle.history_laws.specs.Readings.{Noted}
-use Rattle.history_laws.specs.Progress.{numbers, progress}
+use Rattle.history_laws.specs.Progress.{Reply, numbers, progress}
 use Rattle.history_laws.specs.Transmissions.{FirstSending, bears_token, sent_last}
 use Rattle.history_laws.specs.Exchanges.{Begun, begun, goes_to, openings, is_going, is_waiting, waits_for, rank, replies}
 use Rattle.history_laws.specs.Joining.{outrun}
 use Rattle.history_laws.specs.Justified.{Legal}
 use Rattle.history_laws.proofs.CallerLemmas.{all-more, outrun-same, and-left, at-keeps, begun-keeps, contains-later, entries-length, eqb-itself, issued-same, rank-below, rank-keeps, replies-stay, waiting-goes}
 use Rattle.history_links.specs.Agrees.{Start, IsWaitingFor, Agrees}
-use Rattle.history_links.proofs.CallerLemmas.{ends-sent, next-follows, send-elsewhere, sent, sent-quiet, waits-sent}
+use Rattle.history_links.proofs.CallerLemmas.{ends-sent, next-follows, observes-keep, send-elsewhere, sent, sent-quiet, waits-sent}
 use Rattle.exchange_model.specs.declared.kept.Exchange.{Exchange}
 use Rattle.exchange_model.specs.State.{link_of}
-use Rattle.exchange_model.specs.Reads.{ExchangeIn, got_in, PiecesIn, WaitsUnder, opening_of}
+use Rattle.exchange_model.specs.Reads.{ExchangeIn, got_in, IsNewest, PiecesIn, WaitsUnder, opening_of}
 use Rattle.exchange_model.proofs.Pieces.{got-stays, pieces-quiet}
 use Rattle.exchange_model.specs.Steps.{given_out, is_under, numbers_of, progress_with, went_out}
 use Rattle.exchange_model.specs.declared.kept.Piece.{Piece}
@@ -37,6 +37,7 @@ use Rattle.exchange_model.proofs.Begins.{waits-with}
 use Rattle.exchange_model.proofs.Lists.{all-map, all-both}
 use Rattle.exchange_model.proofs.Opened.{cancel, OpenIn, one-rank, open-ones}
 use Rattle.exchange_model.proofs.Silent.{later-than, link-before, moment-now}
+use Rattle.exchange_model.proofs.Watches.{newest-quiet}
 use Rattle.exchange_model.proofs.Stores.{store-still}
 use Rattle.exchange_model.proofs.Tables.{given-agrees, exchange-stays, all-links}
 
@@ -82,9 +83,13 @@ mine {start = start} l t p bytes timeout o m w legal waits a token e h goes_on u
       number = ap (λ (k : ℕ). start.issued + k) (rank-keeps x l e.opening _ h.opening (replies-stay (length l) _ _ (sent-quiet l t p bytes timeout o m e.opening))) ∙ h.number;
       sending = subst (λ (k : ℕ). sent_last (x ∷ l) k ≡ Some (length l)) at (rw (eqb-itself o) refl);
       awaits = waits-sent l t p bytes timeout o m e.opening ∙ ap (λ (k : ℕ). cond (eqb o k) (Some (length l)) (waits_for l k)) (sym at) ∙ rw (eqb-itself o) refl;
+      observes = observes-keep x l e.opening _ h.opening quiet ∙ h.observes;
+      asked = h.asked;
       named = λ u. refl;
       sent = (f, rw (eqb-itself (length l)) refl, sym (same_peer-same h.request.peer p peer) ∙ h.peer, token ∙ sym same);
       current = current-sent l t p bytes timeout o m e h;
+      newest = λ get. subst (λ (rs : List Reply). IsNewest (x ∷ l) (asked_key h.request) rs e.newest) (sym (got-stays x l e.opening _ h.opening quiet))
+          (newest-quiet x l (asked_key h.request) (got_in l e.opening) e.newest refl (h.newest get));
       progress = ap (progress h.request) quiet ∙ (h.progress ∙ ap (progress_with e.work) (sym (got-stays x l e.opening _ h.opening quiet)));
       short = h.short;
       conn = h.conn;
@@ -93,7 +98,8 @@ mine {start = start} l t p bytes timeout o m w legal waits a token e h goes_on u
     }
 mine {start = start} l t p bytes timeout o m w legal waits a token e h goes_on under false is =
     let x = sent t p bytes timeout o m in
-    exchange-stays x l e e.current unborne (waits-sent l t p bytes timeout o m e.opening ∙ rw (other) refl) (rw (other) refl) h (current-sent l t p bytes timeout o m e h)
+    exchange-stays x l e e.current e.newest unborne (waits-sent l t p bytes timeout o m e.opening ∙ rw (other) refl) (rw (other) refl) refl h (current-sent l t p bytes timeout o m e h)
+    (λ get. newest-quiet x l (asked_key h.request) (got_in l e.opening) e.newest refl (h.newest get))
   where
     peer-of : o ≡ e.opening → e.peer ≡ p
     peer-of at =
@@ -154,7 +160,8 @@ first-leads l t p w ws S b q small few free is =
           pieces_are = pieces-sent n w.token (length S.entries) S.exchanges S.pieces
               (pieces-quiet x l S.exchanges S.pieces (OpenIn b.reads.start l) (λ e h. (_, h.0.opening))
               (λ e h. replies-stay (length l) _ _ (sent-quiet l t p v.datagram (Some v.timeout) o m e.opening)) (open-ones l S r) r.pieces_are);
-          store_is = store-still x l (r.legal, later, made.5.follows) (λ k. ends-sent l t p v.datagram (Some v.timeout) o m k) tt S.store r.store_is;
+          watches_are = r.watches_are;
+          store_is = store-still x l (r.legal, later, made.5.follows) (λ k. ends-sent l t p v.datagram (Some v.timeout) o m k) refl tt S.store r.store_is;
           tokens_are = (let less = rank-below l o _ r.legal made.3.opening (ap is_none (waiting-goes l p o made.2)) in let number = made.3.numbered in let issued = r.issued_are in let token = ap token_number made.4 in omega (arith, less, number, issued, token), r.tokens_are);
           waiting_are = waits-with p s S.links (map (went_out w.token (length S.entries)) S.exchanges)
               (all-map (went_out w.token (length S.entries)) _ S.exchanges (all-more _ _ (λ e h. fewer e h (is_under w.token e)) S.exchanges r.waiting_are))

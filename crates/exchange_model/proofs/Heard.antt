@@ -9,13 +9,15 @@ use Rattle.history_links.specs.Agrees.{due}
 use Rattle.history_links.specs.Steps.{heard}
 use Rattle.exchange_model.specs.declared.kept.Exchange.{Exchange}
 use Rattle.exchange_model.specs.State.{link_of}
-use Rattle.exchange_model.specs.Steps.{Matter, Nothing, Goes, Over, matter_of}
+use Rattle.exchange_model.specs.Steps.{Matter, Nothing, Tells, Goes, Over, matter_of}
 use Rattle.exchange_model.specs.Laws.{Heeds, HearsLeads, IsContinued}
 use Rattle.exchange_model.proofs.Bare.{bare_progress}
 use Rattle.exchange_model.proofs.Left.{after, heeds-so}
 use Rattle.exchange_model.proofs.LeftAlone.{left-alone}
 use Rattle.exchange_model.proofs.LeftGoing.{left-going}
 use Rattle.exchange_model.proofs.LeftOver.{left-over}
+use Rattle.exchange_model.proofs.LeftTold.{left-told}
+use Rattle.exchange_model.proofs.Noticing.{alone, IsAlone, matter-alone}
 use Rattle.exchange_model.proofs.Over.{IsMatter, is-matter, IsOnward}
 
 -- What goes on has not ended.
@@ -43,6 +45,11 @@ hears-leads l t p d m n S h spelled none room continues =
         ended still = subst IsGoing (ap (λ (u : Turn). progress on.it.kept.request (replies_by (length l) u (replies l e.opening))) on.turned ∙ (on.comes ∙ is)) still
 
     by : (k : Matter) → matter_of t p m (verdict_of t (link_of S.links p) m) S ≡ k → IsMatter h.before.reads.start l t p d m S k → Heeded k
-    by Nothing is it = heeds-so l t p d m n S h spelled none room Nothing (left-alone l t p d m n S h spelled none room it)
+    by Nothing is it =
+        heeds-so l t p d m n S h spelled none room Nothing
+        (left-alone l t p d m n S h spelled none room it (subst (IsAlone l t p d m S h none room it) (sym (matter-alone l t p d m S h none room it) ∙ is) (alone l t p d m S h none room it)))
+    by (Tells r found) is it =
+        heeds-so l t p d m n S h spelled none room (Tells r found)
+        (left-told l t p d m n S h spelled none room it r found (subst (IsAlone l t p d m S h none room it) (sym (matter-alone l t p d m S h none room it) ∙ is) (alone l t p d m S h none room it)))
     by (Over e how) is it = heeds-so l t p d m n S h spelled none room (Over e how) (left-over l t p d m n S h spelled none room e how it)
     by (Goes e how) is it = subst (λ (u : Progress). Heeded (Goes e u)) (sym it.same) (goes e how it (continues e how is) it.real refl)

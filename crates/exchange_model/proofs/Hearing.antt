@@ -12,7 +12,7 @@ use Rattle.uri_map.specs.declared.peer.Peer.{Peer}
 use Rattle.uri_map.specs.Peers.{same_peer}
 use Rattle.message_layer.specs.Values.{LinkState}
 use Rattle.message_layer.specs.Hearing.{verdict_of}
-use Rattle.ask_model.specs.Sharing.{asked_place}
+use Rattle.ask_model.specs.Sharing.{asked_key, asked_place, is_get}
 use Rattle.history_laws.specs.Readings.{Noted}
 use Rattle.history_laws.specs.Transmissions.{FirstSending, firsts, first_at, bears_token}
 use Rattle.history_laws.specs.Exchanges.{begun, openings, is_going, open_exchanges, waits_for, awaited, Turn, replies_by, replies, end_of}
@@ -24,34 +24,15 @@ use Rattle.history_links.specs.Agrees.{Start, Agrees}
 use Rattle.history_links.specs.Steps.{ended_token, heard}
 use Rattle.history_links.proofs.CallerLemmas.{ends_what, going-still, hit, is_ended, Judged, one-token, still-after, waits-after}
 use Rattle.exchange_model.specs.declared.kept.Exchange.{Exchange}
-use Rattle.exchange_model.specs.Reads.{IsSentUnder, awaited_by, ExchangeIn, opening_of}
+use Rattle.exchange_model.specs.Reads.{IsNewest, IsSentUnder, awaited_by, ExchangeIn, got_in, opening_of}
 use Rattle.exchange_model.specs.Steps.{is_other}
+use Rattle.exchange_model.proofs.Lists.{filter-map, filter-both}
 use Rattle.exchange_model.proofs.Borne.{IsBorne, ended-borne, answers-peer}
 use Rattle.exchange_model.proofs.Tables.{exchange-stays}
 
 -- lists
 
-pub filter-map : {X Y : Type 0} (q : Y → Bool) (f : X → Y) (xs : List X) → filter q (map f xs) ≡ map f (filter (λ (x : X). q (f x)) xs)
-filter-map q f [] = refl
-filter-map {X = X} q f (x ∷ xs) = by (q (f x)) (filter-map q f xs)
-  where
-    by : (b : Bool) → filter q (map f xs) ≡ map f (filter (λ (y : X). q (f y)) xs)
-        → cond b (f x ∷ filter q (map f xs)) (filter q (map f xs)) ≡ map f (cond b (x ∷ filter (λ (y : X). q (f y)) xs) (filter (λ (y : X). q (f y)) xs))
-    by true h = ap (λ (v : List _). f x ∷ v) h
-    by false h = h
-
-pub filter-both : {X : Type 0} (f g : X → Bool) (xs : List X) → filter (λ (x : X). f x && g x) xs ≡ filter f (filter g xs)
-filter-both f g [] = refl
-filter-both {X = X} f g (x ∷ xs) = by (f x) refl (g x) (filter-both f g xs)
-  where
-    by : (a : Bool) → f x ≡ a → (b : Bool) → filter (λ (y : X). f y && g y) xs ≡ filter f (filter g xs)
-        → cond (a && b) (x ∷ filter (λ (y : X). f y && g y) xs) (filter (λ (y : X). f y && g y) xs) ≡ filter f (cond b (x ∷ filter g xs) (filter g xs))
-    by true is true h = rw (is, h) refl
-    by true is false h = h
-    by false is true h = rw (is) h
-    by false is false h = h
-
-among-awaited : (waits : ℕ → Option ℕ) (i o : ℕ) → waits o ≡ Some i → (os : List ℕ) → list_any (eqb o) os ≡ true → list_any (eqb i) (filter_map waits os) ≡ true
+pub among-awaited : (waits : ℕ → Option ℕ) (i o : ℕ) → waits o ≡ Some i → (os : List ℕ) → list_any (eqb o) os ≡ true → list_any (eqb i) (filter_map waits os) ≡ true
 among-awaited waits i o is [] e = absurd (false≢true e)
 among-awaited waits i o is (q ∷ os) e = elim (eqb_tells o q) [
   | inl w ↦
@@ -176,10 +157,12 @@ hit-kept l t p s m legal agrees judged e a =
 
 -- An exchange that it doesn't answer stays as it is.
 pub kept-one : {start : Start} (l : List Noted) (t : ℕ) (p : Peer) (s : LinkState) (d : List ℕ) (m : Content) → Legal l
-    → (e : Exchange) (b : Bool) → (a : ExchangeIn start l e) → hit (answers l p m) m (waits_for l e.opening) ≡ false
-    → b ≡ not (outrun (heard l t p d m ∷ l) (asked_place a.request) e.opening) → ExchangeIn start (heard l t p d m ∷ l) (record e { current = b })
-kept-one l t p s d m legal e b a stays current =
-    exchange-stays (heard l t p d m) l e b (λ k. k) (waits-after l t p d m (answers l p m) (notice_of l t p m (answers l p m)) e.opening ∙ stay-waiting (hit (answers l p m) m (waits_for l e.opening)) (waits_for l e.opening) stays) refl a current
+    → (e : Exchange) (b c : Bool) → (a : ExchangeIn start l e) → hit (answers l p m) m (waits_for l e.opening) ≡ false
+    → b ≡ not (outrun (heard l t p d m ∷ l) (asked_place a.request) e.opening)
+    → (is_get a.request ≡ true → IsNewest (heard l t p d m ∷ l) (asked_key a.request) (got_in l e.opening) c)
+    → ExchangeIn start (heard l t p d m ∷ l) (record e { current = b; newest = c })
+kept-one l t p s d m legal e b c a stays current newest =
+    exchange-stays (heard l t p d m) l e b c (λ k. k) (waits-after l t p d m (answers l p m) (notice_of l t p m (answers l p m)) e.opening ∙ stay-waiting (hit (answers l p m) m (waits_for l e.opening)) (waits_for l e.opening) stays) refl refl a current newest
 
 -- Nor does it get a reply, or end.
 pub replies-kept : (l : List Noted) (t : ℕ) (p : Peer) (d : List ℕ) (m : Content) (o : ℕ) → hit (answers l p m) m (waits_for l o) ≡ false

@@ -1,10 +1,8 @@
 -- What a datagram leaves.
-use Rattle.std.proofs.Common.{◌≡◌, ℕ, ◌⊎◌, inl, inr, ◌+◌, ◌<◌, Bool, true, false, cond, leb, List, [], ◌∷◌, ◌++◌, length, map, Option, Some, None, Result, Ok, Err, refl, sym, ap, ◌∙◌, arith, append_assoc, append-nil}
+use Rattle.std.proofs.Common.{◌≡◌, ℕ, ◌⊎◌, inl, inr, ◌+◌, Bool, true, false, cond, leb, List, [], ◌∷◌, ◌++◌, length, map, Option, Some, None, Result, Ok, Err, refl, sym, ap, ◌∙◌, arith, append_assoc, append-nil}
 use Rattle.std.specs.Prelude.{fold, ◌&&◌}
-use Rattle.std.specs.Str.{bytes_eq}
-use Rattle.std.proofs.lemmas.Bool.{le-leb}
+use Rattle.std.proofs.lemmas.Bool.{false≢true, le-leb}
 use Rattle.std.proofs.lemmas.List.{length-map}
-use Rattle.std.proofs.lemmas.Slice.Eq.{bytes_eq-Decides}
 use Rattle.limits.specs.declared.TheConstants.{MAX_DATAGRAM_LEN}
 use Rattle.coap_codec.specs.Spelling.{Content}
 use Rattle.coap_codec.specs.Reading.{message_at}
@@ -21,18 +19,21 @@ use Rattle.message_layer.specs.declared.verdict.News.TheVariants as N
 use Rattle.journal_book.specs.Entries.{Deed, Hears}
 use Rattle.history_laws.specs.Numbering.{token_number}
 use Rattle.history_laws.specs.Progress.{Progress}
-use Rattle.history_laws.specs.Transmissions.{FirstSending, firsts}
-use Rattle.history_laws.proofs.CallerLemmas.{all-of, find-some, some-is}
+use Rattle.history_laws.specs.Transmissions.{bears_token, firsts}
+use Rattle.history_laws.specs.Exchanges.{waiting}
+use Rattle.history_laws.proofs.CallerLemmas.{some-is}
 use Rattle.history_links.specs.Steps.{ended_token, heard_link}
-use Rattle.exchange_model.specs.Steps.{Numbers, Matter, Nothing, Goes, Over, matter_by, matter_of, has_next_place, answered_in, more_by, link_with, issued_by, exchanges_by, pieces_by, store_by, given_out, hears, hears_nothing, confirms}
+use Rattle.exchange_model.specs.Watching.{is_one_of}
+use Rattle.exchange_model.specs.Steps.{Numbers, Matter, Nothing, Tells, Goes, Over, gone_by, watches_by, matter_by, matter_of, has_next_place, answered_in, more_by, link_with, issued_by, exchanges_by, pieces_by, store_by, given_out, hears, hears_nothing, confirms}
 use Rattle.exchange_model.specs.Calls.{next_by, next, given_back, Telling, tells, told_for, takes_new, takes_by, repeats, resets, reads_so, goes_with, goes_as, heard}
 use Rattle.exchange_model.specs.declared.kept.Exchange.{Exchange}
 use Rattle.exchange_model.specs.State.{PeerLink, State, link_of, with_link}
 use Rattle.exchange_model.specs.Keeping.{MayStep, MayGoOn}
 use Rattle.exchange_model.specs.Laws.{IsContinued}
 use Rattle.exchange_model.specs.Reads.{Reads}
-use Rattle.exchange_model.specs.Entering.{awaits_no_more, taken_with, next_out, effect_of, going_as, sent_as, first_deeds, answer_of, confirm, heeded, garbled, IsMid, Comes, MessageEnters, GarbledEnters}
-use Rattle.exchange_model.proofs.Borne.{IsBorne, ended-borne}
+use Rattle.exchange_model.specs.Entering.{awaits_no_more, taken_with, next_out, effect_of, no_effect, going_as, sent_as, first_deeds, answer_of, confirm, heeded, garbled, IsMid, Comes, MessageEnters, GarbledEnters}
+use Rattle.exchange_model.proofs.Begins.{unborne}
+use Rattle.exchange_model.proofs.Gone.{gone-borne}
 use Rattle.exchange_model.proofs.Entered.{turn_of, issued-stored, put, after, next-put, entries-more, link-there, out-at, given-itself}
 use Rattle.exchange_model.proofs.Idle.{repeat-idle}
 use Rattle.exchange_model.proofs.LinksHeard.{turned, Turns, turns, links-given, IsFresh, out-with, last-with, turn-with, link-turned, new-unborne}
@@ -68,28 +69,26 @@ next-conns t p S = by (link_of S.links p).outstanding (link_of S.links p).waitin
 abbrev IsNext : Matter → Numbers → State → Type 0
 IsNext x n S = (e : Exchange) (progress : Progress) → x ≡ Goes e progress → token_number n.token ≡ S.issued
 
--- It is none that went out.
+-- It bears no token that went out.
 is-fresh : (t : ℕ) (p : Peer) (m : Content) (n : Numbers) (S : State) (may : MayStep t S) (x : Matter) → IsNext x n S
-    → IsFresh (more_by n x) (ended_token (verdict_of t (link_of S.links p) m).news m.token)
-is-fresh t p m n S may Nothing ahead w token is over = cc
-is-fresh t p m n S may (Over e how) ahead w token is over = cc
-is-fresh t p m n S may (Goes e progress) ahead w token is over = by (bytes_eq w.token token) refl
+    → IsFresh (more_by n x) (gone_by m S.entries (matter_of t p m (verdict_of t (link_of S.links p) m) S) S.watches)
+is-fresh t p m n S may Nothing ahead w is = cc
+is-fresh t p m n S may (Tells r stored) ahead w is = cc
+is-fresh t p m n S may (Over e how) ahead w is = cc
+is-fresh t p m n S may (Goes e progress) ahead w is = by (is_one_of gone w.token) refl
   where
     r : Reads may.kept.reading S
     r = may.kept.rests.reads
 
-    borne : IsBorne may.kept.reading p token
-    borne = ended-borne may.kept.reading t p (link_of S.links p) m token m.kind (r.links_are p) over
+    gone : List (List ℕ)
+    gone = gone_by m S.entries (matter_of t p m (verdict_of t (link_of S.links p) m) S) S.watches
 
-    less : token_number borne.first.message.token < S.issued
-    less = all-of (λ (f : FirstSending). token_number f.message.token < S.issued) (firsts may.kept.reading) borne.first r.tokens_are
-        (find-some _ (firsts may.kept.reading) borne.first borne.is).0
+    unborne-next : bears_token may.kept.reading w.token ≡ false
+    unborne-next =
+        unborne w.token S.issued (ap token_number (ap (λ (v : Waiting). v.token) (sym (some-is _ w is))) ∙ ahead e progress refl) (firsts may.kept.reading) r.tokens_are
 
-    same : bytes_eq w.token token ≡ true → token_number n.token ≡ token_number borne.first.message.token
-    same e = ap token_number (ap (λ (v : Waiting). v.token) (some-is _ w is) ∙ ((bytes_eq-Decides w.token token).0 e ∙ sym borne.token_is))
-
-    by : (b : Bool) → bytes_eq w.token token ≡ b → b ≡ false
-    by true h = let alike = same h in let number = ahead e progress refl in absurd (omega (arith, alike, number, less))
+    by : (b : Bool) → is_one_of gone w.token ≡ b → b ≡ false
+    by true h = absurd (false≢true (sym unborne-next ∙ gone-borne t p m may.kept.reading S r w.token h))
     by false e = refl
 
 new-heeded : (t : ℕ) (p : Peer) (d : List ℕ) (m : Content) (n : Numbers) (S : State) → Comes t p d S
@@ -99,7 +98,7 @@ new-heeded t p d m n S come ahead =
     after t (H ++ F) G es2 es2 xs2 xs2 K C (fold (tells t) C (told_for (length S.entries) x S.readers)) whole told
     ∙ (ap (λ (ds : List Deed). put t (Hears p d ∷ ds) es2 xs2 K) (append_assoc R F G)
     ∙ ap (λ (U : State). record U { exchanges = es2; links = xs2 })
-    (issued-stored t (Hears p d ∷ (R ++ (F ++ G))) (issued_by x S.issued) (pieces_by (length S.entries) x S.pieces) (store_by S.entries t x S.store) S))
+    (issued-stored t (Hears p d ∷ (R ++ (F ++ G))) (issued_by x S.issued) (pieces_by (length S.entries) x S.pieces) (watches_by t m S.entries x S.watches) (store_by S.entries t x S.store) S))
   where
     s : LinkState
     s = link_of S.links p
@@ -113,20 +112,21 @@ new-heeded t p d m n S come ahead =
     more : Option Waiting
     more = more_by n x
 
-    over : Option (List ℕ)
-    over = ended_token v.news m.token
+    over : List (List ℕ)
+    over = gone_by m S.entries x S.watches
 
     new : LinkState
-    new = link_with t more (heard_link t m.mid m.token v s)
+    new = link_with t more (heard_link t m.mid m.token (is_one_of over) v s)
 
     up : Option Waiting
     up = next_out v s more
 
-    -- the state with the number of tokens, the pieces and what is stored after it
+    -- the state with the number of tokens, the pieces, and what is observed and stored after it
     K : State
     K = record S {
       issued = issued_by x S.issued;
       pieces = pieces_by (length S.entries) x S.pieces;
+      watches = watches_by t m S.entries x S.watches;
       store = store_by S.entries t x S.store;
     }
 
@@ -184,22 +184,22 @@ new-heeded t p d m n S come ahead =
     same : given_out (turned t new) ≡ last
     same =
         let r = come.may.kept.rests.reads in
-        link-turned t m.mid m.token v more s rest
-        (new-unborne come.may.kept.reading t p s m (r.links_are p))
+        link-turned t m.mid m.token over v more s rest
+        (new-unborne r.start come.may.kept.reading (waiting come.may.kept.reading p) s.waiting over (r.links_are p).waits (gone-borne t p m come.may.kept.reading S r))
         (is-fresh t p m n S come.may x ahead)
 
     sent : C ≡ put t F es2 xs2 B
     sent =
         next-put t p new S.links B (links-given t p (replies m.mid v.reply) A)
-        (out-with t more (heard_link t m.mid m.token v s) ∙ out-at p S.links come.drained.out)
+        (out-with t more (heard_link t m.mid m.token (is_one_of over) v s) ∙ out-at p S.links come.drained.out)
         ∙ (ap (λ (mid : Option ℕ). put t (first_deeds t p mid (turn_of new))
         (sent_as (going_as (length B.entries) (turn_of new)) B.exchanges)
         (with_link p (given_out (turned t new)) S.links) B)
-        (last-with t more (heard_link t m.mid m.token v s))
+        (last-with t more (heard_link t m.mid m.token (is_one_of over) v s))
         ∙ (ap (λ (w : Option Waiting). put t (first_deeds t p s.last_mid w)
         (sent_as (going_as (length B.entries) w) B.exchanges)
         (with_link p (given_out (turned t new)) S.links) B)
-        (turn-with t m.mid m.token v more s rest)
+        (turn-with t m.mid m.token (is_one_of over) v more s rest)
         ∙ (ap (λ (j : ℕ). put t F (sent_as (going_as j up) B.exchanges)
         (with_link p (given_out (turned t new)) S.links) B) count
         ∙ (ap (λ (U : State). put t F (sent_as (going_as k up) U.exchanges)
@@ -226,16 +226,16 @@ quiet-is v r e n =
     ∙ (ap (λ (b : Bool). record v { ends = b; news = N.Quiet }) (sym e)
     ∙ ap (λ (k : News). record v { news = k }) (sym n))
 
-quiet-nothing : (news : News) (place : Bool) (m : Content) (S : State) → news ≡ N.Quiet
-    → Nothing ≡ matter_by news place m S (answered_in (ended_token news m.token) S.exchanges)
-quiet-nothing news place m S e =
-    sym (ap (λ (k : News). matter_by k place m S (answered_in (ended_token k m.token) S.exchanges)) e)
+quiet-nothing : (t : ℕ) (news : News) (place : Bool) (m : Content) (S : State) → news ≡ N.Quiet
+    → Nothing ≡ matter_by t news place m S (answered_in (ended_token news m.token) S.exchanges)
+quiet-nothing t news place m S e =
+    sym (ap (λ (k : News). matter_by t k place m S (answered_in (ended_token k m.token) S.exchanges)) e)
 
 idle-heeded : (t : ℕ) (p : Peer) (d : List ℕ) (mid : ℕ) (token : List ℕ) (v : Verdict) (n : Numbers)
     (S : State) → Comes t p d S
     → v.remembered ≡ false → v.ends ≡ false → v.news ≡ N.Quiet
     → given_back t p (replies mid v.reply) (hears_nothing t p d S)
-    ≡ heeded t p d mid token v (record { matter = Nothing; numbers = n }) S
+    ≡ heeded t p d mid token v (no_effect n S) S
 idle-heeded t p d mid token v n S come r e q =
     given-put t p (replies mid v.reply) (hears_nothing t p d S)
     ∙ (sym (ap (λ (ds : List Deed). put t (Hears p d ∷ ds) S.exchanges S.links S)
@@ -246,8 +246,8 @@ idle-heeded t p d mid token v n S come r e q =
     (given-itself (link_of S.links p) (out-at p S.links come.drained.out))
     ∙ link-there p S.links come.known))
     ∙ (ap (λ (U : State). record U { exchanges = S.exchanges; links = with_link p (given_out (link_of S.links p)) S.links })
-    (issued-stored t (Hears p d ∷ (map (confirm p) (replies mid v.reply) ++ [])) S.issued S.pieces S.store S)
-    ∙ ap (λ (k : Verdict). heeded t p d mid token k (record { matter = Nothing; numbers = n }) S) (quiet-is v r e q))))
+    (issued-stored t (Hears p d ∷ (map (confirm p) (replies mid v.reply) ++ [])) S.issued S.pieces S.watches S.store S)
+    ∙ ap (λ (k : Verdict). heeded t p d mid token k (no_effect n S) S) (quiet-is v r e q))))
 
 -- a datagram
 
@@ -297,8 +297,9 @@ message-enters t p d m n S come e goes kept = heard-read t p d n (Ok m) S come e
         let i = repeat-idle t s m m.kind k in
         let is_quiet = quiet v.news i.2 kept in
         idle-heeded t p d m.mid m.token v n S come i.0 i.1 is_quiet
-        ∙ ap (λ (x : Matter). heeded t p d m.mid m.token v (record { matter = x; numbers = n }) S)
-        (quiet-nothing v.news (has_next_place t p v S) m S is_quiet)
+        ∙ ap (λ (x : Matter). heeded t p d m.mid m.token v
+        (record { matter = x; watches = watches_by t m S.entries x S.watches; gone = gone_by m S.entries x S.watches; numbers = n }) S)
+        (quiet-nothing t v.news (has_next_place t p v S) m S is_quiet)
     by false k = taken t p d m v n v.news S kept
         ∙ new-heeded t p d m n S come (λ f progress at. (next-token t p d m n S e goes k f progress at).number)
 
@@ -307,7 +308,7 @@ garbled-enters t p d e mid token n S come is at = heard-read t p d n (Err e) S c
     ∙ by (reset_for d) at
   where
     by : (k : Option ℕ) → IsMid k mid → given_back t p (resets k) (hears_nothing t p d S)
-        ≡ heeded t p d mid token (garbled k) (record { matter = Nothing; numbers = n }) S
+        ≡ heeded t p d mid token (garbled k) (no_effect n S) S
     by None h = idle-heeded t p d mid token (garbled None) n S come refl refl refl
     by (Some i) h =
         ap (λ (k : ℕ). given_back t p (replies k R.Rst) (hears_nothing t p d S)) (sym h)

@@ -45,7 +45,13 @@ use Rattle.exchange_model.specs.State.{State, link_of}
 use Rattle.ask_model.specs.Requests.{CoapRequest}
 use Rattle.history_laws.specs.Exchanges.{Begun}
 use Rattle.exchange_model.specs.Reads.{ExchangeIn}
-use Rattle.exchange_model.specs.Steps.{is_under, is_other, Numbers, Matter, Nothing, Goes, Over, answered_in, let_go, matter_by, matter_of, replied, comes_to, has_next_place, continued, goes_so, exchanges_by, more_by, link_with, hears, hears_nothing}
+use Rattle.cache_key.specs.Keys.{CacheKey}
+use Rattle.observe_share.specs.declared.registration.Registration.{Registration}
+use Rattle.observe_share.specs.Watches as W
+use Rattle.std.specs.Option.{option_map_or}
+use Rattle.history_laws.specs.Observing.{as_first, notice_in}
+use Rattle.exchange_model.specs.Watching.{counts_to, is_one_of}
+use Rattle.exchange_model.specs.Steps.{is_under, is_other, asked_in, found_in, gone_by, outdated_by, reads_key, Numbers, Matter, Nothing, Tells, tells_of, told_alone, Goes, Over, answered_in, let_go, matter_by, matter_of, replied, comes_to, has_next_place, continued, goes_so, exchanges_by, more_by, link_with, hears, hears_nothing}
 use Rattle.exchange_model.specs.Resting.{IsUndue, LinkRests, HasExchange}
 use Rattle.exchange_model.specs.Growing.{RiseByAsk}
 use Rattle.exchange_model.specs.Laws.{Before, MayHear, Heeds, IsContinued}
@@ -205,9 +211,29 @@ goes-has e token progress [] k h = absurd h
 goes-has e token progress (y ∷ es) k (inl h) = inl (goes-opening e token progress y ∙ h)
 goes-has e token progress (y ∷ es) k (inr h) = inr (goes-has e token progress es k h)
 
+outdated-since : (ws : List Written) (key : CacheKey) (y : Exchange) → (outdated_by ws key y).since ≡ y.since
+outdated-since ws key y = by (option_map_or (reads_key key) (asked_in ws y.opening) false)
+  where
+    by : (b : Bool) → (cond b (record y { newest = false }) y).since ≡ y.since
+    by true = refl
+    by false = refl
+
+outdated-has : (ws : List Written) (key : CacheKey) (es : List Exchange) (k : ℕ) → HasExchange es k → HasExchange (map (outdated_by ws key) es) k
+outdated-has ws key [] k h = absurd h
+outdated-has ws key (y ∷ es) k (inl h) = inl (by (option_map_or (reads_key key) (asked_in ws y.opening) false))
+  where
+    by : (b : Bool) → (cond b (record y { newest = false }) y).opening ≡ k
+    by true = h
+    by false = h
+outdated-has ws key (y ∷ es) k (inr h) = inr (outdated-has ws key es k h)
+
 by-since : (tick : ℕ) (ws : List Written) (token : List ℕ) (x : Matter) (es : List Exchange) → AllByRecursion (λ (e : Exchange). tick < e.since + MAX_TRANSMIT_WAIT) es
     → AllByRecursion (λ (e : Exchange). tick < e.since + MAX_TRANSMIT_WAIT) (exchanges_by ws token x es)
 by-since tick ws token Nothing es a = a
+by-since tick ws token (Tells r stored) es a =
+    all-map (outdated_by ws r.key) (λ (y : Exchange). tick < y.since + MAX_TRANSMIT_WAIT) es
+    (all-more (λ (y : Exchange). tick < y.since + MAX_TRANSMIT_WAIT) (λ (y : Exchange). tick < (outdated_by ws r.key y).since + MAX_TRANSMIT_WAIT)
+    (λ y h. subst (λ (n : ℕ). tick < n + MAX_TRANSMIT_WAIT) (sym (outdated-since ws r.key y)) h) es a)
 by-since tick ws token (Goes e progress) es a =
     all-map (goes_so e token progress) (λ (y : Exchange). tick < y.since + MAX_TRANSMIT_WAIT) es
     (all-more (λ (y : Exchange). tick < y.since + MAX_TRANSMIT_WAIT) (λ (y : Exchange). tick < (goes_so e token progress y).since + MAX_TRANSMIT_WAIT)
@@ -221,6 +247,7 @@ served-part : (start : Start) (l : List Noted) (S : State) (token : List ℕ) (x
     → ((e : Exchange) (how : Ending) → x ≡ Over e how → Contains S.exchanges e) → (k : ℕ) → HasExchange S.exchanges k
     → HasExchange (exchanges_by S.entries token x S.exchanges) k ⊎ HasExchange (ended_list (over_in x)) k
 served-part start l S token Nothing legal all among k h = inl h
+served-part start l S token (Tells r stored) legal all among k h = inl (outdated-has S.entries r.key S.exchanges k h)
 served-part start l S token (Goes e progress) legal all among k h = inl (goes-has e token progress S.exchanges k h)
 served-part start l S token (Over e how) legal all among k h = elim (has-part (is_other e.token) S.exchanges k h) [
   | inl w ↦ inl (left-has S.entries (e ∷ []) (filter (is_other e.token) S.exchanges) k w)
@@ -242,17 +269,32 @@ replied-goes false f (Fetches restarts pieces got) e progress h = absurd cc
 replied-goes false f (Gives upload got) e progress h = absurd cc
 replied-goes false f (Ends how) e progress h = absurd cc
 
-goes-place : (news : News) (place : Bool) (m : Content) (S : State) (v : Option Exchange) (e : Exchange) (progress : Progress)
-    → matter_by news place m S v ≡ Goes e progress → place ≡ true
-goes-place news place m S None e progress h = absurd cc
-goes-place (N.Reset token) place m S (Some f) e progress h = absurd cc
-goes-place N.Quiet place m S (Some f) e progress h = replied-goes place f (comes_to m S f) e progress h
-goes-place N.Response place m S (Some f) e progress h = replied-goes place f (comes_to m S f) e progress h
-goes-place N.Lost place m S (Some f) e progress h = replied-goes place f (comes_to m S f) e progress h
+told-goes : (t : ℕ) (m : Content) (S : State) (v : Option Registration) (e : Exchange) (progress : Progress) → tells_of t m S v ≡ Goes e progress → ⊥
+told-goes t m S None e progress h = cc
+told-goes t m S (Some r) e progress h = by (counts_to t m r) h
+  where
+    by : (b : Bool) → cond b (Tells r (found_in t S (notice_in m) r.opening (as_first (length S.entries) 0 m))) Nothing ≡ Goes e progress → ⊥
+    by true f = cc
+    by false f = cc
+
+alone-goes : (t : ℕ) (news : News) (m : Content) (S : State) (e : Exchange) (progress : Progress) → told_alone t news m S ≡ Goes e progress → ⊥
+alone-goes t N.Response m S e progress h = told-goes t m S (find (W.is_under m.token) S.watches) e progress h
+alone-goes t N.Quiet m S e progress h = cc
+alone-goes t (N.Reset token) m S e progress h = cc
+alone-goes t N.Lost m S e progress h = cc
+
+goes-place : (t : ℕ) (news : News) (place : Bool) (m : Content) (S : State) (v : Option Exchange) (e : Exchange) (progress : Progress)
+    → matter_by t news place m S v ≡ Goes e progress → place ≡ true
+goes-place t news place m S None e progress h = absurd (alone-goes t news m S e progress h)
+goes-place t (N.Reset token) place m S (Some f) e progress h = absurd cc
+goes-place t N.Quiet place m S (Some f) e progress h = replied-goes place f (comes_to m S f) e progress h
+goes-place t N.Response place m S (Some f) e progress h = replied-goes place f (comes_to m S f) e progress h
+goes-place t N.Lost place m S (Some f) e progress h = replied-goes place f (comes_to m S f) e progress h
 
 ids-with : (t : ℕ) (x : Matter) (n : Numbers) (s u : LinkState) → HasMids u → mids_in_use t u ≡ mids_in_use t s
     → ((e : Exchange) (progress : Progress) → x ≡ Goes e progress → mids_in_use t s < MAX_MESSAGE_IDS) → HasMids (link_with t (more_by n x) u)
 ids-with t Nothing n s u h same few = h
+ids-with t (Tells r stored) n s u h same few = h
 ids-with t (Over e how) n s u h same few = h
 ids-with t (Goes e progress) n s u h same few =
     let less = few e progress refl in enough-ids t u (waits n.token n.text n.word) h (omega arith) (omega (arith, less, same))
@@ -274,10 +316,10 @@ new-keeps t p d mess n S m h spelled none room onward =
     let mt = matter_of t p mess v S in
     let made = hears-leads l t p d mess n S h spelled none room onward in
     let S1 = hears t p d mess n S in
-    let heard_so = heard_link t mess.mid mess.token v s in
+    let heard_so = heard_link t mess.mid mess.token (is_one_of (gone_by mess S.entries mt S.watches)) v s in
     let new = link_with t (more_by n mt) heard_so in
     let ids : HasMids new = ids-with t mt n s heard_so (record { small = (m.kept.mids p).small; enough = (m.kept.mids p).enough }) refl
-    (λ e progress is. ltb-true _ _ (and-right (ltb (length s.waiting - let_go v) 64) _ (goes-place v.news (has_next_place t p v S) mess S (answered_in (ended_token v.news mess.token) S.exchanges) e progress is))) in
+    (λ e progress is. ltb-true _ _ (and-right (ltb (length s.waiting - let_go v) 64) _ (goes-place t v.news (has_next_place t p v S) mess S (answered_in (ended_token v.news mess.token) S.exchanges) e progress is))) in
     let amid : Amid (x ∷ l) t S1 = record {
       before = record { reads = made.leads.reads; later = omega arith };
       unsealed = m.unsealed;

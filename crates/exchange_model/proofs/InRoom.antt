@@ -28,7 +28,8 @@ use Rattle.exchange_model.proofs.Calling.{opens-adds, asked-adds, heard-adds}
 use Rattle.exchange_model.proofs.Counting.{count-filter}
 use Rattle.exchange_model.proofs.Heeding.{hears-keeps, heard-brief}
 use Rattle.exchange_model.proofs.Late.{late-kept, late-prompt}
-use Rattle.exchange_model.proofs.Stepping.{start-keeps, opens-keeps, shuts-keeps, seals-keeps, asks-keeps}
+use Rattle.exchange_model.proofs.Started.{start-keeps}
+use Rattle.exchange_model.proofs.Stepping.{opens-keeps, shuts-keeps, seals-keeps, asks-keeps}
 use Rattle.exchange_model.proofs.Tallies.{is_busy, conns-count, asks-count, busy-count}
 use Rattle.exchange_model.proofs.TickAdds.{ticked-adds}
 use Rattle.exchange_model.proofs.Ticking.{ticks-keeps, ticks-do}

@@ -1,5 +1,5 @@
 -- What the journal says of who waits.
-use Rattle.std.proofs.Common.{◌∷◌, Option, Bool, cond, eqb, ◌≡◌, ℕ, zero, true, inl, inr, List, [], length, Some, refl, sym, ap, subst, ◌∙◌, arith}
+use Rattle.std.proofs.Common.{◌∷◌, Option, None, Bool, false, cond, eqb, ◌≡◌, ℕ, zero, true, inl, inr, List, [], length, Some, refl, sym, ap, subst, ◌∙◌, arith}
 use Rattle.std.specs.Prelude.{◌&&◌}
 use Rattle.std.specs.List.{AllByRecursion, Contains, slice_get}
 use Rattle.std.proofs.lemmas.Bool.{and_parts, false≢true}
@@ -9,15 +9,17 @@ use Rattle.cache_key.specs.Keys.{same_key}
 use Rattle.resp_cache.specs.declared.pair.Pair.{Pair}
 use Rattle.ask_model.specs.Sharing.{asked_key, asks_same, is_get}
 use Rattle.blockwise.specs.Uploads.{begun as begun_as}
-use Rattle.ask_model.specs.Requests.{CoapRequest, request_message}
+use Rattle.ask_model.specs.Requests.{CoapRequest, asking}
 use Rattle.ask_model.specs.Views.{Ask}
 use Rattle.journal_book.specs.Entries.{Hears, Asks, Written}
-use Rattle.history_laws.specs.Responses.{whole_fetched, whole_given}
+use Rattle.history_laws.specs.Responses.{Response, whole_fetched, whole_given, whole_of}
 use Rattle.history_laws.specs.Readings.{Says, at, Noted, Note, noted}
 use Rattle.history_laws.specs.Progress.{Reply, numbers, messages}
 use Rattle.history_laws.specs.Joining.{asks_the_same}
 use Rattle.history_laws.specs.Exchanges.{Begun, begun, replies}
-use Rattle.history_laws.proofs.CallerLemmas.{ends-all, contains-later, replies-fit, some-is, all-more, all-of, at-entries, at-same, reader, reader-alike}
+use Rattle.history_laws.specs.Laws.{IsReplyTo}
+use Rattle.history_laws.specs.Storing.{ComesSo}
+use Rattle.history_laws.proofs.CallerLemmas.{comes-fit, first-response, shared-is, ends-all, contains-later, replies-fit, some-is, all-more, all-of, at-entries, at-same, reader, reader-alike}
 use Rattle.exchange_model.specs.Reads.{PairIn, ExchangeIn, Reads}
 use Rattle.exchange_model.specs.Growing.{IsHeardAt, AreHeardAt, IsHeardIn, StoreHeard, RiseByAsk, ReadersRise, IsKnown, IsWorkOf, ReadersKnown}
 use Rattle.exchange_model.specs.declared.kept.Exchange.{Exchange}
@@ -34,7 +36,7 @@ readers-rise S k =
     let r = k.kept.rests.reads in subst RiseByAsk r.readers_are (readers-rise-in k.kept.reading r.legal)
 
 -- What is kept for a request is what is kept for one that is alike.
-work-alike : (q r : CoapRequest) (w : Work) → request_message q 0 [] ≡ request_message r 0 [] → IsWorkOf q w → IsWorkOf r w
+work-alike : (q r : CoapRequest) (w : Work) → asking false q None 0 [] ≡ asking false r None 0 [] → IsWorkOf q w → IsWorkOf r w
 work-alike q r (W.Fetches restarts pieces) e h = sym (ap (λ (m : Content). m.code) e) ∙ h
 work-alike q r (W.Gives upload) e h = (
   λ get. h.0 (ap (λ (m : Content). m.code) e ∙ get),
@@ -53,8 +55,8 @@ known-one l S r x a =
       request = it.request;
       stands = subst (λ (h : List Written). slice_get h x.ask ≡ Some (record { moment = a.moment; deed = Asks x.conn a.ask })) r.entries_are (at-entries l x.ask _ a.stands);
       sense = ap (λ (b : Ask). b.sense) asks ∙ it.sense;
-      method = λ e has reads. by e (all-of (ExchangeIn r.start l) S.exchanges e r.exchanges_are has) (same e reads) it.exchange it.opened (ap (λ (m : Content). m.code) (alike.1 0 []));
-      work = λ e has reads. works e (all-of (ExchangeIn r.start l) S.exchanges e r.exchanges_are has) (same e reads) it.exchange it.opened it.request (alike.1 0 []);
+      method = λ e has reads. by e (all-of (ExchangeIn r.start l) S.exchanges e r.exchanges_are has) (same e reads) it.exchange it.opened (ap (λ (m : Content). m.code) (alike.1 false 0 []));
+      work = λ e has reads. works e (all-of (ExchangeIn r.start l) S.exchanges e r.exchanges_are has) (same e reads) it.exchange it.opened it.request (alike.1 false 0 []);
     }
   where
     ask-same : (m t c d : ℕ) (a b : Ask) (u v : Note) → noted m (Asks c a) u ≡ noted t (Asks d b) v → a ≡ b
@@ -74,10 +76,10 @@ known-one l S r x a =
         method ∙ (ap (λ (q : CoapRequest). q.method) (request-is f _ (sym opened ∙ (ap (begun l) at ∙ b.opening))) ∙ b.method)
 
     works : (e : Exchange) → (b : ExchangeIn r.start l e) → x.opening ≡ e.opening → (f : Begun) → begun l x.opening ≡ Some f
-        → (q : CoapRequest) → request_message q 0 [] ≡ request_message f.request 0 [] → IsWorkOf q e.work
+        → (q : CoapRequest) → asking false q None 0 [] ≡ asking false f.request None 0 [] → IsWorkOf q e.work
     works e b at f opened q alike =
         work-alike b.request q e.work
-        (sym (alike ∙ ap (λ (v : CoapRequest). request_message v 0 []) (request-is f _ (sym opened ∙ (ap (begun l) at ∙ b.opening)))))
+        (sym (alike ∙ ap (λ (v : CoapRequest). asking false v None 0 []) (request-is f _ (sym opened ∙ (ap (begun l) at ∙ b.opening)))))
         (work-of l e b).0
 
 pub readers-known : ReadersKnown
@@ -87,30 +89,53 @@ readers-known S k =
     (subst (AllByRecursion (ReaderIn k.kept.reading)) r.readers_are (readers-wait k.kept.reading r.legal))
 
 -- Each reply to an exchange was heard in the journal.
-heard-at : (l : List Noted) (S : State) → Reads l S → (o : ℕ) (r : Reply) → Contains (replies l o) r → IsHeardAt S r.number r.message
-heard-at l S reads o r has =
-    let fits = replies-fit l o r reads.legal has in
-    record {
-      moment = fits.moment;
-      peer = fits.peer;
-      bytes = fits.bytes;
-      stands = subst (λ (h : List Written). slice_get h r.number ≡ Some (record { moment = fits.moment; deed = Hears fits.peer fits.bytes })) reads.entries_are (at-entries l r.number _ fits.heard);
-      spelled = fits.spelled;
-    }
+heard-at : (l : List Noted) (S : State) → Reads l S → (o : ℕ) (r : Reply) → IsReplyTo l o r → IsHeardAt S r.number r.message
+heard-at l S reads o r fits = record {
+  moment = fits.moment;
+  peer = fits.peer;
+  bytes = fits.bytes;
+  stands = subst (λ (h : List Written). slice_get h r.number ≡ Some (record { moment = fits.moment; deed = Hears fits.peer fits.bytes })) reads.entries_are (at-entries l r.number _ fits.heard);
+  spelled = fits.spelled;
+}
+
+all-heard : (l : List Noted) (S : State) → Reads l S → (o : ℕ) (rs : List Reply) → ((r : Reply) → Contains rs r → IsReplyTo l o r) → AreHeardAt S (numbers rs) (messages rs)
+all-heard l S reads o [] h = tt
+all-heard l S reads o (r ∷ rs) h = (heard-at l S reads o r (h r (zero, omega arith, refl)), all-heard l S reads o rs (λ x has. h x (contains-later r rs x has)))
 
 pub are-heard : (l : List Noted) (S : State) → Reads l S → (o : ℕ) (rs : List Reply) → ((r : Reply) → Contains rs r → Contains (replies l o) r) → AreHeardAt S (numbers rs) (messages rs)
-are-heard l S reads o [] h = tt
-are-heard l S reads o (r ∷ rs) h = (heard-at l S reads o r (h r (zero, omega arith, refl)), are-heard l S reads o rs (λ x has. h x (contains-later r rs x has)))
+are-heard l S reads o rs h = all-heard l S reads o rs (λ r has. replies-fit l o r reads.legal (h r has))
+
+-- What comes for a GET is the response that its messages make.
+whole-get : (q : CoapRequest) (m : Content) (ms : List Content) → eqb q.method 1 ≡ true → whole_of q (m ∷ ms) ≡ whole_fetched m ms
+whole-get q m ms get = ap (λ (b : Bool). cond b (whole_fetched m ms) (whole_given (begun_as (length q.body) 6) (m ∷ ms))) get
+
+whole-come : (l : List Noted) (o e : ℕ) (w : Response) (r : Reply) (rs : List Reply) (q : CoapRequest) → asks_the_same q (begun l o) ≡ true
+    → eqb q.method 1 ≡ true → ComesSo l o e w (r ∷ rs) → whole_fetched r.message (messages rs) ≡ Some w
+whole-come l o e w r rs q same get (inl ends) =
+    let it = ends-all l o e w (r ∷ rs) ends.ended in
+    let alike : asks_same q it.exchange.request ≡ true = subst (λ (v : Option Begun). asks_the_same q v ≡ true) it.opened same in
+    sym (whole-get it.exchange.request r.message (messages rs) (is-get it.exchange.request alike)) ∙ it.whole
+  where
+    is-get : (x : CoapRequest) → asks_same q x ≡ true → eqb x.method 1 ≡ true
+    is-get x e =
+        let b = and_parts (is_get q) (is_get x && same_key (asked_key q) (asked_key x)) e in
+        let c = and_parts (is_get x) (same_key (asked_key q) (asked_key x)) b.1 in
+        (and_parts (eqb x.method 1) _ c.0).0
+whole-come l o e w r rs q same get (inr update) =
+    sym (whole-get q r.message (messages rs) get)
+    ∙ first-response q e update.sending update.message w (r ∷ rs) get update.whole
 
 -- What is stored was heard in the replies.
 heard-one : (l : List Noted) (S : State) → Reads l S → (p : Pair) → PairIn l p → IsHeardIn S p
-unfolding are-heard heard-at
+unfolding are-heard all-heard heard-at
 heard-one l S r p a =
     let s = a.stored in
-    let it = ends-all l s.opening s.ending p.stored.response (s.first ∷ s.more) s.ends.ended in
-    let fits = replies-fit l s.opening s.first r.legal (it.listed s.first (zero, omega arith, refl)) in
+    let rs : List Reply = s.first ∷ s.more in
+    let fit : ((x : Reply) → Contains rs x → IsReplyTo l s.opening x) =
+    λ x has. comes-fit l s.opening s.ending p.stored.response rs x r.legal s.comes has in
+    let fits = fit s.first (zero, omega arith, refl) in
     let both = and_parts (asks_the_same a.request (begun l s.opening)) _ s.shared in
-    let same : asks_same a.request it.exchange.request ≡ true = subst (λ (v : Option Begun). asks_the_same a.request v ≡ true) it.opened both.0 in
+    let joined = shared-is l a.request s.opening s.shared in
     let entry : noted fits.moment (Hears fits.peer fits.bytes) (Says s.first.message (Some s.first.sending) fits.notice) ≡ s.entry =
     some-is _ _ (sym fits.heard ∙ s.heard_in) in
     record {
@@ -119,16 +144,15 @@ heard-one l S r p a =
       message = s.first.message;
       more = messages s.more;
       list = s.list;
-      heard = are-heard l S r s.opening (s.first ∷ s.more) it.listed;
+      heard = all-heard l S r s.opening rs fit;
       first = ap (λ (x : Noted). x.written.moment) entry ∙ sym s.heard;
-      whole = sym (ap (λ (b : Bool). cond b (whole_fetched s.first.message (messages s.more)) (whole_given (begun_as (length it.exchange.request.body) 6) (s.first.message ∷ messages s.more))) (is-get it.exchange.request same)) ∙ it.whole;
+      whole = whole-come l s.opening s.ending p.stored.response s.first s.more a.request both.0 (is-get a.request joined.exchange.request joined.same) s.comes;
     }
   where
-    is-get : (q : CoapRequest) → asks_same a.request q ≡ true → eqb q.method 1 ≡ true
-    is-get q e =
-        let b = and_parts (is_get a.request) (is_get q && same_key (asked_key a.request) (asked_key q)) e in
-        let c = and_parts (is_get q) (same_key (asked_key a.request) (asked_key q)) b.1 in
-        (and_parts (eqb q.method 1) _ c.0).0
+    is-get : (q x : CoapRequest) → asks_same q x ≡ true → eqb q.method 1 ≡ true
+    is-get q x e =
+        let b = and_parts (is_get q) (is_get x && same_key (asked_key q) (asked_key x)) e in
+        (and_parts (eqb q.method 1) _ b.0).0
 
 pub store-heard : StoreHeard
 store-heard S k =

@@ -15,12 +15,14 @@ use Rattle.history_laws.specs.Hearing.{answers, repeated, can_be_remembered}
 use Rattle.history_laws.specs.Justified.{Follows, Legal}
 use Rattle.history_laws.specs.Exchanges.{issued, open_exchanges}
 use Rattle.history_links.specs.Agrees.{Agrees, due}
-use Rattle.history_links.specs.Steps.{heard_link, heard, Heeds as LinkHeeds}
+use Rattle.history_laws.specs.Observing.{watches}
+use Rattle.history_links.specs.Steps.{heard_link, heard, Heeds as LinkHeeds, IsUnnoticed}
 use Rattle.history_links.proofs.CallerLemmas.{says-elsewhere}
 use Rattle.exchange_model.specs.declared.kept.Exchange.{Exchange}
 use Rattle.exchange_model.specs.State.{State, link_of, with_link}
-use Rattle.exchange_model.specs.Reads.{ExchangeIn, opening_of, PiecesIn, StoreIn, WaitsUnder}
-use Rattle.exchange_model.specs.Steps.{Matter, entered, exchanges_by, issued_by, link_with, more_by, Numbers, pieces_by, store_by}
+use Rattle.exchange_model.specs.Reads.{ExchangeIn, held_of, opening_of, PiecesIn, StoreIn, WaitsUnder}
+use Rattle.exchange_model.specs.Watching.{is_one_of}
+use Rattle.exchange_model.specs.Steps.{Matter, entered, exchanges_by, gone_by, issued_by, link_with, more_by, Numbers, pieces_by, store_by, watches_by}
 use Rattle.exchange_model.specs.Laws.{Heeds, MayHear}
 use Rattle.exchange_model.proofs.Borne.{answers-peer}
 use Rattle.exchange_model.proofs.Silent.{later-than, link-before, moment-now}
@@ -38,8 +40,9 @@ after t p d m n x S =
       issued = issued_by x S.issued;
       exchanges = exchanges_by S.entries n.token x S.exchanges;
       pieces = pieces_by (length S.entries) x S.pieces;
+      watches = watches_by t m S.entries x S.watches;
       store = store_by S.entries t x S.store;
-      links = with_link p (link_with t (more_by n x) (heard_link t m.mid m.token (verdict_of t s m) s)) S.links;
+      links = with_link p (link_with t (more_by n x) (heard_link t m.mid m.token (is_one_of (gone_by m S.entries x S.watches)) (verdict_of t s m) s)) S.links;
     }
 
 module _ (l : List Noted) (t : ℕ) (p : Peer) (d : List ℕ) (m : Content) (n : Numbers) (S : State) (h : MayHear l t p d S)
@@ -62,10 +65,12 @@ module _ (l : List Noted) (t : ℕ) (p : Peer) (d : List ℕ) (m : Content) (n :
     pub keys : open_exchanges (x ∷ l) ≡ map opening_of (exchanges_by S.entries n.token k S.exchanges)
     pub exchanges_are : AllByRecursion (ExchangeIn h.before.reads.start (x ∷ l)) (exchanges_by S.entries n.token k S.exchanges)
     pub pieces_are : PiecesIn (x ∷ l) (exchanges_by S.entries n.token k S.exchanges) (pieces_by (length S.entries) k S.pieces)
+    pub watches_are : map held_of (watches (x ∷ l)) ≡ watches_by t m S.entries k S.watches
+    pub unnoticed : (q : Peer) → same_peer p q ≡ false → IsUnnoticed l x q
     pub store_is : StoreIn (x ∷ l) (store_by S.entries t k S.store)
     pub tokens_are : AllByRecursion (λ (f : FirstSending). token_number f.message.token < issued_by k S.issued) (firsts l)
     pub waiting_are : AllByRecursion (λ (e : Exchange). WaitsUnder (link_of (after t p d m n k S).links e.peer).waiting e) (exchanges_by S.entries n.token k S.exchanges)
-    pub link_is : LinkHeeds h.before.reads.start l p x (due p m.mid (verdict_of t link m).reply) (link_with t (more_by n k) (heard_link t m.mid m.token (verdict_of t link m) link))
+    pub link_is : LinkHeeds h.before.reads.start l p x (due p m.mid (verdict_of t link m).reply) (link_with t (more_by n k) (heard_link t m.mid m.token (is_one_of (gone_by m S.entries k S.watches)) (verdict_of t link m) link))
 
   pub heeds-so : (k : Matter) → Left k → Heeds l x (due p m.mid (verdict_of t link m).reply) (after t p d m n k S)
   heeds-so k left =
@@ -88,12 +93,14 @@ module _ (l : List Noted) (t : ℕ) (p : Peer) (d : List ℕ) (m : Content) (n :
             keys = left.keys;
             exchanges_are = left.exchanges_are;
             pieces_are = left.pieces_are;
+            watches_are = left.watches_are;
             store_is = left.store_is;
             tokens_are = left.tokens_are;
             waiting_are = left.waiting_are;
             links_are = all-links (λ (q : Peer) (v : LinkState). Agrees r.start (x ∷ l) q v) p _ S.links left.link_is.agrees
                 (λ q away. says-elsewhere _ l t q p (link_of S.links q) d m (answers l p m) _ (link-before l t S h.before q) away
-                (λ i f to first. subst (λ (a : Peer). same_peer a q ≡ false) (sym (same_peer-same f.peer p (answers-peer l p m i f to first))) away));
+                (λ i f to first. subst (λ (a : Peer). same_peer a q ≡ false) (sym (same_peer-same f.peer p (answers-peer l p m i f to first))) away)
+                (left.unnoticed q away));
           };
         };
         owes = left.link_is.owes;

@@ -1,5 +1,5 @@
 -- A message by which an exchange goes on leaves all of them open.
-use Rattle.std.proofs.Common.{◌≡◌, ℕ, ◌+◌, ◌<◌, Bool, true, false, not, cond, eqb, List, [], ◌∷◌, ◌++◌, length, map, None, inl, inr, refl, sym, ap, subst, ◌∙◌, arith}
+use Rattle.std.proofs.Common.{◌≡◌, ℕ, ◌+◌, ◌<◌, Bool, true, false, not, cond, eqb, List, [], ◌∷◌, ◌++◌, length, map, None, inl, inr, refl, sym, ap, subst, ◌∙◌, append-nil, arith}
 use Rattle.std.specs.Prelude.{filter, is_none}
 use Rattle.std.specs.List.{AllByRecursion, Contains}
 use Rattle.std.specs.Str.{bytes_eq}
@@ -9,31 +9,37 @@ use Rattle.uri_map.specs.declared.peer.Peer.{Peer}
 use Rattle.message_layer.specs.Values.{LinkState}
 use Rattle.message_layer.specs.Sending.{queued, waits}
 use Rattle.message_layer.specs.Hearing.{verdict_of}
-use Rattle.ask_model.specs.Sharing.{asked_place}
+use Rattle.ask_model.specs.Sharing.{asked_key, asked_place}
 use Rattle.history_laws.specs.Numbering.{token_number}
 use Rattle.history_laws.specs.Readings.{Noted}
 use Rattle.history_laws.specs.Responses.{Response}
 use Rattle.history_laws.specs.Transmissions.{FirstSending, firsts}
-use Rattle.history_laws.specs.Hearing.{repeated, can_be_remembered}
+use Rattle.history_laws.specs.Hearing.{answers, can_be_remembered, notice_of, repeated}
+use Rattle.history_laws.specs.Observing.{counting, watches}
 use Rattle.history_laws.specs.Joining.{outrun}
 use Rattle.history_laws.specs.Justified.{Ends}
 use Rattle.history_laws.specs.Progress.{Reply, numbers, Progress, Whole}
 use Rattle.history_laws.specs.Exchanges.{end_of, is_going}
 use Rattle.history_laws.proofs.CallerLemmas.{all-filter, all-more, all-of, all-push, at-below, contains-none, entries-length, eqb-itself, eqb-same, filter-all, IsGoing}
-use Rattle.history_links.specs.Steps.{heard, heard_link}
+use Rattle.history_links.specs.Steps.{EndsReset, heard, heard_link}
 use Rattle.history_links.proofs.CallerLemmas.{goes-on-agrees}
 use Rattle.exchange_model.specs.declared.kept.Exchange.{Exchange}
 use Rattle.exchange_model.specs.declared.kept.Piece.{Piece}
 use Rattle.exchange_model.specs.State.{State, link_of, with_link}
-use Rattle.exchange_model.specs.Reads.{ExchangeIn, got_in, opening_of, PiecesIn, WaitsUnder}
-use Rattle.exchange_model.specs.Steps.{Goes, continued, goes_so, got_by, is_of_other, is_under, Numbers, numbers_of, pieces_with}
+use Rattle.exchange_model.specs.Watching.{is_one_of, registered}
+use Rattle.exchange_model.specs.Reads.{ExchangeIn, got_in, held_of, opening_of, PiecesIn, WaitsUnder}
+use Rattle.exchange_model.specs.Steps.{Goes, asked_in, gone_by, unless_registered, continued, goes_so, got_by, is_of_other, is_under, Numbers, numbers_of, pieces_with}
 use Rattle.exchange_model.specs.Laws.{IsContinued, MayHear}
 use Rattle.exchange_model.proofs.Answered.{hits, other-going, other-opening, other-unhit, same-opening, start}
 use Rattle.exchange_model.proofs.Bare.{bare, bare_progress, got-bare}
 use Rattle.exchange_model.proofs.Begins.{waits-with}
 use Rattle.exchange_model.proofs.Fetched.{IsMore, numbers-gone, numbers-others, numbers-push, numbers-push-other, numbers-push-own}
 use Rattle.exchange_model.proofs.Hearing.{kept-one, open-later, replies-kept}
-use Rattle.exchange_model.proofs.Left.{Left, legal-so, told}
+use Rattle.exchange_model.proofs.Left.{follows-so, Left, legal-so, told}
+use Rattle.exchange_model.proofs.Noticing.{answered-silent, answered-told, told as told_in}
+use Rattle.exchange_model.proofs.Observed.{answered-resets, registered-forgets, registered-unnoticed}
+use Rattle.exchange_model.proofs.Watches.{newest-quiet}
+use Rattle.exchange_model.proofs.Written.{none-dropped, told-stand, written-left}
 use Rattle.exchange_model.proofs.Lists.{all-map, each-of}
 use Rattle.exchange_model.proofs.Onward.{goes-on, got-now, is-more, issued-now, kept-on, waits-new, waits-old, waits-yet}
 use Rattle.exchange_model.proofs.Opened.{OpenIn, open-ones}
@@ -94,6 +100,20 @@ module _ (l : List Noted) (t : ℕ) (p : Peer) (d : List ℕ) (m : Content) (n :
   current : (f : Exchange) (a : ExchangeIn h.before.reads.start l f) → f.current ≡ not (outrun (x ∷ l) (asked_place a.request) f.opening)
   current f a = current-still x l S h.before.reads [] ends (legal-so l t p d m n S h spelled none room) refl f a
 
+  silent : counting l x.note ≡ None
+  silent = answered-silent l t p d m S h none room e on.it
+
+  left : map held_of (watches (x ∷ l)) ≡ registered t m e (asked_in S.entries e.opening) S.watches
+  left =
+      let legal = legal-so l t p d m n S h spelled none room in
+      written-left x l S h.before.reads [] ends legal (told_in l t p d m S h none room)
+      (told-stand l t p d m (answers l p m) (notice_of l t p m (answers l p m)) h.before.reads.legal (follows-so l t p d m n S h spelled none room))
+      ∙ (none-dropped (map held_of (told_in l t p d m S h none room)) ∙ answered-told l t p d m S h none room e on.it)
+
+  resets : EndsReset l p (verdict_of t (link_of S.links p) m).news (is_one_of (unless_registered m e S.watches))
+  resets = subst (λ (ks : List (List ℕ)). EndsReset l p (verdict_of t (link_of S.links p) m).news (is_one_of ks)) (append-nil (unless_registered m e S.watches))
+      (answered-resets l t p d m n S h spelled none room e on.it [])
+
   one-kept : (f : Exchange) → Contains S.exchanges f → (b : Bool) → is_under e.token f ≡ b
       → ExchangeIn h.before.reads.start (x ∷ l) (cond b (continued n.token now f) f)
   one-kept f has true under =
@@ -101,7 +121,8 @@ module _ (l : List Noted) (t : ℕ) (p : Peer) (d : List ℕ) (m : Content) (n :
       kept-on l t p d m S h none room e real_now how is_going_on on real n g f (at-it f a under) a.0 (current f a.0)
   one-kept f has false other =
       let a = open-in f has in
-      kept-one l t p (link_of S.links p) d m h.before.reads.legal f f.current a.0 (unhit f a other) (current f a.0)
+      kept-one l t p (link_of S.links p) d m h.before.reads.legal f f.current f.newest a.0 (unhit f a other) (current f a.0)
+      (λ get. newest-quiet x l (asked_key a.0.request) (got_in l f.opening) f.newest silent (a.0.newest get))
 
   -- the pieces
 
@@ -194,7 +215,8 @@ module _ (l : List Noted) (t : ℕ) (p : Peer) (d : List ℕ) (m : Content) (n :
   -- what waits
 
   abbrev new_link : LinkState
-  new_link = queued t (waits n.token n.text n.word) (heard_link t m.mid m.token (verdict_of t (link_of S.links p) m) (link_of S.links p))
+  new_link = queued t (waits n.token n.text n.word)
+      (heard_link t m.mid m.token (is_one_of (gone_by m S.entries (Goes e now) S.watches)) (verdict_of t (link_of S.links p) m) (link_of S.links p))
 
   abbrev on_it : Bool → Exchange → Exchange
   on_it b f = cond b (continued n.token now f) f
@@ -225,9 +247,12 @@ module _ (l : List Noted) (t : ℕ) (p : Peer) (d : List ℕ) (m : Content) (n :
             ∙ sym (goes-openings e n.token now S.exchanges));
         exchanges_are = all-map (goes_so e n.token now) (ExchangeIn r.start (x ∷ l)) S.exchanges (each-of _ S.exchanges (λ f has. one-kept f has (is_under e.token f) refl));
         pieces_are = pieces-left;
-        store_is = store-retired x l S r (legal-so l t p d m n S h spelled none room) [] ends tt no-whole-now;
+        watches_are = left;
+        unnoticed = λ q away. registered-unnoticed l t p d m n S h spelled none room e on.it left q away;
+        store_is = store-retired x l S r (legal-so l t p d m n S h spelled none room) [] ends silent tt no-whole-now;
         tokens_are = all-more _ (λ (f : FirstSending). token_number f.message.token < S.issued + 1) (λ f less. omega (arith, less)) (firsts l) r.tokens_are;
         waiting_are = waits-left;
-        link_is = goes-on-agrees _ l t p (link_of S.links p) d m e.opening n.token n.text n.word (link-before l t S h.before p) none room
+        link_is = goes-on-agrees _ l t p (link_of S.links p) d m e.opening n.token n.text n.word (is_one_of (unless_registered m e S.watches)) (link-before l t S h.before p) none room
+            (registered-forgets l t p d m n S h spelled none room e on.it left) resets
             (goes-on l t p d m S h none room e real_now how is_going_on on real n g);
       }

@@ -1,33 +1,47 @@
 -- A message that ends an exchange leaves the others.
-use Rattle.std.proofs.Common.{◌≡◌, ℕ, zero, ◌+◌, true, false, not, eqb, List, [], ◌∷◌, map, Option, Some, None, inl, inr, refl, sym, ap, subst, ◌∙◌, arith}
+use Rattle.std.proofs.Common.{◌≡◌, ℕ, zero, ◌+◌, true, false, not, eqb, List, [], ◌∷◌, ◌++◌, map, Option, Some, None, inl, inr, refl, sym, ap, subst, ◌∙◌, arith}
 use Rattle.std.specs.Prelude.{filter, is_none}
 use Rattle.std.specs.List.{AllByRecursion, Contains}
 use Rattle.std.proofs.lemmas.Bool.{false≢true, not-false}
 use Rattle.coap_codec.specs.Spelling.{Content, Spells}
 use Rattle.uri_map.specs.declared.peer.Peer.{Peer}
 use Rattle.history_laws.specs.Readings.{Noted}
-use Rattle.history_laws.specs.Hearing.{repeated, can_be_remembered}
-use Rattle.history_laws.specs.Progress.{Ending, numbers}
-use Rattle.history_laws.specs.Exchanges.{End, end_of, is_going}
-use Rattle.history_laws.proofs.CallerLemmas.{all-filter, all-more, all-of, all-passes, contains-none, eqb-same, filter-by, first-or-later}
+use Rattle.history_laws.specs.Hearing.{answers, can_be_remembered, notice_of, repeated}
+use Rattle.ask_model.specs.Sharing.{asked_key, is_get}
+use Rattle.observe_share.specs.Watches.{without}
+use Rattle.history_laws.specs.Observing.{counting, outdated, watches}
+use Rattle.history_laws.specs.Responses.{Response}
+use Rattle.history_laws.specs.Progress.{Ending, Ends as EndsSoFar, numbers, Progress, progress, Reply, step, Whole}
+use Rattle.history_laws.specs.Exchanges.{Begun, End, end_of, is_going, replies}
+use Rattle.ask_model.specs.Requests.{CoapRequest}
+use Rattle.history_laws.proofs.CallerLemmas.{all-filter, all-more, all-of, all-passes, contains-none, eqb-same, filter-by, first-or-later, progress-push, some-is}
 use Rattle.history_links.specs.Steps.{heard}
 use Rattle.history_links.proofs.CallerLemmas.{says-agrees}
 use Rattle.exchange_model.specs.declared.kept.Exchange.{Exchange}
 use Rattle.exchange_model.specs.State.{State, link_of}
-use Rattle.exchange_model.specs.Reads.{ExchangeIn, got_in, opening_of, PiecesIn, StoreIn, WaitsUnder}
-use Rattle.exchange_model.specs.Steps.{Over, content_by, is_of_other, is_other, left_by, Numbers, numbers_of, outrun_by, settled}
+use Rattle.exchange_model.specs.declared.kept.Work.{Work}
+use Rattle.exchange_model.specs.declared.kept.Work.TheVariants as W
+use Rattle.exchange_model.specs.Watching.{is_one_of, is_written_by, tokens_of}
+use Rattle.exchange_model.specs.Reads.{ExchangeIn, got_in, held_of, opening_of, PiecesIn, StoreIn, WaitsUnder}
+use Rattle.exchange_model.specs.Steps.{Over, asked_in, gone_by, got_by, newest_by, newest_content, progress_with, watches_by, is_of_other, is_other, left_by, Numbers, numbers_of, outrun_by, settled}
 use Rattle.exchange_model.specs.Laws.{MayHear}
 use Rattle.exchange_model.proofs.Answered.{hits, issued-still, kept-hits, none-goes-on, other-going, other-opening, other-unhit, same-opening, start}
 use Rattle.exchange_model.proofs.Begins.{waits-with}
 use Rattle.exchange_model.proofs.Fetched.{numbers-others}
 use Rattle.exchange_model.proofs.Hearing.{kept-one, open-later, replies-kept}
-use Rattle.exchange_model.proofs.Left.{Left, legal-so, told}
+use Rattle.exchange_model.proofs.Fresh.{newest-more, step-all}
+use Rattle.exchange_model.proofs.Left.{follows-so, Left, legal-so, told}
+use Rattle.exchange_model.proofs.Noticing.{answered-silent, answered-told, told as told_in}
+use Rattle.exchange_model.proofs.Observed.{answered-resets, over-forgets, over-unnoticed}
+use Rattle.exchange_model.proofs.Watches.{newest-quiet}
+use Rattle.exchange_model.proofs.Written.{one-written, told-stand, written-left}
 use Rattle.exchange_model.proofs.Lists.{all-both, each-of}
 use Rattle.exchange_model.proofs.Opened.{OpenIn, open-ones}
 use Rattle.exchange_model.proofs.Outrun.{current-now, EndsThose, left-all, left-each, left-openings}
-use Rattle.exchange_model.proofs.Over.{IsOver}
+use Rattle.exchange_model.proofs.Over.{IsOver, reply_of}
 use Rattle.exchange_model.proofs.Pieces.{below-more, got-stays}
 use Rattle.exchange_model.proofs.Settled.{store-settled}
+use Rattle.exchange_model.proofs.Settling.{kept}
 use Rattle.exchange_model.proofs.Silent.{link-before}
 
 module _ (l : List Noted) (t : ℕ) (p : Peer) (d : List ℕ) (m : Content) (n : Numbers) (S : State) (h : MayHear l t p d S)
@@ -105,6 +119,44 @@ module _ (l : List Noted) (t : ℕ) (p : Peer) (d : List ℕ) (m : Content) (n :
     below = all-filter _ (is_of_other e) S.pieces (below-more l (x ∷ l) S.pieces (omega arith) h.before.reads.pieces_are.below);
   }
 
+  silent : counting l x.note ≡ None
+  silent = answered-silent l t p d m S h none room e over.it
+
+  -- what is observed after it
+  left : map held_of (watches (x ∷ l)) ≡ watches_by t m S.entries (Over e how) S.watches
+  left =
+      let legal = legal-so l t p d m n S h spelled none room in
+      written-left x l S h.before.reads (e ∷ []) ends legal (told_in l t p d m S h none room)
+      (told-stand l t p d m (answers l p m) (notice_of l t p m (answers l p m)) h.before.reads.legal (follows-so l t p d m n S h spelled none room))
+      ∙ (one-written S e (map held_of (told_in l t p d m S h none room))
+      ∙ ap (without (is_written_by (asked_in S.entries e.opening))) (answered-told l t p d m S h none room e over.it))
+
+  -- Its first reply is this one, or one of those before.
+  abbrev kept-it : ExchangeIn h.before.reads.start l e
+  kept-it = kept x l S h.before.reads (legal-so l t p d m n S h spelled none room) e over.it.has
+
+  request-same : over.it.kept.request ≡ kept-it.request
+  request-same = ap (λ (b : Begun). b.request) (some-is _ _ (sym over.it.kept.opening ∙ kept-it.opening))
+
+  first-fresh : is_get kept-it.request ≡ true → (w : Response) (first : Reply) (more : List Reply) → over.real ≡ Whole w (first ∷ more)
+      → outdated (x ∷ l) (asked_key kept-it.request) first.number ≡ not (newest_by (first ∷ more) e.newest)
+  first-fresh get w first more is =
+      let a = kept-it in
+      let reply = reply_of l over.it.sending m in
+      let stepped : step (progress_with e.work (got_in l e.opening)) reply ≡ EndsSoFar (Whole w (first ∷ more)) =
+      ap (λ (u : Progress). step u reply) (sym a.progress) ∙ (sym (progress-push a.request (replies l e.opening) reply)
+      ∙ (ap (λ (q : CoapRequest). progress q (replies l e.opening ++ reply ∷ [])) (sym request-same) ∙ over.whole w (first ∷ more) is)) in
+      newest-more x l (asked_key a.request) e.newest reply silent refl (got_in l e.opening) (first ∷ more) (a.newest get)
+      (step-all (progress_with e.work (got_in l e.opening)) reply w (first ∷ more) (going e.work) stepped ∙ ap (λ (gs : List Reply). gs ++ reply ∷ []) (got-with e.work (got_in l e.opening)))
+    where
+      going : (k : Work) (how : Ending) → progress_with k (got_in l e.opening) ≡ EndsSoFar how → ⊥
+      going (W.Fetches k p) how f = cc
+      going (W.Gives u) how f = cc
+
+      got-with : (k : Work) (got : List Reply) → got_by (progress_with k got) ≡ got
+      got-with (W.Fetches k p) got = refl
+      got-with (W.Gives u) got = refl
+
   pub left-over : Left l t p d m n S h spelled none room (Over e how)
   left-over =
       let r = h.before.reads in
@@ -116,13 +168,19 @@ module _ (l : List Noted) (t : ℕ) (p : Peer) (d : List ℕ) (m : Content) (n :
             ∙ (ap (map opening_of) (filter-by (λ (f : Exchange). is_going (x ∷ l) f.opening) (is_other e.token) S.exchanges (each-of _ S.exchanges same-test))
             ∙ sym (left-openings S.entries (e ∷ []) others));
         exchanges_are = left-each (ExchangeIn r.start (x ∷ l)) (λ (f : Exchange). OpenIn r.start l f × (is_other e.token f ≡ true)) S.entries (e ∷ [])
-            (λ f a. kept-one l t p (link_of S.links p) d m r.legal f (outrun_by S.entries (e ∷ []) f).current a.0.0
-            (other-unhit l t p d m S h none room e over.it f a.0.0 a.1) (current-now x l S r (e ∷ []) ends legal f a.0.0)) others each-other;
+            (λ f a. kept-one l t p (link_of S.links p) d m r.legal f (outrun_by S.entries (e ∷ []) f).current f.newest a.0.0
+            (other-unhit l t p d m S h none room e over.it f a.0.0 a.1) (current-now x l S r (e ∷ []) ends legal f a.0.0)
+            (λ get. newest-quiet x l (asked_key a.0.0.request) (got_in l f.opening) f.newest silent (a.0.0.newest get))) others each-other;
         pieces_are = pieces-left;
-        store_is = subst (λ (u : Ending). StoreIn (x ∷ l) (settled S.entries (Some e) (content_by S.entries t e.opening u) S.store)) (sym over.same)
-            (store-settled x l S r legal e over.it.has ends over.real over.ends tt);
+        watches_are = left;
+        unnoticed = λ q away. over-unnoticed l t p d m n S h spelled none room e over.it left q away;
+        store_is = subst (λ (u : Ending). StoreIn (x ∷ l) (settled S.entries (Some e) (newest_content S.entries t e u) S.store)) (sym over.same)
+            (store-settled x l S r legal e over.it.has ends over.real over.ends silent tt first-fresh);
         tokens_are = r.tokens_are;
         waiting_are = left-all (λ (f : Exchange). WaitsUnder (link_of _ f.peer).waiting f) (λ f k. k) S.entries (e ∷ []) others
             (waits-with p _ S.links others (all-more _ _ (λ f k at_p. subst (λ (q : Peer). WaitsUnder (link_of S.links q).waiting f) at_p k) others waits) waits);
-        link_is = says-agrees _ l t p (link_of S.links p) d m (link-before l t S h.before p) none room (none-goes-on l t p d m S h none room hit-gone);
+        link_is = says-agrees _ l t p (link_of S.links p) d m (is_one_of (gone_by m S.entries (Over e how) S.watches)) (link-before l t S h.before p) none room
+            (over-forgets l t p d m n S h spelled none room e over.it left)
+            (answered-resets l t p d m n S h spelled none room e over.it (tokens_of (is_written_by (asked_in S.entries e.opening)) S.watches))
+            (none-goes-on l t p d m S h none room hit-gone);
       }

@@ -4,32 +4,28 @@ use Rattle.std.specs.Prelude.{is_none, is_some}
 use Rattle.std.specs.Str.{bytes_eq}
 use Rattle.std.proofs.lemmas.Bool.{false≢true, lt-ltb, le-ltb}
 use Rattle.std.proofs.lemmas.Bool.Decides.{leb_tells}
-use Rattle.std.proofs.lemmas.Slice.Eq.{bytes_eq-Decides}
-use Rattle.coap_codec.specs.Spelling.{Content}
 use Rattle.uri_map.specs.declared.peer.Peer.{Peer}
 use Rattle.message_layer.specs.Values.{LinkState}
-use Rattle.message_layer.specs.Calls.{is_other}
+use Rattle.message_layer.specs.Calls.{expected, expected_in}
 use Rattle.message_layer.specs.Sending.{first_sent, with_outstanding, next_by as call_next_by, queued, submitted, submitted_by}
 use Rattle.message_layer.specs.Laws.{heard_so}
 use Rattle.message_layer.proofs.After.{takes-after}
-use Rattle.message_layer.specs.Hearing.{replies, verdict_of, answered_in, remembered_in, applied, ended}
+use Rattle.message_layer.specs.Hearing.{replies, answered_in, remembered_in, applied, ended}
 use Rattle.message_layer.specs.declared.state.Awaited.{Awaited}
 use Rattle.message_layer.specs.declared.state.Outstanding.{Outstanding}
 use Rattle.message_layer.specs.declared.state.Waiting.{Waiting}
 use Rattle.message_layer.specs.declared.verdict.Verdict.{Verdict}
 use Rattle.history_laws.specs.Readings.{Noted}
 use Rattle.history_laws.specs.Transmissions.{bears_token}
-use Rattle.history_laws.specs.Exchanges.{waiting}
 use Rattle.history_laws.proofs.CallerLemmas.{filter-push}
-use Rattle.history_links.specs.Agrees.{Start, WaitIn, Agrees}
-use Rattle.history_links.specs.Steps.{ended_token, unawaited, heard_link}
+use Rattle.history_links.specs.Agrees.{Start, WaitIn}
+use Rattle.history_links.specs.Steps.{but_gone, heard_link, lets_go}
 use Rattle.exchange_model.specs.State.{State}
+use Rattle.exchange_model.specs.Watching.{is_one_of}
 use Rattle.exchange_model.specs.Steps.{given_out, link_with}
 use Rattle.exchange_model.specs.Calls.{given_back}
 use Rattle.exchange_model.specs.Resting.{IsUndue}
 use Rattle.exchange_model.specs.Entering.{in_turn, next_out, awaits_no_more, taken_with}
-use Rattle.exchange_model.proofs.Borne.{ended-borne}
-use Rattle.exchange_model.proofs.Hearing.{borne-bears}
 
 -- ACKs, RSTs and answers change no link.
 
@@ -37,27 +33,41 @@ pub links-given : (t : ℕ) (p : Peer) (bs : List (List ℕ)) (S : State) → (g
 links-given t p [] S = refl
 links-given t p (b ∷ bs) S = links-given t p bs _
 
--- Nothing is awaited any more under the token of what ends, whether the next message goes out before or
+-- Nothing is expected any more under the tokens of what ends, whether the next message goes out before or
 -- after that.
 
--- no message that waits bears it
-abbrev pub Unborne : Option (List ℕ) → List Waiting → Type 0
+-- the message that waits first bears none of them
+abbrev pub Unborne : List (List ℕ) → List Waiting → Type 0
 Unborne of [] = Unit {0}
-Unborne of (w ∷ ws) = (token : List ℕ) → of ≡ Some token → bytes_eq w.token token ≡ false
+Unborne of (w ∷ ws) = is_one_of of w.token ≡ false
 
-abbrev pub without : Option (List ℕ) → LinkState → LinkState
-without of s = record s { awaited = unawaited of s.awaited }
+abbrev pub without : List (List ℕ) → LinkState → LinkState
+without of s = lets_go (is_one_of of) s
 
-pub without-is : (of : Option (List ℕ)) (s : LinkState) → awaits_no_more of s ≡ without of s
-without-is None s = refl
-without-is (Some token) s = refl
+none-gone : (xs : List Awaited) → but_gone (is_one_of []) xs ≡ xs
+none-gone [] = refl
+none-gone (x ∷ xs) = ap (λ (ys : List Awaited). x ∷ ys) (none-gone xs)
 
-pushed : (of : Option (List ℕ)) (w : Waiting) (mid : Option ℕ) (xs : List Awaited) → ((token : List ℕ) → of ≡ Some token → bytes_eq w.token token ≡ false)
-    → unawaited of xs ++ record { token = w.token; mid = mid } ∷ [] ≡ unawaited of (xs ++ record { token = w.token; mid = mid } ∷ [])
-pushed None w mid xs h = refl
-pushed (Some token) w mid xs h = sym (filter-push (is_other token) xs (record { token = w.token; mid = mid }) (ap not (h token refl)))
+one-gone : (token : List ℕ) (of : List (List ℕ)) (xs : List Awaited) → but_gone (is_one_of of) (expected_in token false xs) ≡ but_gone (is_one_of (token ∷ of)) xs
+one-gone token of [] = refl
+one-gone token of (x ∷ xs) = by (bytes_eq x.token token) (one-gone token of xs)
+  where
+    by : (b : Bool) → but_gone (is_one_of of) (expected_in token false xs) ≡ but_gone (is_one_of (token ∷ of)) xs
+        → but_gone (is_one_of of) (cond (not b) (x ∷ expected_in token false xs) (expected_in token false xs))
+        ≡ cond (not (b || is_one_of of x.token)) (x ∷ but_gone (is_one_of (token ∷ of)) xs) (but_gone (is_one_of (token ∷ of)) xs)
+    by true ih = ih
+    by false ih = ap (λ (ys : List Awaited). cond (not (is_one_of of x.token)) (x ∷ ys) ys) ih
 
-next-without : (t : ℕ) (of : Option (List ℕ)) (s : LinkState) (ws : List Waiting) → Unborne of ws → call_next_by t (without of s) ws ≡ without of (call_next_by t s ws)
+pub without-is : (of : List (List ℕ)) (s : LinkState) → awaits_no_more of s ≡ without of s
+without-is [] s = ap (λ (xs : List Awaited). record s { awaited = xs }) (sym (none-gone s.awaited))
+without-is (token ∷ of) s =
+    without-is of (expected token false s) ∙ ap (λ (xs : List Awaited). record s { awaited = xs }) (one-gone token of s.awaited)
+
+pushed : (of : List (List ℕ)) (w : Waiting) (mid : Option ℕ) (xs : List Awaited) → is_one_of of w.token ≡ false
+    → but_gone (is_one_of of) xs ++ record { token = w.token; mid = mid } ∷ [] ≡ but_gone (is_one_of of) (xs ++ record { token = w.token; mid = mid } ∷ [])
+pushed of w mid xs h = sym (filter-push (λ (a : Awaited). not (is_one_of of a.token)) xs (record { token = w.token; mid = mid }) (ap not h))
+
+next-without : (t : ℕ) (of : List (List ℕ)) (s : LinkState) (ws : List Waiting) → Unborne of ws → call_next_by t (without of s) ws ≡ without of (call_next_by t s ws)
 next-without t of s [] h = refl
 next-without t of s (w ∷ ws) h =
     ap (λ (xs : List Awaited). record (with_outstanding s ws (first_sent t s.last_mid w)) { awaited = xs }) (pushed of w (Some (first_sent t s.last_mid w).mid) s.awaited h)
@@ -96,19 +106,16 @@ unanswered : (t : ℕ) (s : LinkState) (ws : List Waiting) (out : List (List ℕ
 unanswered t s [] out u = refl
 unanswered t s (w ∷ ws) out u = refl
 
-pub heard-turned : (t mid : ℕ) (token : List ℕ) (v : Verdict) (s : LinkState) (b : Bool) → v.ends ≡ b → Turns s.outstanding s.waiting → Unborne (ended_token v.news token) s.waiting
-    → given_out (turned t (heard_link t mid token v s)) ≡ given_out (without (ended_token v.news token) (applied t mid token v s))
-heard-turned t mid token v s b e rest h = ap (λ (c : Bool). given_out (turned t (record (heard_link t mid token v s) { outstanding = cond c None s.outstanding }))) e
-    ∙ (by b ∙ sym (ap (λ (c : Bool). given_out (without (ended_token v.news token) (ended t c (answering t mid token v s)))) e))
+pub heard-turned : (t mid : ℕ) (token : List ℕ) (of : List (List ℕ)) (v : Verdict) (s : LinkState) (b : Bool) → v.ends ≡ b → Turns s.outstanding s.waiting → Unborne of s.waiting
+    → given_out (turned t (heard_link t mid token (is_one_of of) v s)) ≡ given_out (without of (applied t mid token v s))
+heard-turned t mid token of v s b e rest h = ap (λ (c : Bool). given_out (turned t (record (heard_link t mid token (is_one_of of) v s) { outstanding = cond c None s.outstanding }))) e
+    ∙ (by b ∙ sym (ap (λ (c : Bool). given_out (without of (ended t c (answering t mid token v s)))) e))
   where
-    of : Option (List ℕ)
-    of = ended_token v.news token
-
-    by : (c : Bool) → given_out (turned t (record (heard_link t mid token v s) { outstanding = cond c None s.outstanding }))
-        ≡ given_out (without (ended_token v.news token) (ended t c (answering t mid token v s)))
-    by false = ap given_out (kept-turn t (record (heard_link t mid token v s) { outstanding = s.outstanding }) s.outstanding refl rest)
+    by : (c : Bool) → given_out (turned t (record (heard_link t mid token (is_one_of of) v s) { outstanding = cond c None s.outstanding }))
+        ≡ given_out (without of (ended t c (answering t mid token v s)))
+    by false = ap given_out (kept-turn t (record (heard_link t mid token (is_one_of of) v s) { outstanding = s.outstanding }) s.outstanding refl rest)
     by true =
-        sym (unanswered t (record (heard_link t mid token v s) { outstanding = None }) s.waiting (s.out ++ replies mid v.reply) s.outstanding)
+        sym (unanswered t (record (heard_link t mid token (is_one_of of) v s) { outstanding = None }) s.waiting (s.out ++ replies mid v.reply) s.outstanding)
         ∙ ap given_out (next-without t of (answering t mid token v s) s.waiting h)
 
 -- the same where the message is queued by which an exchange goes on
@@ -118,24 +125,22 @@ unanswered-all : (t : ℕ) (s : LinkState) (v : Option Outstanding) (out : List 
 unanswered-all t s None out = unanswered t s s.waiting out None ∙ sym (unanswered t s s.waiting s.out None)
 unanswered-all t s (Some o) out = refl
 
-turned-without : (t : ℕ) (of : Option (List ℕ)) (s : LinkState) (v : Option Outstanding) → Unborne of s.waiting
+turned-without : (t : ℕ) (of : List (List ℕ)) (s : LinkState) (v : Option Outstanding) → Unborne of s.waiting
     → submitted_by t (without of s) v ≡ without of (submitted_by t s v)
 turned-without t of s None h = next-without t of s s.waiting h
 turned-without t of s (Some o) h = refl
 
-unborne-more : (of : Option (List ℕ)) (ws : List Waiting) (w : Waiting) → Unborne of ws
-    → ((token : List ℕ) → of ≡ Some token → bytes_eq w.token token ≡ false) → Unborne of (ws ++ w ∷ [])
+unborne-more : (of : List (List ℕ)) (ws : List Waiting) (w : Waiting) → Unborne of ws → is_one_of of w.token ≡ false → Unborne of (ws ++ w ∷ [])
 unborne-more of [] w h new = new
 unborne-more of (v ∷ ws) w h new = h
 
-went-on : (t mid : ℕ) (token : List ℕ) (v : Verdict) (w : Waiting) (s : LinkState)
-    → Unborne (ended_token v.news token) s.waiting → ((other : List ℕ) → ended_token v.news token ≡ Some other → bytes_eq w.token other ≡ false)
-    → given_out (turned t (queued t w (heard_link t mid token v s)))
-    ≡ given_out (without (ended_token v.news token) (submitted t w (applied t mid token v s)))
-went-on t mid token v w s h new =
-    let of : Option (List ℕ) = ended_token v.news token in
+went-on : (t mid : ℕ) (token : List ℕ) (of : List (List ℕ)) (v : Verdict) (w : Waiting) (s : LinkState)
+    → Unborne of s.waiting → is_one_of of w.token ≡ false
+    → given_out (turned t (queued t w (heard_link t mid token (is_one_of of) v s)))
+    ≡ given_out (without of (submitted t w (applied t mid token v s)))
+went-on t mid token of v w s h new =
     let so : LinkState = queued t w (heard_so t mid token v s) in
-    sym (unanswered-all t (record so { awaited = unawaited of so.awaited; out = s.out }) so.outstanding so.out)
+    sym (unanswered-all t (record so { awaited = but_gone (is_one_of of) so.awaited; out = s.out }) so.outstanding so.out)
     ∙ (ap given_out (turned-without t of so so.outstanding (unborne-more of s.waiting w h new))
     ∙ sym (ap (λ (u : LinkState). given_out (without of u)) (takes-after t mid token v w s)))
 
@@ -165,41 +170,35 @@ free-then false (Some o) = refl
 free-then false None = refl
 
 -- what has its turn then
-pub turn-with : (t mid : ℕ) (token : List ℕ) (v : Verdict) (more : Option Waiting) (s : LinkState) → Turns s.outstanding s.waiting
-    → (let u = link_with t more (heard_link t mid token v s) in in_turn (is_none u.outstanding) u.waiting) ≡ next_out v s more
-turn-with t mid token v None s h = turn-ended v.ends s.outstanding s.waiting h
-turn-with t mid token v (Some w) s h = ap (λ (b : Bool). in_turn b (s.waiting ++ w ∷ [])) (free-then v.ends s.outstanding)
+pub turn-with : (t mid : ℕ) (token : List ℕ) (gone : List ℕ → Bool) (v : Verdict) (more : Option Waiting) (s : LinkState) → Turns s.outstanding s.waiting
+    → (let u = link_with t more (heard_link t mid token gone v s) in in_turn (is_none u.outstanding) u.waiting) ≡ next_out v s more
+turn-with t mid token gone v None s h = turn-ended v.ends s.outstanding s.waiting h
+turn-with t mid token gone v (Some w) s h = ap (λ (b : Bool). in_turn b (s.waiting ++ w ∷ [])) (free-then v.ends s.outstanding)
 
--- the new message doesn't bear the token under which nothing is awaited any more
-abbrev pub IsFresh : Option Waiting → Option (List ℕ) → Type 0
-IsFresh more over = (w : Waiting) (token : List ℕ) → more ≡ Some w → over ≡ Some token → bytes_eq w.token token ≡ false
+-- the new message bears none of the tokens under which nothing is expected any more
+abbrev pub IsFresh : Option Waiting → List (List ℕ) → Type 0
+IsFresh more of = (w : Waiting) → more ≡ Some w → is_one_of of w.token ≡ false
 
-pub link-turned : (t mid : ℕ) (token : List ℕ) (v : Verdict) (more : Option Waiting) (s : LinkState)
-    → Turns s.outstanding s.waiting → Unborne (ended_token v.news token) s.waiting → IsFresh more (ended_token v.news token)
-    → given_out (turned t (link_with t more (heard_link t mid token v s)))
-    ≡ given_out (awaits_no_more (ended_token v.news token) (taken_with t more (applied t mid token v s)))
-link-turned t mid token v None s rest h fresh =
-    heard-turned t mid token v s v.ends refl rest h ∙ sym (ap given_out (without-is (ended_token v.news token) (applied t mid token v s)))
-link-turned t mid token v (Some w) s rest h fresh =
-    went-on t mid token v w s h (λ other e. fresh w other refl e)
-    ∙ sym (ap given_out (without-is (ended_token v.news token) (submitted t w (applied t mid token v s))))
+pub link-turned : (t mid : ℕ) (token : List ℕ) (of : List (List ℕ)) (v : Verdict) (more : Option Waiting) (s : LinkState)
+    → Turns s.outstanding s.waiting → Unborne of s.waiting → IsFresh more of
+    → given_out (turned t (link_with t more (heard_link t mid token (is_one_of of) v s)))
+    ≡ given_out (awaits_no_more of (taken_with t more (applied t mid token v s)))
+link-turned t mid token of v None s rest h fresh =
+    heard-turned t mid token of v s v.ends refl rest h ∙ sym (ap given_out (without-is of (applied t mid token v s)))
+link-turned t mid token of v (Some w) s rest h fresh =
+    went-on t mid token of v w s h (fresh w refl)
+    ∙ sym (ap given_out (without-is of (submitted t w (applied t mid token v s))))
 
--- A token that a message ends went out, so that none that waits bears it.
-
-first-unborne : (start : Start) (l : List Noted) (os : List ℕ) (ws : List Waiting) (of : Option (List ℕ)) → WaitIn start l os ws → ((token : List ℕ) → of ≡ Some token → bears_token l token ≡ true) → Unborne of ws
-first-unborne start l os [] of a h = tt
-first-unborne start l [] (w ∷ ws) of a h = absurd a
-first-unborne start l (o ∷ os) (w ∷ ws) of a h = λ token e. by token (h token e) (bytes_eq w.token token) refl
+-- Where each of them went out, none that waits bears it.
+pub new-unborne : (start : Start) (l : List Noted) (os : List ℕ) (ws : List Waiting) (of : List (List ℕ)) → WaitIn start l os ws
+    → ((token : List ℕ) → is_one_of of token ≡ true → bears_token l token ≡ true) → Unborne of ws
+new-unborne start l os [] of a h = tt
+new-unborne start l [] (w ∷ ws) of a h = absurd a
+new-unborne start l (o ∷ os) (w ∷ ws) of a h = by (is_one_of of w.token) refl
   where
-    by : (token : List ℕ) → bears_token l token ≡ true → (b : Bool) → bytes_eq w.token token ≡ b → b ≡ false
-    by token borne false e = refl
-    by token borne true e =
-        let same : w.token ≡ token = (bytes_eq-Decides w.token token).0 e in
-        absurd (false≢true (sym a.0.token_apart ∙ (ap (bears_token l) same ∙ borne)))
-
-pub new-unborne : {start : Start} (l : List Noted) (t : ℕ) (p : Peer) (s : LinkState) (m : Content) → Agrees start l p s → Unborne (ended_token (verdict_of t s m).news m.token) s.waiting
-new-unborne {start = start} l t p s m a = first-unborne start l (waiting l p) s.waiting (ended_token (verdict_of t s m).news m.token) a.waits
-    (λ token e. let b = ended-borne l t p s m token m.kind a e in borne-bears l b.first token b.number b.is b.token_is)
+    by : (b : Bool) → is_one_of of w.token ≡ b → b ≡ false
+    by false e = refl
+    by true e = absurd (false≢true (sym a.0.token_apart ∙ h w.token e))
 
 pub limits : (n : ℕ) → ltb 2048 n ≡ not (leb n 2048)
 limits n = elim (leb_tells n 2048) [ inl w ↦ rw (w.0) (le-ltb 2048 n w.1) | inr w ↦ rw (w.0) (lt-ltb 2048 n w.1) ]

@@ -1,5 +1,5 @@
 -- An exchange that goes on by a message: its next message waits last at its endpoint.
-use Rattle.std.proofs.Common.{◌≡◌, ℕ, ◌+◌, Bool, true, false, not, cond, eqb, List, [], ◌∷◌, ◌++◌, length, map, Option, Some, None, inl, inr, refl, sym, ap, subst, ◌∙◌, arith}
+use Rattle.std.proofs.Common.{◌≡◌, ℕ, ◌+◌, Bool, true, false, not, eqb, List, [], ◌∷◌, ◌++◌, length, map, Option, Some, None, inl, inr, refl, sym, ap, subst, ◌∙◌, arith}
 use Rattle.std.specs.Prelude.{is_some}
 use Rattle.std.specs.List.{Contains}
 use Rattle.std.proofs.lemmas.Bool.{false≢true, and_from}
@@ -9,9 +9,10 @@ use Rattle.uri_map.specs.declared.peer.Peer.{Peer}
 use Rattle.message_layer.specs.Sending.{waits}
 use Rattle.message_layer.specs.declared.state.Waiting.{Waiting}
 use Rattle.ask_model.specs.Requests.{CoapRequest}
-use Rattle.ask_model.specs.Sharing.{asked_place}
+use Rattle.ask_model.specs.Sharing.{asked_key, asked_place, is_get}
 use Rattle.history_laws.specs.Numbering.{token_number}
-use Rattle.history_laws.specs.Readings.{Noted, before}
+use Rattle.history_laws.specs.Readings.{Noted, at, before}
+use Rattle.history_laws.specs.Observing.{counting, observes, unless_replied, wants_in}
 use Rattle.history_laws.specs.Transmissions.{firsts, bears_token}
 use Rattle.history_laws.specs.Progress.{Reply, Progress, Fetches, Gives, Ends, next_message, progress, step}
 use Rattle.history_laws.specs.Exchanges.{Begun, begun, Turn, waits_by, replies_by, replies, is_going, is_issued_at, issued, submitted_by, submitted, rank, waits_for}
@@ -22,13 +23,15 @@ use Rattle.history_links.specs.Steps.{GoesOn, heard}
 use Rattle.exchange_model.specs.declared.kept.Exchange.{Exchange}
 use Rattle.exchange_model.specs.State.{State, link_of}
 use Rattle.exchange_model.specs.declared.kept.Work.{Work}
-use Rattle.exchange_model.specs.Reads.{ExchangeIn, got_for, got_in, WaitsUnder}
-use Rattle.exchange_model.specs.Steps.{Numbers, continued, got_by, progress_with, work_by}
+use Rattle.exchange_model.specs.Reads.{ExchangeIn, got_for, got_in, IsNewest, WaitsUnder}
+use Rattle.exchange_model.specs.Steps.{Numbers, continued, got_by, newest_by, progress_with, work_by}
 use Rattle.exchange_model.specs.Laws.{IsContinued, MayHear}
 use Rattle.exchange_model.proofs.Answered.{start}
-use Rattle.exchange_model.proofs.Bare.{bare_progress}
+use Rattle.exchange_model.proofs.Bare.{bare, bare_progress}
 use Rattle.exchange_model.proofs.Begins.{below-issued, unborne}
 use Rattle.exchange_model.proofs.Fetched.{IsMore, step-more}
+use Rattle.exchange_model.proofs.Fresh.{newest-gone}
+use Rattle.exchange_model.proofs.Noticing.{answered-silent}
 use Rattle.exchange_model.proofs.Opened.{OpenIn}
 use Rattle.exchange_model.proofs.Outrun.{asked-here}
 use Rattle.exchange_model.proofs.Over.{IsOnward, reply_of}
@@ -100,13 +103,22 @@ module _ (l : List Noted) (t : ℕ) (p : Peer) (d : List ℕ) (m : Content) (S :
   request-is : g.request ≡ q
   request-is = some-is g.request q (sym g.asked ∙ asked-here l S h.before.reads e on.it.kept)
 
-  next-is : next_message q (progress q (replies (x ∷ l) e.opening)) 0 n.token ≡ Some g.message
-  next-is =
-      ap (λ (u : Progress). next_message q u 0 n.token) progress-now
-      ∙ (next-bare now ∙ (ap (λ (u : Progress). next_message q u 0 n.token) (sym same-how)
-      ∙ subst (λ (a : CoapRequest). next_message a how 0 n.token ≡ Some g.message) request-is g.next))
+  -- It doesn't ask to observe any more.
+  observes-now : observes (x ∷ l) e.opening ≡ false
+  observes-now = replied (replies l e.opening) replies-now
     where
-      next-bare : (u : Progress) → next_message q u 0 n.token ≡ next_message q (bare_progress u) 0 n.token
+      replied : (rs : List Reply) → replies (x ∷ l) e.opening ≡ rs ++ r ∷ [] → observes (x ∷ l) e.opening ≡ false
+      replied [] is = ap (unless_replied (wants_in (before (x ∷ l) e.opening) (at (x ∷ l) e.opening))) is
+      replied (s ∷ rs) is = ap (unless_replied (wants_in (before (x ∷ l) e.opening) (at (x ∷ l) e.opening))) is
+
+  next-is : next_message (observes (x ∷ l) e.opening) q (progress q (replies (x ∷ l) e.opening)) 0 n.token ≡ Some g.message
+  next-is =
+      ap (λ (b : Bool). next_message b q (progress q (replies (x ∷ l) e.opening)) 0 n.token) observes-now
+      ∙ (ap (λ (u : Progress). next_message false q u 0 n.token) progress-now
+      ∙ (next-bare now ∙ (ap (λ (u : Progress). next_message false q u 0 n.token) (sym same-how)
+      ∙ subst (λ (a : CoapRequest). next_message false a how 0 n.token ≡ Some g.message) request-is g.next)))
+    where
+      next-bare : (u : Progress) → next_message false q u 0 n.token ≡ next_message false q (bare_progress u) 0 n.token
       next-bare (Fetches k pieces got) = refl
       next-bare (Gives upload got) = refl
       next-bare (Ends how) = refl
@@ -125,6 +137,16 @@ module _ (l : List Noted) (t : ℕ) (p : Peer) (d : List ℕ) (m : Content) (S :
     numbered = numbered;
   }
 
+  -- It has a reply more, or begins anew.
+  pub is-more : IsMore (got_in l e.opening) r (got_by now)
+  is-more =
+      subst (λ (got : List Reply). IsMore got r (got_by now)) (sym (ap (λ (b : Option Begun). got_for b (replies l e.opening)) on.it.kept.opening))
+      (subst (λ (u : Progress). IsMore (got_by (progress q (replies l e.opening))) r (got_by u)) stepped
+      (step-more (progress q (replies l e.opening)) r (subst IsGoing (sym stepped) goes)))
+    where
+      stepped : step (progress q (replies l e.opening)) r ≡ now
+      stepped = sym (progress-push q (replies l e.opening) r) ∙ (on.comes ∙ real)
+
   -- This is kept of it now.
   pub kept-on : (f : Exchange) → f.opening ≡ e.opening → (a : ExchangeIn (start l t p d m S h none room) l f) → f.current ≡ not (outrun (x ∷ l) (asked_place a.request) f.opening)
       → ExchangeIn (start l t p d m S h none room) (x ∷ l) (continued n.token (bare_progress now) f)
@@ -136,9 +158,12 @@ module _ (l : List Noted) (t : ℕ) (p : Peer) (d : List ℕ) (m : Content) (S :
     number = ap (λ (o : ℕ). (start l t p d m S h none room).issued + rank (x ∷ l) o) same ∙ (ap (λ (i : ℕ). (start l t p d m S h none room).issued + i) rank-now ∙ sym numbered);
     sending = a.sending;
     awaits = ap (waits_for (x ∷ l)) same ∙ unsent-now;
+    observes = ap (observes (x ∷ l)) same ∙ observes-now;
+    asked = a.asked;
     named = λ u. absurd (false≢true u);
     sent = apart;
     current = current;
+    newest = newest-of;
     progress = progress-of;
     short = a.short;
     conn = a.conn;
@@ -146,6 +171,27 @@ module _ (l : List Noted) (t : ℕ) (p : Peer) (d : List ℕ) (m : Content) (S :
     stands = at-keeps x l f.opening _ a.stands;
   }
     where
+      -- the first of its replies, where it is this one, is newer than all
+      newest-of : is_get a.request ≡ true → IsNewest (x ∷ l) (asked_key a.request) (got_in (x ∷ l) f.opening) (newest_by (got_by (bare_progress now)) f.newest)
+      newest-of get =
+          subst (λ (c : Bool). IsNewest (x ∷ l) (asked_key a.request) (got_in (x ∷ l) f.opening) c) (newest-bare now)
+          (subst (λ (gs : List Reply). IsNewest (x ∷ l) (asked_key a.request) gs (newest_by (got_by now) f.newest)) (sym (ap (got_in (x ∷ l)) same ∙ got-now))
+          (newest-gone x l (asked_key a.request) f.newest r silent refl (got_in l f.opening) (got_by now) (a.newest get)
+          (subst (λ (o : ℕ). IsMore (got_in l o) r (got_by now)) (sym same) is-more)))
+        where
+          silent : counting l x.note ≡ None
+          silent = answered-silent l t p d m S h none room e on.it
+
+          newest-list : (gs : List Reply) → newest_by gs f.newest ≡ newest_by (map bare gs) f.newest
+          newest-list [] = refl
+          newest-list (y ∷ []) = refl
+          newest-list (y ∷ z ∷ gs) = refl
+
+          newest-bare : (u : Progress) → newest_by (got_by u) f.newest ≡ newest_by (got_by (bare_progress u)) f.newest
+          newest-bare (Fetches k pieces got) = newest-list got
+          newest-bare (Gives upload got) = newest-list got
+          newest-bare (Ends how) = refl
+
       begun-same : ◌≡◌ {A = Option Begun} (Some (record { since = f.since; request = a.request })) (Some (record { since = e.since; request = q }))
       begun-same = sym a.opening ∙ (ap (begun l) same ∙ on.it.kept.opening)
 
@@ -159,16 +205,6 @@ module _ (l : List Noted) (t : ℕ) (p : Peer) (d : List ℕ) (m : Content) (S :
           ∙ (progress-now
           ∙ (work-goes now f.work goes
           ∙ ap (progress_with (work_by (bare_progress now) f.work)) (sym (ap (got_in (x ∷ l)) same ∙ got-now)))))
-
-  -- It has a reply more, or begins anew.
-  pub is-more : IsMore (got_in l e.opening) r (got_by now)
-  is-more =
-      subst (λ (got : List Reply). IsMore got r (got_by now)) (sym (ap (λ (b : Option Begun). got_for b (replies l e.opening)) on.it.kept.opening))
-      (subst (λ (u : Progress). IsMore (got_by (progress q (replies l e.opening))) r (got_by u)) stepped
-      (step-more (progress q (replies l e.opening)) r (subst IsGoing (sym stepped) goes)))
-    where
-      stepped : step (progress q (replies l e.opening)) r ≡ now
-      stepped = sym (progress-push q (replies l e.opening) r) ∙ (on.comes ∙ real)
 
   -- What waits at its endpoint.
   above : (a : Peer) (v : Waiting) → Contains (link_of S.links a).waiting v → token_number v.token ≡ token_number n.token → ⊥

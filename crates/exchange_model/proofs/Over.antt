@@ -9,18 +9,23 @@ use Rattle.coap_codec.specs.declared.message.MsgType.{MsgType}
 use Rattle.coap_codec.specs.declared.message.MsgType.TheVariants.{Con, Non, Ack, Rst}
 use Rattle.uri_map.specs.declared.peer.Peer.{Peer}
 use Rattle.message_layer.specs.Values.{LinkState}
-use Rattle.message_layer.specs.Hearing.{is_fresh, is_repeat, is_awaited, is_awaited_by_ack, new_verdict, heard_verdict, ack_verdict, rst_verdict, verdict_by, verdict_of}
+use Rattle.message_layer.specs.Hearing.{is_fresh, is_repeat, is_awaited, is_awaited_by_ack, ignored, new_verdict, heard_verdict, ack_verdict, rst_verdict, verdict_by, verdict_of}
 use Rattle.message_layer.specs.declared.state.Heard.{Heard}
 use Rattle.message_layer.specs.declared.state.Outstanding.{Outstanding}
 use Rattle.message_layer.specs.declared.state.Reply.{Reply as LinkReply}
+use Rattle.message_layer.specs.declared.state.Reply.TheVariants as L
 use Rattle.message_layer.specs.declared.verdict.News.{News}
 use Rattle.message_layer.specs.declared.verdict.Verdict.{Verdict}
 use Rattle.message_layer.specs.declared.verdict.News.TheVariants as N
 use Rattle.history_laws.specs.Readings.{Noted}
-use Rattle.history_laws.specs.Progress.{Reply, Ending, Reset, Turned, Progress, Fetches, Gives, Ends as EndsSoFar, progress, ended_by}
+use Rattle.history_laws.specs.Responses.{Response}
+use Rattle.history_laws.specs.Progress.{Reply, Ending, Whole, Reset, Turned, Progress, Fetches, Gives, Ends as EndsSoFar, progress, ended_by}
 use Rattle.history_laws.specs.Exchanges.{Begun, begun, Turn, Replied, Rejected, answered_by, turn, waits_for, replies, replied_end, end_here, end_of, open_exchanges}
 use Rattle.history_laws.specs.Hearing.{repeated, can_be_remembered, answers, notice_of}
+use Rattle.history_laws.specs.Observing.{as_first, notice_in}
 use Rattle.history_laws.specs.Justified.{Ends}
+use Rattle.observe_share.specs.declared.registration.Registration.{Registration}
+use Rattle.observe_share.specs.Watches as W
 use Rattle.history_laws.proofs.CallerLemmas.{all-of, and-left, and-right, contains-map, eqb-itself, find-some, open-exactly}
 use Rattle.history_links.specs.Agrees.{Start}
 use Rattle.history_links.specs.Steps.{ended_token, heard}
@@ -28,7 +33,8 @@ use Rattle.history_links.proofs.CallerLemmas.{ends_by, hit, is_to, judge}
 use Rattle.exchange_model.specs.declared.kept.Exchange.{Exchange}
 use Rattle.exchange_model.specs.State.{State, link_of}
 use Rattle.exchange_model.specs.Reads.{ExchangeIn, opening_of, Reads}
-use Rattle.exchange_model.specs.Steps.{is_under, answered_in, Matter, Nothing, Goes, Over, replied, matter_by, matter_of, has_next_place}
+use Rattle.exchange_model.specs.Watching.{counts_to}
+use Rattle.exchange_model.specs.Steps.{is_under, answered_in, Matter, Nothing, Tells, Goes, Over, found_in, replied, matter_by, matter_of, has_next_place, tells_of, told_alone}
 use Rattle.exchange_model.specs.Laws.{MayHear}
 use Rattle.exchange_model.proofs.Bare.{bare_ending, bare_progress}
 use Rattle.exchange_model.proofs.Borne.{split}
@@ -177,16 +183,19 @@ how-kind l t p d m S e i of Ack kind waits to ends ended =
 
 -- What the exchange comes to is the same in the history and in the state.
 
+abbrev pub reply_of : List Noted → ℕ → Content → Reply
+reply_of l i m = record { number = length l; sending = i; message = m }
+
 -- By it the exchange ended so,
 pub record IsOver (start : Start) (l : List Noted) (t : ℕ) (p : Peer) (d : List ℕ) (m : Content) (S : State) (e : Exchange) (how : Ending) : Type 0 where
   pub it : AnswersIt start l t p m S e
   pub real : Ending
   pub ends : Ends (heard l t p d m ∷ l) e.opening (length l) real
   pub same : how ≡ bare_ending real
+  pub whole : (w : Response) (rs : List Reply) → real ≡ Whole w rs
+      → progress it.kept.request (replies l e.opening ++ reply_of l it.sending m ∷ []) ≡ EndsSoFar (Whole w rs)
 
 -- or goes on so.
-abbrev pub reply_of : List Noted → ℕ → Content → Reply
-reply_of l i m = record { number = length l; sending = i; message = m }
 
 pub record IsOnward (start : Start) (l : List Noted) (t : ℕ) (p : Peer) (d : List ℕ) (m : Content) (S : State) (e : Exchange) (how : Progress) : Type 0 where
   pub it : AnswersIt start l t p m S e
@@ -198,6 +207,7 @@ pub record IsOnward (start : Start) (l : List Noted) (t : ℕ) (p : Peer) (d : L
 
 abbrev pub IsMatter : Start → List Noted → ℕ → Peer → List ℕ → Content → State → Matter → Type 0
 IsMatter start l t p d m S Nothing = answered_in (ended_token (verdict_of t (link_of S.links p) m).news m.token) S.exchanges ≡ None
+IsMatter start l t p d m S (Tells r found) = answered_in (ended_token (verdict_of t (link_of S.links p) m).news m.token) S.exchanges ≡ None
 IsMatter start l t p d m S (Goes e how) = IsOnward start l t p d m S e how
 IsMatter start l t p d m S (Over e how) = IsOver start l t p d m S e how
 
@@ -212,6 +222,7 @@ by-end l t p d m S h e it place turned (EndsSoFar how) is = record {
   ends = ends-now l e.opening (heard l t p d m) _ how turned it.going
       (ap (λ (b : Option Begun). replied_end b place (replies l e.opening ++ reply_of l it.sending m ∷ [])) it.kept.opening ∙ ap (ended_by place) is);
   same = refl;
+  whole = λ w rs f. is ∙ ap EndsSoFar f;
 }
 by-end l t p d m S h e it true turned (Gives u got) is = record {
   it = it;
@@ -235,6 +246,7 @@ by-end l t p d m S h e it false turned (Gives u got) is = record {
   ends = ends-now l e.opening (heard l t p d m) _ Turned turned it.going
       (ap (λ (b : Option Begun). replied_end b false (replies l e.opening ++ reply_of l it.sending m ∷ [])) it.kept.opening ∙ ap (ended_by false) is);
   same = refl;
+  whole = λ w rs f. absurd cc;
 }
 by-end l t p d m S h e it false turned (Fetches k q got) is = record {
   it = it;
@@ -242,6 +254,7 @@ by-end l t p d m S h e it false turned (Fetches k q got) is = record {
   ends = ends-now l e.opening (heard l t p d m) _ Turned turned it.going
       (ap (λ (b : Option Begun). replied_end b false (replies l e.opening ++ reply_of l it.sending m ∷ [])) it.kept.opening ∙ ap (ended_by false) is);
   same = refl;
+  whole = λ w rs f. absurd cc;
 }
 
 pub is-matter : (l : List Noted) (t : ℕ) (p : Peer) (d : List ℕ) (m : Content) (S : State) → (h : MayHear l t p d S) → repeated l t p m ≡ None → can_be_remembered l t p m ≡ true
@@ -255,20 +268,34 @@ is-matter l t p d m S h none room = by (answered_in (ended_token v.news m.token)
     place = has_next_place t p v S
 
     made : (e : Exchange) (it : AnswersIt h.before.reads.start l t p m S e) → HowAnswered l t p d m S e it.sending
-        → IsMatter h.before.reads.start l t p d m S (matter_by v.news place m S (Some e))
+        → IsMatter h.before.reads.start l t p d m S (matter_by t v.news place m S (Some e))
     made e it (by_rst of news turned) =
-        subst (λ (n : News). IsMatter h.before.reads.start l t p d m S (matter_by n place m S (Some e))) (sym news)
-        record { it = it; real = Reset; ends = ends-now l e.opening (heard l t p d m) Rejected Reset turned it.going refl; same = refl }
+        subst (λ (n : News). IsMatter h.before.reads.start l t p d m S (matter_by t n place m S (Some e))) (sym news)
+        record { it = it; real = Reset; ends = ends-now l e.opening (heard l t p d m) Rejected Reset turned it.going refl; same = refl; whole = λ w rs f. absurd cc }
     made e it (by_reply news turned) =
         let same_place = place-same l t p m S e.opening it.sending h.before none room it.waits it.answered in
         let comes = comes-to l S e it.sending m h.before.reads it.has it.going it.kept in
-        subst (λ (n : News). IsMatter h.before.reads.start l t p d m S (matter_by n place m S (Some e))) (sym news)
+        subst (λ (n : News). IsMatter h.before.reads.start l t p d m S (matter_by t n place m S (Some e))) (sym news)
         (subst (λ (u : Progress). IsMatter h.before.reads.start l t p d m S (replied place e u)) (sym comes)
         (by-end l t p d m S h e it place (turned ∙ ap (Replied it.sending m) same_place)
         (progress it.kept.request (replies l e.opening ++ reply_of l it.sending m ∷ [])) refl))
 
-    by : (w : Option Exchange) → answered_in (ended_token v.news m.token) S.exchanges ≡ w → IsMatter h.before.reads.start l t p d m S (matter_by v.news place m S w)
-    by None is = is
+    none-told : answered_in (ended_token v.news m.token) S.exchanges ≡ None → (n : News) → IsMatter h.before.reads.start l t p d m S (told_alone t n m S)
+    none-told is N.Response = each (find (W.is_under m.token) S.watches)
+      where
+        each : (r : Option Registration) → IsMatter h.before.reads.start l t p d m S (tells_of t m S r)
+        each None = is
+        each (Some r) = counted (counts_to t m r)
+          where
+            counted : (b : Bool) → IsMatter h.before.reads.start l t p d m S (cond b (Tells r (found_in t S (notice_in m) r.opening (as_first (length S.entries) 0 m))) Nothing)
+            counted true = is
+            counted false = is
+    none-told is N.Quiet = is
+    none-told is (N.Reset of) = is
+    none-told is N.Lost = is
+
+    by : (w : Option Exchange) → answered_in (ended_token v.news m.token) S.exchanges ≡ w → IsMatter h.before.reads.start l t p d m S (matter_by t v.news place m S w)
+    by None is = none-told is v.news
     by (Some e) is =
         let it = answers-it l t p d m S h none room e is in
         made e it (how-kind l t p d m S e it.sending it.of m.kind refl it.waits it.answered it.ends it.token)
@@ -279,3 +306,27 @@ pub heard-over : (l : List Noted) (t : ℕ) (p : Peer) (d : List ℕ) (m : Conte
 heard-over l t p d m S h none room e how is =
     let it : IsOver h.before.reads.start l t p d m S e how = subst (IsMatter h.before.reads.start l t p d m S) is (is-matter l t p d m S h none room) in
     (it.real, it.ends, it.same)
+
+-- What rejects a message is empty.
+not-reset : (n : News) (of : List ℕ) → NotReset n → n ≡ N.Reset of → ⊥
+not-reset N.Quiet of h e = cc
+not-reset N.Response of h e = cc
+not-reset (N.Reset k) of h e = h
+not-reset N.Lost of h e = cc
+
+reset-by : (t : ℕ) (s : LinkState) (m : Content) (k : MsgType) (of : List ℕ) → (verdict_by t s m k).news ≡ N.Reset of → eqb m.code 0 ≡ true
+reset-by t s m Con of e = absurd (not-reset _ of (heard-news t s m true (find (is_repeat t m.mid) s.heard)) e)
+reset-by t s m Non of e = absurd (not-reset _ of (heard-news t s m false (find (is_repeat t m.mid) s.heard)) e)
+reset-by t s m Ack of e = absurd (not-reset _ of (ack-news s m) e)
+reset-by t s m Rst of e = by s.outstanding e
+  where
+    by : (v : Option Outstanding) → (rst_verdict m v).news ≡ N.Reset of → eqb m.code 0 ≡ true
+    by None f = absurd cc
+    by (Some o) f = empty (eqb m.code 0) (eqb o.mid m.mid) f
+      where
+        empty : (b c : Bool) → (cond (b && c) (record { reply = L.Nothing; remembered = false; ends = true; news = N.Reset o.token }) ignored).news ≡ N.Reset of → b ≡ true
+        empty true c g = refl
+        empty false c g = absurd cc
+
+pub reset-empty : (l : List Noted) (t : ℕ) (p : Peer) (m : Content) (S : State) (of : List ℕ) → (verdict_of t (link_of S.links p) m).news ≡ N.Reset of → eqb m.code 0 ≡ true
+reset-empty l t p m S of e = reset-by t (link_of S.links p) m m.kind of e

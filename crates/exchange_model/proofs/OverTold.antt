@@ -1,8 +1,8 @@
 -- What a message makes known by which an exchange ends.
-use Rattle.std.proofs.Common.{◌≡◌, ℕ, ◌+◌, ◌≤◌, Bool, true, false, cond, eqb, List, [], ◌∷◌, ◌++◌, length, map, Option, Some, None, Ok, Err, inl, inr, refl, sym, ap, subst, ◌∙◌, arith}
-use Rattle.std.specs.Prelude.{fold, is_some}
-use Rattle.std.specs.List.{AllByRecursion, Contains}
-use Rattle.std.proofs.lemmas.Bool.{eq-eqb, eqb-false, le-leb}
+use Rattle.std.proofs.Common.{◌≡◌, ℕ, ◌≤◌, Bool, true, false, List, ◌∷◌, length, map, Some, None, inl, inr, refl, sym, ap, subst, ◌∙◌}
+use Rattle.std.specs.Prelude.{is_some}
+use Rattle.std.specs.List.{Contains}
+use Rattle.std.proofs.lemmas.Bool.{le-leb}
 use Rattle.coap_codec.specs.Spelling.{Content, Spells}
 use Rattle.uri_map.specs.declared.peer.Peer.{Peer}
 use Rattle.message_layer.specs.Hearing.{verdict_of}
@@ -11,26 +11,24 @@ use Rattle.message_layer.specs.declared.verdict.News.TheVariants as N
 use Rattle.ask_model.specs.Requests.{CoapRequest}
 use Rattle.history_laws.specs.Responses.{Response, whole_of}
 use Rattle.history_laws.specs.Readings.{Noted}
-use Rattle.history_laws.specs.Exchanges.{Begun, replies}
+use Rattle.history_laws.specs.Exchanges.{Begun}
 use Rattle.history_laws.specs.Hearing.{repeated, can_be_remembered}
 use Rattle.history_laws.specs.Progress.{Reply, Ending, Whole, NotUnderstood, Reset, TimedOut, Turned, Progress, numbers, messages}
 use Rattle.history_laws.specs.Justified.{Ends as EndsIn}
-use Rattle.history_laws.proofs.CallerLemmas.{all-more, begun-keeps, ends-all}
+use Rattle.history_laws.proofs.CallerLemmas.{begun-keeps, ends-all}
 use Rattle.history_links.specs.Steps.{ended_token, heard}
 use Rattle.exchange_model.specs.declared.kept.Exchange.{Exchange}
 use Rattle.exchange_model.specs.State.{State, link_of}
-use Rattle.exchange_model.specs.Reads.{ExchangeIn}
-use Rattle.exchange_model.specs.Steps.{Nothing, Goes, Over, Numbers, answered_in, asked_in, has_next_place, hears, matter_by, matter_of}
+use Rattle.exchange_model.specs.Steps.{Nothing, Goes, Over, Numbers, answered_in, has_next_place, hears, matter_by, matter_of}
 use Rattle.exchange_model.specs.Calls.{repeats}
 use Rattle.exchange_model.specs.Growing.{AreHeardAt, IsWorkOf}
-use Rattle.exchange_model.specs.Keeping.{Kept, MayStep}
+use Rattle.exchange_model.specs.Keeping.{MayStep}
 use Rattle.exchange_model.specs.Laws.{MayHear}
 use Rattle.exchange_model.proofs.Bare.{bare, bare_ending, messages-bare, numbers-bare}
 use Rattle.exchange_model.proofs.Dropped.{repeat-quiet}
 use Rattle.exchange_model.proofs.Heard.{hears-leads}
 use Rattle.exchange_model.proofs.Heeding.{lost-or-new, may-hear}
 use Rattle.exchange_model.proofs.Known.{are-heard}
-use Rattle.exchange_model.proofs.Outrun.{asked-here}
 use Rattle.exchange_model.proofs.Over.{IsOver, IsMatter, is-matter}
 use Rattle.exchange_model.proofs.Silent.{now-from}
 use Rattle.exchange_model.proofs.Works.{work-of}
@@ -115,7 +113,7 @@ over-heard t p d m n S k known short spelled kept e w rs is = by (repeats t (lin
         let quiet = repeat-quiet t (link_of S.links p) m m.kind again in
         let v = verdict_of t (link_of S.links p) m in
         absurd (over-nothing e (Whole w rs)
-        (sym (ap (λ (news : News). matter_by news (has_next_place t p v S) m S (answered_in (ended_token news m.token) S.exchanges)) quiet) ∙ is))
+        (sym (ap (λ (news : News). matter_by t news (has_next_place t p v S) m S (answered_in (ended_token news m.token) S.exchanges)) quiet) ∙ is))
     by false once = elim (lost-or-new l t p (link_of S.links p) m m.kind refl (k.kept.rests.reads.links_are p) (now-from l t S (record { reads = k.kept.rests.reads; later = k.later })) once) [
       | inl lost ↦ absurd (kept lost)
       | inr free ↦ new free.0 free.1

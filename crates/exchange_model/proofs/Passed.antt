@@ -13,8 +13,9 @@ use Rattle.message_layer.specs.declared.state.Outstanding.{Outstanding}
 use Rattle.message_layer.specs.declared.state.Waiting.{Waiting}
 use Rattle.journal_book.specs.Entries.{Deed, Passes, Sends}
 use Rattle.history_laws.proofs.CallerLemmas.{all-more, all-push}
+use Rattle.observe_share.specs.Watches.{without}
 use Rattle.history_links.specs.Steps.{is_over}
-use Rattle.exchange_model.specs.Steps.{retired, given_out, sends_copy, passed, passes, is_gone, goes_on, is_of_none, left_by, timed_out}
+use Rattle.exchange_model.specs.Steps.{is_unwatched, retired, given_out, sends_copy, passed, passes, is_gone, goes_on, is_of_none, left_by, timed_out}
 use Rattle.exchange_model.specs.declared.kept.Exchange.{Exchange}
 use Rattle.exchange_model.specs.State.{PeerLink, State, link_of, with_link}
 use Rattle.exchange_model.specs.Calls.{moves_by, moves, peer_of, move_all}
@@ -330,7 +331,11 @@ pub moved-put : (t : ℕ) (S : State) → MayStep t S → IsDrained S
     move_all t (passes t S) ≡ put t (Passes ∷ all_deeds t gone S.links)
     (sent_as (all_going t gone (length S.entries + 1) S.links)
     (left_by S.entries (timed_out t S) (filter (goes_on t S) S.exchanges))) (map (link_after t gone) S.links)
-    (record S { pieces = filter (is_of_none (timed_out t S)) S.pieces; store = retired S.entries (timed_out t S) S.store })
+    (record S {
+      pieces = filter (is_of_none (timed_out t S)) S.pieces;
+      watches = without (is_unwatched t S) S.watches;
+      store = retired S.entries (timed_out t S) S.store;
+    })
 moved-put t S may drained =
     after t (Passes ∷ []) (visits t ys) es1 (sent_as (visits_going t (length S1.entries) ys) es1) ys
     (map (visited_link t) ys) K S1 (move_all t S1) refl
@@ -348,9 +353,13 @@ moved-put t S may drained =
     (sent_as (all_going t (is_gone t S) (length S.entries + 1) S.links) es1) xs K)
     (links-all t S S.links fine))))
   where
-    -- the state with the pieces and what is stored after it
+    -- the state with the pieces, the watches and what is stored after it
     K : State
-    K = record S { pieces = filter (is_of_none (timed_out t S)) S.pieces; store = retired S.entries (timed_out t S) S.store }
+    K = record S {
+      pieces = filter (is_of_none (timed_out t S)) S.pieces;
+      watches = without (is_unwatched t S) S.watches;
+      store = retired S.entries (timed_out t S) S.store;
+    }
 
     S1 : State
     S1 = passes t S

@@ -1,42 +1,49 @@
 -- A tick ends what took too long.
 use Rattle.std.proofs.lemmas.Bool.{false≢true}
 use Rattle.std.proofs.Common.{◌⊎◌, inl, inr, length, ◌≡◌, ℕ, ◌+◌, Bool, true, false, cond, List, [], ◌∷◌, ◌++◌, map, Option, Some, None, is_some, refl, sym, ap, subst, ◌∙◌, eqb}
-use Rattle.std.specs.Prelude.{filter, not, ◌&&◌}
+use Rattle.std.specs.Prelude.{filter, not, ◌&&◌, ◌||◌}
 use Rattle.std.specs.List.{AllByRecursion, Contains, list_any}
-use Rattle.std.proofs.lemmas.Bool.{not-true, not-false}
+use Rattle.std.proofs.lemmas.Bool.{and_parts, not-true, not-false}
+use Rattle.std.proofs.lemmas.Slice.Eq.{bytes_eq-Decides}
 use Rattle.std.proofs.lemmas.List.Elements.{All-contains_itself, recursion_from_All, filter_agree}
 use Rattle.uri_map.specs.declared.peer.Peer.{Peer}
 use Rattle.uri_map.specs.Peers.{same_peer}
 use Rattle.uri_map.proofs.CallerLemmas.{same_peer-same}
 use Rattle.message_layer.specs.Values.{LinkState}
 use Rattle.message_layer.specs.declared.state.Waiting.{Waiting}
-use Rattle.ask_model.specs.Sharing.{asked_place}
+use Rattle.ask_model.specs.Sharing.{asked_key, asked_place}
+use Rattle.observe_share.specs.declared.registration.Registration.{Registration}
+use Rattle.observe_share.specs.Watches.{without}
 use Rattle.journal_book.specs.Entries.{Passes, Written}
 use Rattle.history_laws.specs.Responses.{Response}
 use Rattle.history_laws.specs.Progress.{Reply, Reset, TimedOut, Whole}
 use Rattle.history_laws.specs.Exchanges.{Turn, Nothing, Sent, Replied, Rejected, Expired, turn, replies, end_here, end_by, end_of, Begun, begun, is_late, expires as ends_at, waits_for, goes_to, is_going, is_waiting, waiting, rank, openings, open_exchanges}
-use Rattle.history_laws.specs.Justified.{Ends}
+use Rattle.history_laws.specs.Justified.{Ends, Legal}
+use Rattle.history_laws.specs.Observing.{idles, is_current, Watch, watches}
 use Rattle.history_laws.specs.Readings.{Noted, Plain, noted}
 use Rattle.history_laws.specs.Hearing.{went_under}
 use Rattle.history_laws.specs.Transmissions.{FirstSending, first_at}
 use Rattle.history_laws.specs.Joining.{outrun}
-use Rattle.history_laws.proofs.CallerLemmas.{all-filter, all-more, all-of, all-passes, and-left, contains-filter, filter-by, filtered-from, issued-same, open-exactly, some-is, waiting-all, waiting-begun, waiting-goes, waiting-unsent, replies-stay, eqb-same}
-use Rattle.history_links.specs.Agrees.{Start, IsWaitingFor, WaitIn, Agrees}
+use Rattle.history_laws.proofs.CallerLemmas.{all-filter, all-more, all-of, all-passes, and-left, begun-below, contains-filter, eqb-same, filter-by, filtered-from, find-any, find-some, issued-same, open-exactly, replies-stay, some-is, waiting-all, waiting-begun, waiting-goes, waiting-unsent, watches-fit, WatchFits}
+use Rattle.history_links.specs.Agrees.{Start, IsWaitingFor, notified, WaitIn, Agrees}
 use Rattle.history_links.specs.Steps.{passed_link, EndWaiting, EndTokens}
 use Rattle.history_links.proofs.CallerLemmas.{going-passed, pass-agrees, passed-quiet, token-found, waits-passed}
 use Rattle.exchange_model.specs.declared.kept.Exchange.{Exchange}
 use Rattle.exchange_model.specs.State.{PeerLink, State, link_of}
-use Rattle.exchange_model.specs.Reads.{IsSentUnder, ExchangeIn, WaitsUnder, opening_of, Reads, awaited_by, got_in, PiecesIn}
-use Rattle.exchange_model.specs.Steps.{expires, is_gone, outrun_by, passed, timed_out, is_of_none, numbers_of, left_by}
+use Rattle.exchange_model.specs.Reads.{held_of, IsSentUnder, ExchangeIn, WaitsUnder, opening_of, Reads, awaited_by, got_in, PiecesIn}
+use Rattle.exchange_model.specs.Watching.{is_one_of, tokens_of}
+use Rattle.exchange_model.specs.Steps.{expires, is_gone, is_under, is_unwatched, is_written_late, outrun_by, passed, timed_out, is_of_none, numbers_of, left_by}
 use Rattle.exchange_model.specs.Laws.{PassesLeads}
 use Rattle.exchange_model.specs.declared.kept.Piece.{Piece}
 use Rattle.history_laws.specs.Progress.{numbers}
 use Rattle.exchange_model.proofs.Pieces.{pieces-quiet}
 use Rattle.exchange_model.proofs.Settling.{no-whole}
 use Rattle.exchange_model.proofs.Retiring.{store-retired}
-use Rattle.exchange_model.proofs.Expiring.{expires-alike, awaited-open, kept-at, gone-of}
-use Rattle.exchange_model.proofs.Hearing.{filter-map, filter-both}
-use Rattle.exchange_model.proofs.Lists.{all-both}
+use Rattle.exchange_model.proofs.Apart.{comes_to, notified-tells, watches-apart}
+use Rattle.exchange_model.proofs.Watches.{coming-stands, map-filtered, newest-quiet, others-come}
+use Rattle.exchange_model.proofs.Unwritten.{current-after, watches-current}
+use Rattle.exchange_model.proofs.Expiring.{exchange-apart, expires-alike, awaited-open, kept-at, gone-of}
+use Rattle.exchange_model.proofs.Lists.{all-both, filter-map, filter-both}
 use Rattle.exchange_model.proofs.Silent.{later-than, link-before, moment-now}
 use Rattle.exchange_model.proofs.Opened.{OpenIn, open-ones}
 use Rattle.exchange_model.proofs.Outrun.{EndsThose, left-all, left-each, left-openings, current-now}
@@ -84,8 +91,9 @@ passes-ends l t S r = record {
 exchange-kept : (l : List Noted) (t : ℕ) (S : State) (r : Reads l S) → (e : Exchange) (b : Bool) → (a : ExchangeIn r.start l e) → stays t S e ≡ true
     → b ≡ not (outrun (ticked_at t ∷ l) (asked_place a.request) e.opening) → ExchangeIn r.start (ticked_at t ∷ l) (record e { current = b })
 exchange-kept l t S r e b a goes current =
-    exchange-stays (ticked_at t) l e b (λ h. h)
-    (waits-passed l t e.opening ∙ ap (λ (b : Bool). cond b None (waits_for l e.opening)) (sym (expires-alike l t S.links e r.legal r.links_are a) ∙ not-true (expires t S.links e) goes)) refl a current
+    exchange-stays (ticked_at t) l e b e.newest (λ h. h)
+    (waits-passed l t e.opening ∙ ap (λ (b : Bool). cond b None (waits_for l e.opening)) (sym (expires-alike l t S.links e r.legal r.links_are a) ∙ not-true (expires t S.links e) goes)) refl refl a current
+    (λ get. newest-quiet (ticked_at t) l (asked_key a.request) (got_in l e.opening) e.newest refl (a.newest get))
 
 -- what is kept of a link
 
@@ -138,11 +146,59 @@ all-end start l t gone P Q one (o ∷ os) (w ∷ ws) a b i = (one o w a.0 b.0 i.
 among-itself : {X : Type 0} (xs : List X) → AllByRecursion (Contains xs) xs
 among-itself xs = recursion_from_All (Contains xs) xs (All-contains_itself xs)
 
-end-tokens : (l : List Noted) (t : ℕ) (S : State) (p : Peer) → Reads l S → EndTokens l t p (link_of S.links p) (is_gone t S)
-end-tokens l t S p r = record {
+-- What is observed after it.
+watches-passed : (l : List Noted) (t : ℕ) (S : State) (r : Reads l S) → Legal (ticked_at t ∷ l) → map held_of (watches (ticked_at t ∷ l)) ≡ without (is_unwatched t S) S.watches
+watches-passed l t S r legal =
+    ap (map held_of) (sym (filter-both (is_current (ticked_at t ∷ l)) (λ (w : Watch). not (idles t w)) (watches l))
+    ∙ filter-by (λ (w : Watch). is_current (ticked_at t ∷ l) w && not (idles t w)) (λ (w : Watch). not (is_unwatched t S w.held)) (watches l)
+    (all-more (λ (w : Watch). WatchFits l w × (is_current l w ≡ true)) _ one (watches l)
+    (all-both (WatchFits l) (λ (w : Watch). is_current l w ≡ true) (watches l) (watches-fit l r.legal) (watches-current l r.legal))))
+    ∙ (map-filtered held_of (λ (v : Registration). not (is_unwatched t S v)) (watches l) ∙ ap (without (is_unwatched t S)) r.watches_are)
+  where
+    neither : (i b : Bool) → (not b && not i) ≡ not (i || b)
+    neither true true = refl
+    neither true false = refl
+    neither false true = refl
+    neither false false = refl
+
+    one : (w : Watch) → WatchFits l w × (is_current l w ≡ true) → (is_current (ticked_at t ∷ l) w && not (idles t w)) ≡ not (is_unwatched t S w.held)
+    one w h =
+        ap (λ (b : Bool). b && not (idles t w)) (current-after (ticked_at t) l S r legal (timed_out t S) (passes-ends l t S r) w (begun-below l w.held.opening h.0.exchange h.0.opened) h.1)
+        ∙ neither (idles t w) (is_written_late S.entries (timed_out t S) w.held)
+
+-- The tokens that are gone are those of what is observed and ends, too.
+watched-ends : (l : List Noted) (t : ℕ) (S : State) (p : Peer) → Reads l S → Legal (ticked_at t ∷ l) → (token : List ℕ)
+    → notified (ticked_at t ∷ l) p token ≡ (not (is_gone t S token) && notified l p token)
+watched-ends l t S p r legal token =
+    notified-tells (ticked_at t ∷ l) p token legal
+    ∙ (ap (list_any (comes_to p token)) (watches-passed l t S r legal ∙ ap (without (is_unwatched t S)) (sym r.watches_are))
+    ∙ (others-come p token (is_unwatched t S) (map held_of (watches l)) (watches-apart l r.legal)
+    ∙ (ap (λ (rs : List Registration). not (is_one_of (tokens_of (is_unwatched t S) rs) token) && list_any (comes_to p token) (map held_of (watches l))) r.watches_are
+    ∙ (by (list_any ends S.exchanges) refl (list_any (comes_to p token) (map held_of (watches l))) refl (is_one_of (tokens_of (is_unwatched t S) S.watches) token)
+    ∙ ap (λ (b : Bool). not (is_gone t S token) && b) (sym (notified-tells l p token r.legal))))))
+  where
+    ends : Exchange → Bool
+    ends e = is_under token e && expires t S.links e
+
+    apart : list_any ends S.exchanges ≡ true → list_any (comes_to p token) (map held_of (watches l)) ≡ true → ⊥
+    apart any comes =
+        let found = find-any ends S.exchanges any in
+        let it = find-some ends S.exchanges found.0 found.1 in
+        exchange-apart l found.0 token r.legal (all-of (ExchangeIn r.start l) S.exchanges found.0 r.exchanges_are it.0)
+        ((bytes_eq-Decides found.0.token token).0 (and_parts (is_under token found.0) (expires t S.links found.0) it.1).0) (coming-stands l p token comes)
+
+    by : (a : Bool) → list_any ends S.exchanges ≡ a → (c : Bool) → list_any (comes_to p token) (map held_of (watches l)) ≡ c → (b : Bool) → (not b && c) ≡ (not (a || b) && c)
+    by false e c f b = refl
+    by true e false f true = refl
+    by true e false f false = refl
+    by true e true f b = absurd (apart e f)
+
+end-tokens : (l : List Noted) (t : ℕ) (S : State) (p : Peer) → Reads l S → Legal (ticked_at t ∷ l) → EndTokens l t p (link_of S.links p) (is_gone t S)
+end-tokens l t S p r legal = record {
   awaited = awaited-ends l t S p r;
   waiting = all-end r.start l t (is_gone t S) (Contains (waiting l p)) (Contains (link_of S.links p).waiting) (waiting-ends l t S p r) (waiting l p) (link_of S.links p).waiting
       (among-itself (waiting l p)) (among-itself (link_of S.links p).waiting) (r.links_are p).waits;
+  watched = watched-ends l t S p r legal;
 }
 
 fewer-wait : (t : ℕ) (S : State) (e : Exchange) → WaitsUnder (link_of S.links e.peer).waiting e → WaitsUnder (link_of (map (passed t S) S.links) e.peer).waiting e
@@ -247,11 +303,12 @@ passes-leads l t S b may =
             (current-now (ticked_at t) l S r (timed_out t S) (passes-ends l t S r) (r.legal, later, (may, tt)) e a.0)) kept
             (all-both (ExchangeIn r.start l) (λ (e : Exchange). stays t S e ≡ true) kept (all-filter (ExchangeIn r.start l) (stays t S) S.exchanges r.exchanges_are) (all-passes (stays t S) S.exchanges));
         pieces_are = pieces-passed l t S r;
-        store_is = store-retired (ticked_at t) l S r (r.legal, later, (may, tt)) (timed_out t S) (passes-ends l t S r) tt (λ o w rs going e. passed-no-response l t o w rs going e);
+        watches_are = watches-passed l t S r (r.legal, later, (may, tt));
+        store_is = store-retired (ticked_at t) l S r (r.legal, later, (may, tt)) (timed_out t S) (passes-ends l t S r) refl tt (λ o w rs going e. passed-no-response l t o w rs going e);
         tokens_are = r.tokens_are;
         waiting_are = left-all (λ (e : Exchange). WaitsUnder (link_of (map (passed t S) S.links) e.peer).waiting e) (λ e k. k) S.entries (timed_out t S) kept
             (all-more _ _ (fewer-wait t S) kept (all-filter (λ (e : Exchange). WaitsUnder (link_of S.links e.peer).waiting e) (stays t S) S.exchanges r.waiting_are));
         links_are = λ p. subst (Agrees b.reads.start n p) (sym (link-passed t S p S.links))
-            (pass-agrees _ l t p (link_of S.links p) (is_gone t S) (link-before l t S b p) (end-tokens l t S p r));
+            (pass-agrees _ l t p (link_of S.links p) (is_gone t S) (link-before l t S b p) (end-tokens l t S p r (r.legal, later, (may, tt))));
       };
     }

@@ -1,6 +1,6 @@
 -- Asks that open nothing, ACKs and RSTs, copies, and what is heard and is nothing new.
-use Rattle.std.proofs.Common.{inl, inr, ◌<◌, ◌+◌, arith, is_some, List, Option, Some, Bool, cond, ◌≡◌, ℕ, true, false, ◌∷◌, length, None, refl, sym, ap, subst, ◌∙◌}
-use Rattle.std.specs.Prelude.{find}
+use Rattle.std.proofs.Common.{inl, inr, ◌<◌, ◌+◌, arith, eqb, is_some, List, map, Option, Some, Bool, cond, ◌≡◌, ℕ, true, false, ◌∷◌, length, None, refl, sym, ap, subst, ◌∙◌}
+use Rattle.std.specs.Prelude.{find, ⊤}
 use Rattle.std.specs.List.{AllByRecursion}
 use Rattle.std.proofs.lemmas.Bool.Decides.{Decides-eqb, Decides-ltb}
 use Rattle.std.proofs.lemmas.Bool.{false≢true, and_parts}
@@ -14,13 +14,15 @@ use Rattle.cache_key.proofs.CallerLemmas.{keys_decided}
 use Rattle.resp_cache.specs.Stored.{is_never_fresh, lifetime, Stored, is_fresh}
 use Rattle.resp_cache.specs.Stores.{is_of, is_fresh_under, moved, served, stored_in}
 use Rattle.resp_cache.specs.declared.pair.Pair.{Pair}
-use Rattle.ask_model.specs.Requests.{CoapRequest}
+use Rattle.ask_model.specs.Requests.{CoapRequest, Sense, Requests, Refuses}
+use Rattle.ask_model.specs.Views.{Ask}
 use Rattle.ask_model.specs.Sharing.{asked_key, is_get}
 use Rattle.journal_book.specs.Entries.{Asks, Sends, Hears}
 use Rattle.history_laws.specs.Exchanges.{Begun, begun}
 use Rattle.history_laws.specs.Joining.{asks_the_same}
 use Rattle.history_laws.specs.Storing.{MissesAlone, IsStored}
-use Rattle.history_laws.specs.Readings.{noted, Noted, Serves, Plain, Joins, Copies, Confirms, Repeats, Garbled}
+use Rattle.history_laws.specs.Readings.{noted, Noted, Note, Begins, First, Says, Bygone, Recalls, Serves, Plain, Joins, Copies, Confirms, Repeats, Garbled}
+use Rattle.history_laws.specs.Observing.{Watch, asked_by, asked_last_by, watches}
 use Rattle.history_laws.specs.Transmissions.{FirstSending}
 use Rattle.history_laws.specs.Justified.{AskNote, Follows}
 use Rattle.history_laws.proofs.CallerLemmas.{any-find, any-of, at-newest, find-any, all-of, find-some, none-some, some-is, entries-length}
@@ -30,22 +32,65 @@ use Rattle.history_links.proofs.CallerLemmas.{copy-elsewhere, copy-follows, garb
 use Rattle.exchange_model.specs.Laws.{Before, AsksLeads, JoinsLeads, RecallsLeads, CopyLeads, ConfirmsLeads, RepeatsLeads, GarbledLeads}
 use Rattle.exchange_model.specs.State.{State, link_of, with_link}
 use Rattle.exchange_model.specs.Calls.{served_in}
-use Rattle.exchange_model.specs.Reads.{PairIn, Reads}
-use Rattle.exchange_model.specs.Steps.{joins, given_out}
+use Rattle.exchange_model.specs.declared.kept.Exchange.{Exchange}
+use Rattle.exchange_model.specs.Watching.{touched}
+use Rattle.exchange_model.specs.Reads.{held_of, PairIn, Reads}
+use Rattle.exchange_model.specs.Steps.{joins, given_out, read_last, recalls, sends_copy}
+use Rattle.exchange_model.proofs.Watches.{touched-tells}
 use Rattle.exchange_model.proofs.Storing.{stored-one, stored-alike}
 use Rattle.exchange_model.proofs.Stores.{store-served, store-still}
-use Rattle.exchange_model.proofs.Tables.{still-reads, all-links, given-agrees}
+use Rattle.exchange_model.proofs.Tables.{still-reads, all-links, given-agrees, unread}
 use Rattle.exchange_model.proofs.Silent.{later-than, link-before, silent-reads}
+
+-- Any ask but one that opens an exchange is noted for what it reads.
+abbrev IsNoted : Note → Type 0
+IsNoted (Begins q) = ⊥
+IsNoted note = ⊤
+
+asked-by : (t : ℕ) (s : Sense) (note : Note) (ws : List Watch) → IsNoted note → map held_of (asked_by t s note ws) ≡ touched t s (map held_of ws)
+asked-by t (Refuses cause status) note ws is = refl
+asked-by t (Requests q) Plain ws is = touched-tells q t ws
+asked-by t (Requests q) (Joins o) ws is = touched-tells q t ws
+asked-by t (Requests q) (Serves js) ws is = touched-tells q t ws
+asked-by t (Requests q) (First o m) ws is = touched-tells q t ws
+asked-by t (Requests q) (Copies i) ws is = touched-tells q t ws
+asked-by t (Requests q) Confirms ws is = touched-tells q t ws
+asked-by t (Requests q) (Says m to notice) ws is = touched-tells q t ws
+asked-by t (Requests q) (Repeats m j) ws is = touched-tells q t ws
+asked-by t (Requests q) Garbled ws is = touched-tells q t ws
+asked-by t (Requests q) (Bygone m) ws is = touched-tells q t ws
+asked-by t (Requests q) (Recalls m answer) ws is = touched-tells q t ws
+asked-by t (Requests q) (Begins r) ws is = absurd is
+
+asked-tells : (l : List Noted) (t c : ℕ) (a : Ask) (note : Note) (S : State) → Reads l S → IsNoted note
+    → map held_of (watches (noted t (Asks c a) note ∷ l)) ≡ touched t a.sense S.watches
+asked-tells l t c a note S r is = asked-by t a.sense note (watches l) is ∙ ap (touched t a.sense) r.watches_are
+
+-- An ask that joins an exchange is the last that reads it.
+read-last : (t o : ℕ) (e : Exchange) {old : ℕ} → old ≡ e.asked → asked_last_by e.opening o t (Joins o) old ≡ read_last t o e
+read-last t o e same = ap (cond (eqb o e.opening) t) same ∙ ap (λ (b : Bool). cond b t e.asked) (turned o e.opening)
+  where
+    turned : (a b : ℕ) → eqb a b ≡ eqb b a
+    turned a b = by (eqb a b) refl (eqb b a) refl
+      where
+        by : (c : Bool) → eqb a b ≡ c → (d : Bool) → eqb b a ≡ d → c ≡ d
+        by true e true f = refl
+        by false e false f = refl
+        by true e false f = sym ((Decides-eqb b a).1 (sym ((Decides-eqb a b).0 e))) ∙ f
+        by false e true f = sym e ∙ (Decides-eqb a b).1 (sym ((Decides-eqb b a).0 f))
 
 pub asks-leads : AsksLeads
 asks-leads l t c a S b may who note misses =
     let follows : Follows l t (Asks c a) Plain = (may, who.open_now, who.idle, note, misses) in
-    record { follows = follows; reads = silent-reads l t (Asks c a) Plain S b tt tt tt (λ rs. refl) follows }
+    record {
+      follows = follows;
+      reads = silent-reads l t (Asks c a) Plain S (touched t a.sense S.watches) b (asked-tells l t c a Plain S b.reads tt) (λ o. refl) refl tt tt tt (λ rs. refl) follows;
+    }
 
 pub confirms-leads : ConfirmsLeads
 confirms-leads l t p bytes S b unsealed owes =
     let follows : Follows l t (Sends p bytes None) Confirms = (b.reads.sealed_is ∙ unsealed, (refl, owes)) in
-    record { follows = follows; reads = silent-reads l t (Sends p bytes None) Confirms S b tt tt tt (λ rs. refl) follows }
+    record { follows = follows; reads = silent-reads l t (Sends p bytes None) Confirms S S.watches b b.reads.watches_are (λ o. refl) refl tt tt tt (λ rs. refl) follows }
 
 pub repeats-leads : RepeatsLeads
 repeats-leads l t p d m j S h spelled again =
@@ -53,7 +98,7 @@ repeats-leads l t p d m j S h spelled again =
     let link = link-before l t S b p in
     let follows : Follows l t (Hears p d) (Repeats m j) = (h.come, h.short, h.known, (spelled, again)) in
     record {
-      leads = record { follows = follows; reads = silent-reads l t (Hears p d) (Repeats m j) S b tt tt tt (λ rs. refl) follows };
+      leads = record { follows = follows; reads = silent-reads l t (Hears p d) (Repeats m j) S S.watches b b.reads.watches_are (λ o. refl) refl tt tt tt (λ rs. refl) follows };
       owes = (repeat-agrees _ l t p (link_of S.links p) d m j link again).owes;
     }
 
@@ -63,7 +108,7 @@ garbled-leads l t p d S h small none =
     let link = link-before l t S b p in
     let follows : Follows l t (Hears p d) Garbled = (h.come, h.short, h.known, (small, none)) in
     record {
-      leads = record { follows = follows; reads = silent-reads l t (Hears p d) Garbled S b tt tt tt (λ rs. refl) follows };
+      leads = record { follows = follows; reads = silent-reads l t (Hears p d) Garbled S S.watches b b.reads.watches_are (λ o. refl) refl tt tt tt (λ rs. refl) follows };
       owes = (garbled-agrees _ l t p (link_of S.links p) d link).owes;
     }
 
@@ -80,10 +125,10 @@ copy-leads l t p o S b q is few due =
       i,
       record {
         follows = made.4.follows;
-        reads = still-reads l t (Sends p o.datagram None) (Copies i) S (with_link p s S.links) S.store b.reads (store-still (copy t p o i) l (b.reads.legal, later, made.4.follows) (still-copy l t p o.datagram i later).ends_are tt S.store b.reads.store_is) b.later tt made.4.follows S.readers b.reads.readers_are (still-copy l t p o.datagram i later)
+        reads = subst (λ (es : List Exchange). Reads (copy t p o i ∷ l) (record (sends_copy t p o S) { exchanges = es })) (unread S.exchanges) (still-reads l t (Sends p o.datagram None) (Copies i) S (with_link p s S.links) S.store S.watches (λ (e : Exchange). e.asked) b.reads (store-still (copy t p o i) l (b.reads.legal, later, made.4.follows) (still-copy l t p o.datagram i later).ends_are refl tt S.store b.reads.store_is) b.reads.watches_are (λ e a. a.asked) refl b.later tt made.4.follows S.readers b.reads.readers_are (still-copy l t p o.datagram i later)
             (all-links (λ (r : Peer) (v : LinkState). v.waiting ≡ (link_of S.links r).waiting) p s S.links refl (λ r other. refl))
             (all-links (λ (r : Peer) (v : LinkState). Agrees b.reads.start (copy t p o i ∷ l) r v) p s S.links (given-agrees (copy t p o i ∷ l) p (with_copy t (link_of S.links p) o) made.4.agrees)
-            (λ r other. copy-elsewhere _ l t r p (link_of S.links r) o.datagram i made.1 (link r) made.2 (other-peer made.1 p r made.3 other)));
+            (λ r other. copy-elsewhere _ l t r p (link_of S.links r) o.datagram i made.1 (link r) made.2 (other-peer made.1 p r made.3 other))));
       },
     )
 
@@ -168,9 +213,9 @@ recalls-leads l t c a q s S b may who sense served =
     let follows : Follows l t (Asks c a) (Serves s.list) = (may, who.open_now, who.idle, note, rw (sense) tt) in
     record {
       follows = follows;
-      reads = still-reads l t (Asks c a) (Serves s.list) S S.links (moved (asked_key q) t S.store) b.reads (store-served (noted t (Asks c a) (Serves s.list)) l (b.reads.legal, later-than l t S b, follows) (still l t (Asks c a) (Serves s.list) (later-than l t S b) tt).ends_are t c a q s.list refl sense s S.store b.reads.store_is (served-by q t s S served)) b.later tt follows S.readers b.reads.readers_are
+      reads = subst (λ (es : List Exchange). Reads (noted t (Asks c a) (Serves s.list) ∷ l) (record (recalls t c a (asked_key q) S) { exchanges = es })) (unread S.exchanges) (still-reads l t (Asks c a) (Serves s.list) S S.links (moved (asked_key q) t S.store) (touched t a.sense S.watches) (λ (e : Exchange). e.asked) b.reads (store-served (noted t (Asks c a) (Serves s.list)) l (b.reads.legal, later-than l t S b, follows) (still l t (Asks c a) (Serves s.list) (later-than l t S b) tt).ends_are refl t c a q s.list refl sense s S.store b.reads.store_is (served-by q t s S served)) (asked-tells l t c a (Serves s.list) S b.reads tt) (λ e a. a.asked) refl b.later tt follows S.readers b.reads.readers_are
           (still l t (Asks c a) (Serves s.list) (later-than l t S b) tt) (λ p. refl)
-          (λ p. silent-agrees _ l t p (link_of S.links p) (Asks c a) (Serves s.list) (link-before l t S b p) tt);
+          (λ p. silent-agrees _ l t p (link_of S.links p) (Asks c a) (Serves s.list) (link-before l t S b p) tt));
     }
 
 -- An ask that reads along changes who waits alone.
@@ -181,7 +226,7 @@ joins-leads l t c a q o S b may who sense misses joined =
     let here : length S.entries ≡ length l = ap length (sym b.reads.entries_are) ∙ entries-length l in
     record {
       follows = follows;
-      reads = still-reads l t (Asks c a) (Joins o) S S.links S.store b.reads (store-still (noted t (Asks c a) (Joins o)) l (b.reads.legal, later-than l t S b, follows) (still l t (Asks c a) (Joins o) (later-than l t S b) tt).ends_are tt S.store b.reads.store_is) b.later tt follows (joins t c a o S).readers (rw (b.reads.readers_are, here) refl)
+      reads = still-reads l t (Asks c a) (Joins o) S S.links S.store (touched t a.sense S.watches) (read_last t o) b.reads (store-still (noted t (Asks c a) (Joins o)) l (b.reads.legal, later-than l t S b, follows) (still l t (Asks c a) (Joins o) (later-than l t S b) tt).ends_are refl tt S.store b.reads.store_is) (asked-tells l t c a (Joins o) S b.reads tt) (λ e a. read-last t o e a.asked) refl b.later tt follows (joins t c a o S).readers (rw (b.reads.readers_are, here) refl)
           (still l t (Asks c a) (Joins o) (later-than l t S b) tt) (λ p. refl)
           (λ p. silent-agrees _ l t p (link_of S.links p) (Asks c a) (Joins o) (link-before l t S b p) tt);
     }

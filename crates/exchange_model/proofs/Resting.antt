@@ -25,6 +25,7 @@ use Rattle.exchange_model.specs.Reads.{ExchangeIn, opening_of, Reads}
 use Rattle.exchange_model.specs.Resting.{IsUndue, HasExchange, HasReader, IsServed, HasConn, Rests, RestsAtRest}
 use Rattle.exchange_model.proofs.Lists.{all-map, all-both, all-pass, every-passes}
 use Rattle.exchange_model.proofs.ConnsTell.{conns-tell}
+use Rattle.exchange_model.proofs.Lately.{all-asked-for}
 use Rattle.exchange_model.proofs.Opened.{OpenIn, open-ones}
 use Rattle.exchange_model.proofs.Readers.{ReaderIn, readers-wait}
 
@@ -150,4 +151,5 @@ rests-at-rest l S r =
           (all-more (λ (e : Exchange). OpenIn r.reads.start l e × (ticked l < e.since + MAX_TRANSMIT_WAIT)) (λ (e : Exchange). is_in_time l e.opening ≡ true)
           (λ e h. in-time l e h.0.0 h.1) S.exchanges
           (all-both (OpenIn r.reads.start l) (λ (e : Exchange). ticked l < e.since + MAX_TRANSMIT_WAIT) S.exchanges open_now r.in_time));
+      forgotten = λ sealed. all-asked-for l r.reads.legal;
     }

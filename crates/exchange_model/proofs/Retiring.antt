@@ -13,16 +13,20 @@ use Rattle.history_laws.specs.Readings.{Noted}
 use Rattle.history_laws.specs.Progress.{Reply, Whole}
 use Rattle.history_laws.specs.Exchanges.{end_of}
 use Rattle.history_laws.specs.Justified.{Ends, Legal}
+use Rattle.history_laws.specs.Observing.{counting}
+use Rattle.history_laws.specs.Storing.{ComesSo}
 use Rattle.history_laws.proofs.CallerLemmas.{contains-later, all-more, contains-none, first-or-later, none-some, some-is}
 use Rattle.exchange_model.specs.Reads.{AreLastFirst, HasPair, StoreIn, PairIn, Reads}
 use Rattle.exchange_model.specs.declared.kept.Exchange.{Exchange}
 use Rattle.exchange_model.specs.State.{State}
 use Rattle.exchange_model.specs.Steps.{asked_in, put_by, settled_by, settled, retired}
+use Rattle.exchange_model.proofs.Came.{none-updates}
+use Rattle.exchange_model.proofs.Watches.{outdated-quiet}
 use Rattle.exchange_model.proofs.Storing.{stored-unwritten, stored-was, pair-stays}
 use Rattle.exchange_model.proofs.Stores.{every}
 use Rattle.exchange_model.proofs.Uses.{crowded-stays, has-filtered, NotServing, order-filter, order-stays, order-weaker, unserved, Unused}
 use Rattle.exchange_model.proofs.Outrun.{EndsThose}
-use Rattle.exchange_model.proofs.Settling.{all-kept, Apart, unwritten, is-away, was-going, at-length}
+use Rattle.exchange_model.proofs.Settling.{all-kept, Apart, unwritten, is-away, was-going}
 
 module _ (x : Noted) (l : List Noted) (S : State) (r : Reads l S) (legal : Legal (x ∷ l)) where
   -- what comes of those that store nothing
@@ -105,23 +109,31 @@ module _ (x : Noted) (l : List Noted) (S : State) (r : Reads l S) (legal : Legal
       (settled-has e key ps (away e (zero, omega arith, refl)) h)
 
   -- Exchanges that end with no whole response leave what is stored elsewhere.
-  pub store-retired : (over : List Exchange) → EndsThose x l S over → NotServing x.written.deed x.note
+  pub store-retired : (over : List Exchange) → EndsThose x l S over → counting l x.note ≡ None → NotServing x.written.deed x.note
       → ((o : ℕ) (w : Response) (rs : List Reply) → end_of l o ≡ None → Ends (x ∷ l) o (length l) (Whole w rs) → ⊥)
       → StoreIn (x ∷ l) (retired S.entries over S.store)
-  store-retired over ends quiet none = record {
+  store-retired over ends silent quiet none = record {
     pairs = all-more (λ (p : Pair). PairIn l p × ((e : Exchange) → Contains over e → Apart x l S r legal e p)) (PairIn (x ∷ l))
-        (λ p h. pair-stays x l legal p h.0 (record { unwritten = unwritten x l S r legal over ends p h.0 h.1; unanswered = λ o w rs going e j. none o w rs going e.ended }))
+        (λ p h. pair-stays x l legal p h.0 (record {
+          unwritten = unwritten x l S r legal over ends p h.0 h.1;
+          untold = λ n. outdated-quiet x l (asked_key h.0.request) n silent;
+          unanswered = λ o w r rs comes joins fresh. none-come o w (r ∷ rs) comes;
+        }))
         (retired S.entries over S.store) (retired-all (PairIn l) over S.store r.store_is.pairs);
     order = order-weaker (x ∷ l) (length l) (length (x ∷ l)) (retired S.entries over S.store) (omega arith)
         (order-stays x l (length l) (retired S.entries over S.store) legal (every (λ (p : Pair). Unused x l p.key) (λ p. unused p.key) (retired S.entries over S.store))
         (retired-order over (length l) S.store r.store_is.order));
-    kept = λ q s is lasts. elim (r.store_is.kept q s (stored-was x l q s legal (stored-unwritten x l q s legal is) is (λ e. none is.opening s.response (is.first ∷ is.more) (was-going x l S r legal is.opening is.ending s.response (is.first ∷ is.more) is.ends e)
-        (at-length x l S r legal is.opening is.ending s.response (is.first ∷ is.more) is.ends e).ended)) lasts) [
+    kept = λ q s is lasts. elim (r.store_is.kept q s (stored-was x l q s legal (stored-unwritten x l q s legal is) is
+        (λ e. none-come is.opening s.response (is.first ∷ is.more) (subst (λ (n : ℕ). ComesSo (x ∷ l) is.opening n s.response (is.first ∷ is.more)) e is.comes))) lasts) [
           | inl has ↦ inl (retired-has over (asked_key q) S.store (λ e in_over w at write p of_q. is-away x l S r legal over ends q (stored-unwritten x l q s legal is) e in_over w at write p of_q) has)
           | inr out ↦ inr (crowded-stays x l (asked_key q) legal (unused (asked_key q)) out)
         ];
   }
     where
+      none-come : (o : ℕ) (w : Response) (rs : List Reply) → ComesSo (x ∷ l) o (length l) w rs → ⊥
+      none-come o w rs (inl so) = none o w rs (was-going x l S r legal o (length l) w rs so refl) so.ended
+      none-come o w rs (inr u) = none-updates x l o w rs silent u
+
       unused : (key : CacheKey) → Unused x l key
       unused key (inl u) = unserved x l key quiet u
-      unused key (inr u) = none u.opening u.response u.replies (was-going x l S r legal u.opening (length l) u.response u.replies u.ends refl) u.ends.ended
+      unused key (inr u) = none-come u.opening u.response (u.first ∷ u.more) u.comes

@@ -38,11 +38,10 @@ use Rattle.exchange_model.specs.declared.kept.Exchange.{Exchange}
 use Rattle.exchange_model.specs.declared.kept.Reader.{Reader}
 use Rattle.exchange_model.specs.State.{State, link_of, pend}
 use Rattle.exchange_model.specs.Reads.{Reads, opening_of}
-use Rattle.exchange_model.specs.Steps.{Numbers, asks, begins, joins, exchange_for, reader_for, answers}
+use Rattle.exchange_model.specs.Steps.{Numbers, asks, begins, joins, exchange_for, read_at, reader_for, unwatched, answers}
 use Rattle.exchange_model.specs.Resting.{IsUndue, LinkRests, HasExchange, HasReader, IsServed, HasConn, Rests}
-use Rattle.exchange_model.specs.Keeping.{StartKeeps, HasMids, Kept, MayStep, KeptStands, OpensKeeps, ShutsKeeps, SealsKeeps, IsProper, IsNumbered, AsksKeeps}
+use Rattle.exchange_model.specs.Keeping.{HasMids, Kept, MayStep, KeptStands, OpensKeeps, ShutsKeeps, SealsKeeps, IsProper, IsNumbered, AsksKeeps}
 use Rattle.exchange_model.proofs.Quiet.{misses-tell, recalls-leads, asks-leads, joins-leads}
-use Rattle.exchange_model.proofs.Stores.{no-store}
 use Rattle.exchange_model.proofs.Amid.{Amid, Moved, RestAt, IsEarly, tick-before, next-moves}
 use Rattle.exchange_model.proofs.Begins.{begins-leads}
 use Rattle.exchange_model.proofs.Conns.{PendingIn, ConnIn, conns-open, slice_get-push}
@@ -277,7 +276,7 @@ has-old [] e k h = absurd h
 has-old (y ∷ es) e k (inl h) = inl h
 has-old (y ∷ es) e k (inr h) = inr (has-old es e k h)
 
-opened-for : (t c : ℕ) (a : Ask) (q : CoapRequest) (n : Numbers) (S : State) (m : MayStep t S) → HasConn S.conns c None → a.sense ≡ Requests q → IsNumbered q n S
+opened-for : (t c : ℕ) (a : Ask) (q : CoapRequest) (n : Numbers) (S : State) (m : MayStep t S) → HasConn S.conns c None → a.sense ≡ Requests q → IsNumbered a q n S
     → IsAlone t q S → has_place t q.peer S ≡ true → Kept (next t q.peer (begins t c a q n.token n.text n.word S))
 opened-for t c a q n S m h sense numbered none place =
     let l = m.kept.reading in
@@ -288,14 +287,14 @@ opened-for t c a q n S m h sense numbered none place =
     let x = noted t (Asks c a) (Begins q) in
     let S1 = begins t c a q n.token n.text n.word S in
     let w = waits n.token n.text n.word in
-    let s = queued t w (link_of S.links p) in
+    let s = queued t w (unwatched q S) in
     let tick = tick-before l t S b in
     let few : mids_in_use t (link_of S.links p) < MAX_MESSAGE_IDS = ltb-true _ _ (and-right (ltb (length (link_of S.links p).waiting) 64) _ (and-right (ltb (length S.exchanges) 256) _ place)) in
     let amid : Amid (x ∷ l) t S1 = record {
       before = record { reads = made.reads; later = omega arith };
       unsealed = m.unsealed;
-      mids = all-links (λ (k : Peer) (u : LinkState). HasMids u) p s S.links (enough-ids t (link_of S.links p) w (m.kept.mids p) (omega arith) few) (λ k away. m.kept.mids k);
-      in_time = all-push (λ (e : Exchange). ticked l < e.since + MAX_TRANSMIT_WAIT) S.exchanges (exchange_for t q n.token S) r.in_time (omega (arith, tick));
+      mids = all-links (λ (k : Peer) (u : LinkState). HasMids u) p s S.links (enough-ids t (unwatched q S) w (record { small = (m.kept.mids p).small; enough = (m.kept.mids p).enough }) (omega arith) few) (λ k away. m.kept.mids k);
+      in_time = all-push (λ (e : Exchange). ticked l < e.since + MAX_TRANSMIT_WAIT) S.exchanges (exchange_for t a q n.token S) r.in_time (omega (arith, tick));
     } in
     let early : IsEarly (x ∷ l) S1 p = all-links (λ (k : Peer) (u : LinkState). (o : Outstanding) → u.outstanding ≡ Some o → ticked l < due_of o) p s S.links
     (λ o is. undue (ticked l) (link_of S.links p) o (r.links p) is) (λ k away o is. undue (ticked l) (link_of S.links k) o (r.links k) is) p in
@@ -311,7 +310,7 @@ opened-for t c a q n S m h sense numbered none place =
             (all-more _ _ (λ y k. served-new S.readers (reader_for c S) c y k) S.conns r.served));
         reading = rw (moved.1.readers) (all-more (λ (x : Reader). HasExchange S1.exchanges x.opening) (λ (x : Reader). HasExchange (next t p S1).exchanges x.opening) (λ x k. moved.1.has x.opening k) S1.readers
             (all-push (λ (x : Reader). HasExchange S1.exchanges x.opening) S.readers (reader_for c S)
-            (all-more _ _ (λ x k. has-old S.exchanges (exchange_for t q n.token S) x.opening k) S.readers r.reading) (has-new S.exchanges (exchange_for t q n.token S))));
+            (all-more _ _ (λ x k. has-old S.exchanges (exchange_for t a q n.token S) x.opening k) S.readers r.reading) (has-new S.exchanges (exchange_for t a q n.token S))));
       };
       mids = moved.1.amid.mids;
     }
@@ -324,7 +323,7 @@ opened-for t c a q n S m h sense numbered none place =
         → RestAt n1 (next t q.peer (begins t c a q n.token n.text n.word S)) k
     by k n1 moved rest true is = subst (RestAt n1 (next t q.peer (begins t c a q n.token n.text n.word S))) (same_peer-same q.peer k is) rest
     by k n1 moved rest false is =
-        let same = moved.others k is ∙ link-other q.peer k (queued t (waits n.token n.text n.word) (link_of S.links q.peer)) is S.links in
+        let same = moved.others k is ∙ link-other q.peer k (queued t (waits n.token n.text n.word) (unwatched q S)) is S.links in
         rw (same, moved.goes.tick) (m.kept.rests.links k)
 
 -- An ask that reads along.
@@ -335,6 +334,11 @@ has-opening (x ∷ es) e h = by (first-or-later x es e h) (λ k. has-opening es 
     by : (x ≡ e) ⊎ Contains es e → (Contains es e → HasExchange es e.opening) → HasExchange (x ∷ es) e.opening
     by (inl same) later = inl (ap (λ (y : Exchange). y.opening) same)
     by (inr k) later = inr (later k)
+
+read-has : (t o : ℕ) (es : List Exchange) (k : ℕ) → HasExchange es k → HasExchange (map (read_at t o) es) k
+read-has t o [] k h = absurd h
+read-has t o (e ∷ es) k (inl h) = inl h
+read-has t o (e ∷ es) k (inr h) = inr (read-has t o es k h)
 
 joined-to : (t c : ℕ) (a : Ask) (q : CoapRequest) (e : Exchange) (S : State) (m : MayStep t S) → HasConn S.conns c None → a.sense ≡ Requests q → served_in q t S ≡ None → joined q S ≡ Some e
     → Kept (joins t c a e.opening S)
@@ -350,10 +354,11 @@ joined-to t c a q e S m h sense unserved found =
         reads = made.reads;
         quiet = refl;
         links = r.links;
-        in_time = r.in_time;
+        in_time = all-map (read_at t e.opening) (λ (f : Exchange). ticked l < f.since + MAX_TRANSMIT_WAIT) S.exchanges r.in_time;
         served = all-map (pend c (Some (length S.entries))) (λ (y : Conn). IsServed (S.readers ++ new ∷ []) y.pending) S.conns
             (all-more _ _ (λ y k. served-new S.readers new c y k) S.conns r.served);
-        reading = all-push (λ (x : Reader). HasExchange S.exchanges x.opening) S.readers new r.reading (has-opening S.exchanges e it.0);
+        reading = all-more (λ (x : Reader). HasExchange S.exchanges x.opening) _ (λ x k. read-has t e.opening S.exchanges x.opening k) (S.readers ++ new ∷ [])
+            (all-push (λ (x : Reader). HasExchange S.exchanges x.opening) S.readers new r.reading (has-opening S.exchanges e it.0));
       };
       mids = m.kept.mids;
     }
@@ -383,38 +388,3 @@ asks-keeps t c a n S m h proper numbered = by a.sense refl
         for : (v : Option Stored) → served_in q t S ≡ v → Kept (asked_for v t c a q n S)
         for (Some s) served = served-to t c a q s S m h is served
         for None unserved = with unserved (joined q S) refl
-
--- before the first step
-
-pub start-keeps : StartKeeps
-start-keeps = record {
-  reading = [];
-  rests = record {
-    reads = record {
-      start = record { moment = 0; issued = 0; opened = 0 };
-      few = (omega arith, omega arith);
-      entries_are = refl;
-      legal = tt;
-      sealed_is = refl;
-      moment_is = refl;
-      opened_are = omega arith;
-      opens_are = refl;
-      issued_are = refl;
-      conns_are = refl;
-      readers_are = refl;
-      keys = refl;
-      exchanges_are = tt;
-      pieces_are = record { fetched = tt; below = tt };
-      store_is = no-store [] refl;
-      tokens_are = tt;
-      waiting_are = tt;
-      links_are = λ p. record { turn = refl; known = refl; last = λ t later. tt; count_up = λ t later. tt; given = λ t later. refl; waits = tt; awaits = λ token. refl; acks = λ mid token. refl; heard = record { repeats = λ t mid later. refl; live = λ t later. refl } };
-    };
-    quiet = refl;
-    links = λ p. refl;
-    in_time = tt;
-    served = tt;
-    reading = tt;
-  };
-  mids = λ p. record { small = tt; enough = omega arith };
-}

@@ -15,10 +15,12 @@ use Rattle.journal_book.specs.Entries.{Asks}
 use Rattle.history_laws.specs.Exchanges.{Begun, begun, openings, end_of}
 use Rattle.history_laws.specs.Joining.{asks_the_same}
 use Rattle.history_laws.specs.Readings.{Noted, Serves, noted}
-use Rattle.history_laws.specs.Storing.{IsStored, IsCrowdedOut}
+use Rattle.history_laws.specs.Observing.{counting}
+use Rattle.history_laws.specs.Storing.{ComesSo, IsStored, IsCrowdedOut}
 use Rattle.history_laws.specs.Justified.{Legal}
-use Rattle.history_laws.proofs.CallerLemmas.{begun-listed, contains-none, all-filter, all-more, all-of, all-passes, at-new, end-below, find-some, none-some}
+use Rattle.history_laws.proofs.CallerLemmas.{begun-listed, contains-none, all-filter, all-more, all-of, all-passes, at-new, find-some, none-some}
 use Rattle.exchange_model.specs.Reads.{PairIn, IsLastUse, HasPair, StoreIn}
+use Rattle.exchange_model.proofs.Came.{none-comes}
 use Rattle.exchange_model.proofs.Storing.{pairs-stay, spares-all, stored-was}
 use Rattle.exchange_model.proofs.Uses.{crowded-stays, has-filtered, NotServing, order-filter, order-stays, order-weaker, served-key, Unused, unused-still, use-below}
 
@@ -39,21 +41,21 @@ pub every : {X : Type 0} (P : X → Type 0) → ((x : X) → P x) → (xs : List
 every P h [] = tt
 every P h (x ∷ xs) = (h x, every P h xs)
 
-module _ (x : Noted) (l : List Noted) (legal : Legal (x ∷ l)) (same : (o : ℕ) → end_of (x ∷ l) o ≡ end_of l o) where
+module _ (x : Noted) (l : List Noted) (legal : Legal (x ∷ l)) (same : (o : ℕ) → end_of (x ∷ l) o ≡ end_of l o) (silent : counting l x.note ≡ None) where
   -- It was stored before.
   was-stored : (q : CoapRequest) (s : Stored) → IsStored (x ∷ l) q s → IsStored l q s
-  was-stored q s a = stored-was x l q s legal (spares-all x l q same).unwritten a
-      (λ e. let below = end-below l a.opening a.ending _ (sym (same a.opening) ∙ a.ends.ended) in omega (arith, below, e))
+  was-stored q s a = stored-was x l q s legal (spares-all x l q same silent).unwritten a
+      (λ e. none-comes x l a.opening s.response (a.first ∷ a.more) (same a.opening) silent (subst (λ (n : ℕ). ComesSo (x ∷ l) a.opening n s.response (a.first ∷ a.more)) e a.comes))
 
   -- one that serves nothing
   pub store-still : NotServing x.written.deed x.note → (ps : List Pair) → StoreIn l ps → StoreIn (x ∷ l) ps
   store-still quiet ps a = record {
-    pairs = pairs-stay x l legal same ps a.pairs;
+    pairs = pairs-stay x l legal same silent ps a.pairs;
     order = order-weaker (x ∷ l) (length l) (length (x ∷ l)) ps (omega arith)
-        (order-stays x l (length l) ps legal (every (λ (p : Pair). Unused x l p.key) (λ p. unused-still x l same quiet p.key) ps) a.order);
+        (order-stays x l (length l) ps legal (every (λ (p : Pair). Unused x l p.key) (λ p. unused-still x l same silent quiet p.key) ps) a.order);
     kept = λ q s is lasts. elim (a.kept q s (was-stored q s is) lasts) [
       | inl has ↦ inl has
-      | inr out ↦ inr (crowded-stays x l (asked_key q) legal (unused-still x l same quiet (asked_key q)) out)
+      | inr out ↦ inr (crowded-stays x l (asked_key q) legal (unused-still x l same silent quiet (asked_key q)) out)
     ];
   }
 
@@ -67,7 +69,7 @@ module _ (x : Noted) (l : List Noted) (legal : Legal (x ∷ l)) (same : (o : ℕ
 
     -- Of other keys nothing is used.
     other-unused : (key : CacheKey) → key ≢ asked_key q → Unused x l key
-    other-unused key other u = other (served-key x l t c a js (asked_key q) key is same asks u)
+    other-unused key other u = other (served-key x l t c a js (asked_key q) key is same silent asks u)
 
     in-front : (p : Pair) → p.key ≡ asked_key q → IsLastUse (x ∷ l) (length l) p.key
     in-front p e = record {
@@ -92,7 +94,7 @@ module _ (x : Noted) (l : List Noted) (legal : Legal (x ∷ l)) (same : (o : ℕ
         by (Some p) found e =
             let it = find-some (is_fresh_under (asked_key q) t) ps p found in
             let key : p.key ≡ asked_key q = (keys_decided p.key (asked_key q)).0 (and_parts (same_key p.key (asked_key q)) (is_fresh t p.stored) it.1).0 in
-            let all : AllByRecursion (PairIn (x ∷ l)) ps = pairs-stay x l legal same ps h.pairs in
+            let all : AllByRecursion (PairIn (x ∷ l)) ps = pairs-stay x l legal same silent ps h.pairs in
             record {
               pairs = (all-of (PairIn (x ∷ l)) ps p all it.0, all-filter (PairIn (x ∷ l)) (is_of_another p.key) ps all);
               order = (

@@ -1,30 +1,37 @@
 -- What an entry leaves of what a state keeps.
-use Rattle.std.proofs.Common.{◌≡◌, ℕ, ◌+◌, ◌<◌, ◌≤◌, Bool, true, false, not, cond, eqb, List, [], ◌∷◌, ◌++◌, length, Option, Some, None, refl, sym, ap, subst, ◌∙◌, arith}
+use Rattle.std.proofs.Common.{◌≡◌, ℕ, ◌+◌, ◌<◌, ◌≤◌, Bool, true, false, not, cond, eqb, List, [], ◌∷◌, ◌++◌, length, map, Option, Some, None, refl, sym, ap, subst, ◌∙◌, arith}
 use Rattle.std.specs.Prelude.{is_none, max, find, option_map}
 use Rattle.std.proofs.lemmas.List.Elements.{filter_agree}
 use Rattle.uri_map.specs.declared.peer.Peer.{Peer}
 use Rattle.uri_map.specs.Peers.{same_peer}
 use Rattle.uri_map.proofs.CallerLemmas.{same_peer-same, same_peer-itself}
 use Rattle.message_layer.specs.Values.{LinkState}
+use Rattle.cache_key.specs.Keys.{CacheKey}
+use Rattle.observe_share.specs.declared.registration.Registration.{Registration}
 use Rattle.resp_cache.specs.declared.pair.Pair.{Pair}
-use Rattle.ask_model.specs.Sharing.{asked_place}
+use Rattle.ask_model.specs.Sharing.{asked_key, asked_place, is_get}
 use Rattle.journal_book.specs.Entries.{Deed, Written, Opens}
 use Rattle.history_laws.specs.Readings.{Noted, Note, newest, noted}
 use Rattle.history_laws.specs.Connections.{sealed_by, opened_by, opened, opens_by, has_opened}
-use Rattle.history_laws.specs.Progress.{progress}
+use Rattle.history_laws.specs.Progress.{Reply, numbers, progress}
+use Rattle.history_laws.specs.Observing.{asked_last, counting, outdated}
+use Rattle.history_laws.specs.Observing as H
 use Rattle.history_laws.specs.Transmissions.{FirstSending, firsts, first_at, sent_last, bears_token}
 use Rattle.history_laws.specs.Exchanges.{openings, waits_for, is_going, open_exchanges}
 use Rattle.history_laws.specs.Joining.{outrun}
 use Rattle.history_laws.specs.Justified.{Follows, IsNextConn}
 use Rattle.history_laws.proofs.CallerLemmas.{all-more, outrun-same, at-keeps, awaiting-stays, begun-keeps, entries-length, eqb-same, find-some, first-older, listed-below, rank-keeps}
 use Rattle.history_links.specs.Agrees.{Start, Agrees}
-use Rattle.history_links.proofs.CallerLemmas.{first_at-still, Still}
+use Rattle.history_links.proofs.CallerLemmas.{first_at-still, observes-keep, Still}
 use Rattle.exchange_model.specs.declared.kept.Exchange.{Exchange}
 use Rattle.exchange_model.specs.declared.kept.Reader.{Reader}
 use Rattle.exchange_model.specs.State.{PeerLink, State, link_of, with_link, conns_after}
-use Rattle.exchange_model.specs.Steps.{given_out, progress_with}
+use Rattle.exchange_model.specs.declared.kept.Piece.{Piece}
+use Rattle.exchange_model.specs.Steps.{given_out, numbers_of, progress_with}
+use Rattle.exchange_model.proofs.Lists.{all-map}
 use Rattle.exchange_model.proofs.Pieces.{all-every, got-same, got-stays, pieces-stay}
-use Rattle.exchange_model.specs.Reads.{IsSentUnder, awaited_by, got_in, ExchangeIn, StoreIn, WaitsUnder, Reads, opens_in, opens_once, readers_by, readers_of}
+use Rattle.exchange_model.proofs.Watches.{newest-same, outdated-quiet}
+use Rattle.exchange_model.specs.Reads.{IsNewest, IsSentUnder, awaited_by, got_in, held_of, ExchangeIn, opening_of, PiecesIn, StoreIn, WaitsUnder, Reads, opens_in, opens_once, readers_by, readers_of}
 
 -- entries
 
@@ -46,11 +53,14 @@ under-stays x l p token None unborne a = unborne a
 under-stays x l p token (Some i) unborne a = (a.0, first-stays x l i a.0 a.1, a.2, a.3)
 
 -- An entry after which an exchange waits for what it waited for leaves what is kept of it.
-pub exchange-stays : {start : Start} (x : Noted) (l : List Noted) (e : Exchange) (b : Bool) → (bears_token l e.token ≡ false → bears_token (x ∷ l) e.token ≡ false)
-    → waits_for (x ∷ l) e.opening ≡ waits_for l e.opening → sent_last (x ∷ l) e.opening ≡ sent_last l e.opening → (a : ExchangeIn start l e) → b ≡ not (outrun (x ∷ l) (asked_place a.request) e.opening)
-    → ExchangeIn start (x ∷ l) (record e { current = b })
-exchange-stays {start = start} x l e b unborne same sends a current =
-    let unreplied = awaiting-stays x l e.opening same in record {
+pub exchange-stays : {start : Start} (x : Noted) (l : List Noted) (e : Exchange) (b c : Bool) → (bears_token l e.token ≡ false → bears_token (x ∷ l) e.token ≡ false)
+    → waits_for (x ∷ l) e.opening ≡ waits_for l e.opening → sent_last (x ∷ l) e.opening ≡ sent_last l e.opening → asked_last (x ∷ l) e.opening ≡ asked_last l e.opening
+    → (a : ExchangeIn start l e) → b ≡ not (outrun (x ∷ l) (asked_place a.request) e.opening)
+    → (is_get a.request ≡ true → IsNewest (x ∷ l) (asked_key a.request) (got_in l e.opening) c)
+    → ExchangeIn start (x ∷ l) (record e { current = b; newest = c })
+exchange-stays {start = start} x l e b c unborne same sends reads a current newest =
+    let unreplied = awaiting-stays x l e.opening same in
+    let got = got-stays x l e.opening _ a.opening unreplied in record {
       request = a.request;
       opening = begun-keeps x l e.opening _ a.opening;
       peer = a.peer;
@@ -58,10 +68,13 @@ exchange-stays {start = start} x l e b unborne same sends a current =
       number = ap (λ (k : ℕ). start.issued + k) (rank-keeps x l e.opening _ a.opening unreplied) ∙ a.number;
       sending = sends ∙ a.sending;
       awaits = same ∙ a.awaits;
+      observes = observes-keep x l e.opening _ a.opening unreplied ∙ a.observes;
+      asked = reads ∙ a.asked;
       named = a.named;
       sent = under-stays x l e.peer e.token (awaited_by e.awaits e.sending) unborne a.sent;
-      progress = ap (progress a.request) unreplied ∙ (a.progress ∙ ap (progress_with e.work) (sym (got-stays x l e.opening _ a.opening unreplied)));
+      progress = ap (progress a.request) unreplied ∙ (a.progress ∙ ap (progress_with e.work) (sym got));
       current = current;
+      newest = λ get. subst (λ (rs : List Reply). IsNewest (x ∷ l) (asked_key a.request) rs c) (sym got) (newest get);
       short = a.short;
       conn = a.conn;
       ask = a.ask;
@@ -76,24 +89,49 @@ under-still l n p token (Some i) still a = (a.0, first_at-still l n still i ∙ 
 abbrev sent_in : ℕ → List FirstSending → Option ℕ
 sent_in o fs = option_map (λ (f : FirstSending). f.number) (find (λ (f : FirstSending). eqb f.opening o) fs)
 
-exchange-still : {start : Start} (l n : List Noted) → Still l n → (e : Exchange) → ExchangeIn start l e → ExchangeIn start n e
-exchange-still {start = start} l n still e a = record {
-  request = a.request;
-  opening = still.begun_are e.opening ∙ a.opening;
-  peer = a.peer;
-  method = a.method;
-  number = ap (λ (k : ℕ). start.issued + k) (still.ranks_are e.opening a.opening) ∙ a.number;
-  sending = ap (sent_in e.opening) still.firsts_are ∙ a.sending;
-  awaits = still.waits_are e.opening ∙ a.awaits;
-  named = a.named;
-  sent = under-still l n e.peer e.token (awaited_by e.awaits e.sending) still a.sent;
-  progress = ap (progress a.request) (still.replies_are e.opening)
-      ∙ (a.progress ∙ ap (progress_with e.work) (sym (got-same l n e.opening (still.begun_are e.opening) (still.replies_are e.opening))));
-  current = a.current ∙ ap not (sym (outrun-same l n still.openings_are still.begun_are still.ends_are (asked_place a.request) e.opening));
-  short = a.short;
-  conn = a.conn;
-  ask = a.ask;
-  stands = still.stands e.opening _ a.stands;
+-- Asks may have read it since, and no notification that counts came.
+exchange-still : {start : Start} (l n : List Noted) (t : ℕ) → Still l n → ((key : CacheKey) (i : ℕ) → outdated n key i ≡ outdated l key i)
+    → (e : Exchange) → asked_last n e.opening ≡ t → ExchangeIn start l e → ExchangeIn start n (record e { asked = t })
+exchange-still {start = start} l n t still quiet e reads a =
+    let got = got-same l n e.opening (still.begun_are e.opening) (still.replies_are e.opening) in record {
+      request = a.request;
+      opening = still.begun_are e.opening ∙ a.opening;
+      peer = a.peer;
+      method = a.method;
+      number = ap (λ (k : ℕ). start.issued + k) (still.ranks_are e.opening a.opening) ∙ a.number;
+      sending = ap (sent_in e.opening) still.firsts_are ∙ a.sending;
+      awaits = still.waits_are e.opening ∙ a.awaits;
+      observes = still.observes_are e.opening a.opening ∙ a.observes;
+      asked = reads;
+      named = a.named;
+      sent = under-still l n e.peer e.token (awaited_by e.awaits e.sending) still a.sent;
+      progress = ap (progress a.request) (still.replies_are e.opening)
+          ∙ (a.progress ∙ ap (progress_with e.work) (sym got));
+      newest = λ get. subst (λ (rs : List Reply). IsNewest n (asked_key a.request) rs e.newest) (sym got)
+          (newest-same l n (asked_key a.request) (got_in l e.opening) e.newest quiet (a.newest get));
+      current = a.current ∙ ap not (sym (outrun-same l n still.openings_are still.begun_are still.ends_are (asked_place a.request) e.opening));
+      short = a.short;
+      conn = a.conn;
+      ask = a.ask;
+      stands = still.stands e.opening _ a.stands;
+    }
+
+-- one is read by an ask, or stays as it was
+abbrev pub read_as : (Exchange → ℕ) → Exchange → Exchange
+read_as reads e = record e { asked = reads e }
+
+read-openings : (reads : Exchange → ℕ) (es : List Exchange) → map opening_of (map (read_as reads) es) ≡ map opening_of es
+read-openings reads [] = refl
+read-openings reads (e ∷ es) = ap (λ (os : List ℕ). e.opening ∷ os) (read-openings reads es)
+
+pub unread : (es : List Exchange) → map (read_as (λ (e : Exchange). e.asked)) es ≡ es
+unread [] = refl
+unread (e ∷ es) = ap (λ (xs : List Exchange). e ∷ xs) (unread es)
+
+pieces-read : (l : List Noted) (reads : Exchange → ℕ) (es : List Exchange) (xs : List Piece) → PiecesIn l es xs → PiecesIn l (map (read_as reads) es) xs
+pieces-read l reads es xs h = record {
+  fetched = all-map (read_as reads) (λ (e : Exchange). numbers (got_in l e.opening) ≡ numbers_of e.opening xs) es h.fetched;
+  below = h.below;
 }
 
 open-still : (l n : List Noted) → Still l n → open_exchanges n ≡ open_exchanges l
@@ -125,7 +163,10 @@ more-opens l (Opens c) S r h = let is = r.opens_are in omega (arith, is, h)
 more-opens l d S r h = r.opens_are
 
 -- the tables after an entry that is nothing to any exchange: links may have changed, but not what waits
-pub still-reads : (l : List Noted) (t : ℕ) (d : Deed) (note : Note) (S : State) (links : List PeerLink) (store : List Pair) (r : Reads l S) → StoreIn (noted t d note ∷ l) store → S.moment ≤ t → IsNumberedAs S d → Follows l t d note
+pub still-reads : (l : List Noted) (t : ℕ) (d : Deed) (note : Note) (S : State) (links : List PeerLink) (store : List Pair) (watches : List Registration) (reads_last : Exchange → ℕ) (r : Reads l S)
+    → StoreIn (noted t d note ∷ l) store → map held_of (H.watches (noted t d note ∷ l)) ≡ watches
+    → ((e : Exchange) → ExchangeIn r.start l e → asked_last (noted t d note ∷ l) e.opening ≡ reads_last e) → counting l note ≡ None
+    → S.moment ≤ t → IsNumberedAs S d → Follows l t d note
     → (readers : List Reader) → readers_by (length l) d note (readers_of l) ≡ readers → Still l (noted t d note ∷ l) → ((p : Peer) → (link_of links p).waiting ≡ (link_of S.links p).waiting) → ((p : Peer) → Agrees r.start (noted t d note ∷ l) p (link_of links p))
     → Reads (noted t d note ∷ l) (record {
       entries = S.entries ++ record { moment = t; deed = d } ∷ [];
@@ -134,13 +175,14 @@ pub still-reads : (l : List Noted) (t : ℕ) (d : Deed) (note : Note) (S : State
       opened = opened_by d S.opened;
       issued = S.issued;
       conns = conns_after S.conns (length S.entries) d;
-      exchanges = S.exchanges;
+      exchanges = map (read_as reads_last) S.exchanges;
       pieces = S.pieces;
       readers = readers;
+      watches = watches;
       store = store;
       links = links;
     })
-still-reads l t d note S links store r stored later numbered follows readers reads still waiting agrees =
+still-reads l t d note S links store watches reads_last r stored observed read quiet later numbered follows readers reads still waiting agrees =
     let n = noted t d note ∷ l in record {
       start = r.start;
       few = r.few;
@@ -153,14 +195,18 @@ still-reads l t d note S links store r stored later numbered follows readers rea
       issued_are = ap (λ (k : ℕ). r.start.issued + k) still.issued_are ∙ r.issued_are;
       conns_are = rw (r.conns_are, sym (entries-length l), r.entries_are) refl;
       readers_are = reads;
-      keys = open-still l n still ∙ r.keys;
-      exchanges_are = all-more (ExchangeIn r.start l) (ExchangeIn r.start n) (exchange-still l n still) S.exchanges r.exchanges_are;
-      pieces_are = pieces-stay l n S.exchanges S.pieces (omega arith)
+      keys = open-still l n still ∙ (r.keys ∙ sym (read-openings reads_last S.exchanges));
+      exchanges_are = all-map (read_as reads_last) (ExchangeIn r.start n) S.exchanges
+          (all-more (ExchangeIn r.start l) (λ (e : Exchange). ExchangeIn r.start n (read_as reads_last e))
+          (λ e a. exchange-still l n (reads_last e) still (λ key i. outdated-quiet (noted t d note) l key i quiet) e (read e a) a) S.exchanges r.exchanges_are);
+      pieces_are = pieces-read n reads_last S.exchanges S.pieces (pieces-stay l n S.exchanges S.pieces (omega arith)
           (all-every (λ (e : Exchange). got_in n e.opening ≡ got_in l e.opening) (λ e. got-same l n e.opening (still.begun_are e.opening) (still.replies_are e.opening)) S.exchanges)
-          r.pieces_are;
+          r.pieces_are);
+      watches_are = observed;
       store_is = stored;
       tokens_are = rw (still.firsts_are) r.tokens_are;
-      waiting_are = all-more _ (λ (e : Exchange). WaitsUnder (link_of links e.peer).waiting e) (λ e h. rw (waiting e.peer) h) S.exchanges r.waiting_are;
+      waiting_are = all-map (read_as reads_last) (λ (e : Exchange). WaitsUnder (link_of links e.peer).waiting e) S.exchanges
+          (all-more _ (λ (e : Exchange). WaitsUnder (link_of links e.peer).waiting e) (λ e h. rw (waiting e.peer) h) S.exchanges r.waiting_are);
       links_are = agrees;
     }
 

@@ -17,6 +17,7 @@ use Rattle.history_laws.specs.Sealing as H
 use Rattle.history_laws.specs.Justified.{Follows, Legal}
 use Rattle.history_laws.proofs.CallerLemmas.{all-more, any-of, eqb-itself, filter-by, find-some, next-above, open-below}
 use Rattle.history_links.specs.Agrees.{TurnIn}
+use Rattle.exchange_model.proofs.Lists.{filter-map, filter-both}
 use Rattle.exchange_model.specs.declared.kept.Conn.{Conn}
 use Rattle.exchange_model.specs.State.{PeerLink, State, link_of, pend}
 use Rattle.exchange_model.specs.Reads.{conns_of, Reads}
@@ -24,7 +25,6 @@ use Rattle.exchange_model.specs.Calls.{peer_of}
 use Rattle.exchange_model.specs.Room.{has_asked, asks_waiting, AreApart}
 use Rattle.exchange_model.proofs.Conns.{PendingIn, ConnIn, conns-open}
 use Rattle.exchange_model.proofs.Counting.{one, count-cons, count-map, count-alike, count-more, count-filter, one-each}
-use Rattle.exchange_model.proofs.Hearing.{filter-map, filter-both}
 use Rattle.exchange_model.proofs.Waiting.{has_id}
 
 -- The connections that are kept are the open ones, in the order of their numbers.

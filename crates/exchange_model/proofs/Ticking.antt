@@ -2,7 +2,7 @@
 use Rattle.std.proofs.Common.{◌≡◌, ℕ, ◌+◌, ◌<◌, ◌≤◌, ◌⊎◌, Bool, true, false, cond, not, inl, inr, List, [], ◌∷◌, map, Option, Some, None, refl, sym, subst, ◌∙◌, arith}
 use Rattle.std.specs.Prelude.{fold, filter, unwrap_or}
 use Rattle.std.specs.List.{AllByRecursion, Contains, list_any}
-use Rattle.std.proofs.lemmas.Bool.{false≢true, or_parts, not_from_false, not-true}
+use Rattle.std.proofs.lemmas.Bool.{false≢true, leb-false, or_parts, not_from_false, not-true}
 use Rattle.std.proofs.lemmas.Bool.Decides.{leb_tells}
 use Rattle.std.proofs.lemmas.List.Sums.{length-filter, count_by-le-length}
 use Rattle.limits.specs.declared.TheConstants.{MAX_TRANSMIT_WAIT}
@@ -14,12 +14,16 @@ use Rattle.message_layer.specs.Values.{LinkState, empty_link}
 use Rattle.message_layer.specs.declared.state.Outstanding.{Outstanding}
 use Rattle.message_layer.specs.declared.state.Waiting.{Waiting}
 use Rattle.history_laws.specs.Readings.{Noted, Plain, ticked as at_tick, noted}
+use Rattle.observe_share.specs.declared.registration.Registration.{Registration}
+use Rattle.observe_share.specs.Watches.{is_idle}
+use Rattle.history_laws.specs.Observing.{Watch, watches}
 use Rattle.history_laws.specs.Exchanges.{end_of}
 use Rattle.history_laws.proofs.CallerLemmas.{all-filter, all-more, all-of, all-passes, none-of}
 use Rattle.history_links.specs.Steps.{is_over, passed_link}
 use Rattle.exchange_model.specs.declared.kept.Exchange.{Exchange}
 use Rattle.exchange_model.specs.declared.kept.Reader.{Reader}
 use Rattle.exchange_model.specs.State.{PeerLink, State, link_of}
+use Rattle.exchange_model.specs.Reads.{held_of, Reads}
 use Rattle.exchange_model.specs.Resting.{IsUndue, LinkRests, HasExchange, Rests}
 use Rattle.exchange_model.specs.Steps.{goes_on, is_past, is_in_vain, expires, is_gone, passes, timed_out}
 use Rattle.exchange_model.specs.Keeping.{HasMids, Kept, MayStep, TicksKeeps, IsDone, TicksDo}
@@ -33,7 +37,8 @@ use Rattle.exchange_model.proofs.Telling.{readers_in, IsAmong, ReadWith, all-in,
 use Rattle.exchange_model.proofs.Tellings.{is-told, late_reads, readers-late, among-late, late-all}
 use Rattle.exchange_model.proofs.Expiring.{expires-alike}
 use Rattle.exchange_model.proofs.Grounds.{GroundsFor, IsTold, told-grounds, told-moves}
-use Rattle.exchange_model.proofs.Lists.{all-both}
+use Rattle.exchange_model.proofs.Lately.{watches-asked}
+use Rattle.exchange_model.proofs.Lists.{all-both, all-map}
 use Rattle.exchange_model.proofs.Moving.{not-due, is_among, Ready, all-moved}
 use Rattle.exchange_model.proofs.TimingOut.{passed-over}
 use Rattle.exchange_model.proofs.Passing.{link-passed, passes-leads}
@@ -141,6 +146,13 @@ record Done (t : ℕ) (S : State) : Type 0 where
   kept : Kept S
   links : (p : Peer) → LinkRests t (link_of S.links p)
   in_time : AllByRecursion (λ (e : Exchange). t < e.since + MAX_TRANSMIT_WAIT) S.exchanges
+  asked : AllByRecursion (λ (r : Registration). t < r.asked + 120000) S.watches
+
+asked-lately : (l : List Noted) (t : ℕ) (S : State) → Reads l S → at_tick l ≡ t → AllByRecursion (λ (r : Registration). t < r.asked + 120000) S.watches
+asked-lately l t S r same =
+    subst (AllByRecursion (λ (v : Registration). t < v.asked + 120000)) r.watches_are
+    (all-map held_of (λ (v : Registration). t < v.asked + 120000) (watches l)
+    (subst (λ (k : ℕ). AllByRecursion (λ (w : Watch). k < w.held.asked + 120000) (watches l)) same (watches-asked l r.legal)))
 
 all-done : (t : ℕ) (S : State) → MayStep t S → Done t (fold (tells t) (move_all t (passes t S)) (told_late (timed_out t S) S.readers))
 all-done t S may =
@@ -167,6 +179,7 @@ all-done t S may =
       kept = kept-told moved.0 t xs S2 told.0 told.1 m.rest m.amid.in_time (rw (m.readers) (read-either S S2 (expires t S.links) (λ k h. m.has k (left-has S.entries es (filter (goes_on t S) S.exchanges) k h)) r.reading)) m.amid.mids;
       links = λ p. rw (tells-links t xs S2) (subst (λ (k : ℕ). LinkRests k (link_of S2.links p)) m.goes.tick (m.rest p));
       in_time = rw (tells-exchanges t xs S2) (subst (λ (k : ℕ). AllByRecursion (λ (e : Exchange). k < e.since + MAX_TRANSMIT_WAIT) S2.exchanges) m.goes.tick m.amid.in_time);
+      asked = asked-lately told.0 t (fold (tells t) S2 xs) told.1.before.reads tick;
     }
   where
     passed-readers : (t : ℕ) (l : List Noted) (rs : List Reader) → AllByRecursion (ReaderIn l) rs → AllByRecursion (ReaderIn (passed_by t l)) rs
@@ -204,15 +217,22 @@ none-ends t links (e ∷ es) h =
     let both = or_parts (expires t links e) (list_any (expires t links) es) h in
     (going-in-time t links e (not_from_false (expires t links e) both.0), none-ends t links es both.1)
 
+none-idle : (t : ℕ) (rs : List Registration) → list_any (is_idle t) rs ≡ false → AllByRecursion (λ (r : Registration). t < r.asked + 120000) rs
+none-idle t [] h = tt
+none-idle t (r ∷ rs) h =
+    let both = or_parts (is_idle t r) (list_any (is_idle t) rs) h in (leb-false (r.asked + 120000) t both.0, none-idle t rs both.1)
+
 pub ticks-do : TicksDo
 ticks-do t S may = by (something_due t S) refl
   where
     by : (b : Bool) → something_due t S ≡ b → IsDone t (cond b (fold (tells t) (move_all t (passes t S)) (told_late (timed_out t S) S.readers)) S)
-    by true e = let done = all-done t S may in record { links = done.links; in_time = done.in_time }
+    by true e = let done = all-done t S may in record { links = done.links; in_time = done.in_time; asked = done.asked }
     by false e =
-        let none = or_parts (list_any (link_due t) S.links) (list_any (expires t S.links) S.exchanges) e in
+        let none = or_parts (list_any (link_due t) S.links) _ e in
+        let open_now = or_parts (list_any (expires t S.links) S.exchanges) (list_any (is_idle t) S.watches) none.1 in
         let r = may.kept.rests in
         record {
           links = λ p. undue-rests t (at_tick may.kept.reading) (link_of S.links p) (r.links p) (undue-link t S.links none.0 p);
-          in_time = none-ends t S.links S.exchanges none.1;
+          in_time = none-ends t S.links S.exchanges open_now.0;
+          asked = none-idle t S.watches open_now.1;
         }

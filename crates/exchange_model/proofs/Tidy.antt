@@ -118,9 +118,9 @@ short-unless : (b : Bool) (v : Option Outstanding) → IsShortOut v → IsShortO
 short-unless true v h = tt
 short-unless false v h = h
 
-pub short-heard : (t mid : ℕ) (token : List ℕ) (v : Verdict) (s : LinkState) → IsShort s
-    → IsShort (heard_link t mid token v s)
-short-heard t mid token v s h = record
+pub short-heard : (t mid : ℕ) (token : List ℕ) (gone : List ℕ → Bool) (v : Verdict) (s : LinkState) → IsShort s
+    → IsShort (heard_link t mid token gone v s)
+short-heard t mid token gone v s h = record
     { outstanding = short-unless v.ends s.outstanding h.outstanding; waiting = h.waiting }
 
 -- a tick

@@ -23,11 +23,11 @@ use Rattle.history_laws.specs.Hearing.{is_such, knows, recalls_by, recalls}
 use Rattle.history_laws.specs.Justified.{Follows, IsNextConn, Legal}
 use Rattle.history_links.specs.Agrees.{Start, Agrees}
 use Rattle.exchange_model.specs.State.{PeerLink, State, link_of}
-use Rattle.exchange_model.specs.Reads.{Reads}
+use Rattle.exchange_model.specs.Reads.{Reads, held_of}
 use Rattle.exchange_model.specs.Resting.{LinkRests}
 use Rattle.exchange_model.specs.Keeping.{HasMids}
 use Rattle.exchange_model.specs.Rotating.{RotatesKeeps, copies, fault_of, has_copy, is_spent, keep_peer, turned, all_over, Unsealed, Connected, Exchanging, Spent}
-use Rattle.exchange_model.proofs.CopiedIdle.{openings-copied, conns-copied, readers-copied, has-copied, none-issued, none-open, opened-copied, opens-copied, sealed-copied}
+use Rattle.exchange_model.proofs.CopiedIdle.{openings-copied, conns-copied, readers-copied, has-copied, none-issued, none-open, opened-copied, opens-copied, sealed-copied, unwatched}
 use Rattle.exchange_model.proofs.Stores.{no-store}
 use Rattle.exchange_model.proofs.Tables.{reads-from, reads-later}
 use Rattle.exchange_model.proofs.Shapes.{Sending, Hearing, kept_as, still_kept, copy_as, opening_as, first_as, firsts-as, if_such}
@@ -250,6 +250,7 @@ reads-copied t l S r later fit = record {
   keys = none-open t l;
   exchanges_are = tt;
   pieces_are = record { fetched = tt; below = tt };
+  watches_are = ap (map held_of) (unwatched t l);
   store_is = no-store (copied t l) (openings-copied t l);
   tokens_are = issued-copied (λ (m : Content). token_number m.token < S.issued) t l r.tokens_are;
   waiting_are = tt;

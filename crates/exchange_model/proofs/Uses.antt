@@ -1,5 +1,5 @@
 -- Which entries use what is stored, and the order of last uses.
-use Rattle.std.proofs.Common.{◌≡◌, ◌≢◌, ℕ, zero, suc, ◌<◌, ◌≤◌, inl, inr, Bool, true, false, cond, List, [], ◌∷◌, length, take, Some, refl, sym, ap, subst, ◌∙◌, arith}
+use Rattle.std.proofs.Common.{◌≡◌, ◌≢◌, ℕ, zero, suc, ◌<◌, ◌≤◌, inl, inr, Bool, true, false, cond, List, [], ◌∷◌, length, take, None, Some, refl, sym, ap, subst, ◌∙◌, arith}
 use Rattle.std.specs.Prelude.{◌||◌, filter}
 use Rattle.std.specs.List.{AllByRecursion, list_any}
 use Rattle.std.proofs.lemmas.Bool.{false≢true, or_right}
@@ -14,18 +14,20 @@ use Rattle.ask_model.specs.Sharing.{asked_key}
 use Rattle.ask_model.specs.Views.{Ask}
 use Rattle.journal_book.specs.Entries.{Deed, Asks}
 use Rattle.history_laws.specs.Readings.{Noted, Note, Serves, noted, at}
-use Rattle.history_laws.specs.Exchanges.{begun, turn, replies, end_here, end_of}
+use Rattle.history_laws.specs.Exchanges.{end_of}
 use Rattle.history_laws.specs.Joining.{outrun}
+use Rattle.history_laws.specs.Observing.{counting, outdated}
 use Rattle.history_laws.specs.Storing.{IsServing, IsUse, IsUsedSince, KeysDiffer, IsCrowdedOut}
 use Rattle.history_laws.specs.Justified.{Legal}
-use Rattle.history_laws.proofs.CallerLemmas.{all-more, at-below, at-keeps, at-old, before-keeps, begun-keeps, end-below, end-keeps, end-old, ended-begun}
+use Rattle.history_laws.proofs.CallerLemmas.{all-more, at-below, at-keeps, at-old, before-keeps, begun-keeps}
 use Rattle.exchange_model.specs.Reads.{IsLastUse, AreLastFirst, HasPair}
+use Rattle.exchange_model.proofs.Came.{comes-back, comes-begun, comes-below, comes-keeps, none-comes}
 
 -- a use stands
 
 pub use-below : (l : List Noted) (n : ℕ) (key : CacheKey) → IsUse l n key → n < length l
 use-below l n key (inl h) = at-below l n _ h.stands
-use-below l n key (inr h) = end-below l h.opening n _ h.ends.ended
+use-below l n key (inr h) = comes-below l h.opening n h.response (h.first ∷ h.more) h.comes
 
 pub use-keeps : (x : Noted) (l : List Noted) (n : ℕ) (key : CacheKey) → IsUse l n key → IsUse (x ∷ l) n key
 use-keeps x l n key (inl h) = inl (record {
@@ -41,14 +43,16 @@ use-keeps x l n key (inl h) = inl (record {
 use-keeps x l n key (inr h) = inr (record {
   opening = h.opening;
   response = h.response;
-  replies = h.replies;
-  ends = record { ended = end-keeps x l h.opening _ h.ends.ended; code = h.ends.code };
+  first = h.first;
+  more = h.more;
+  comes = comes-keeps x l h.opening n h.response (h.first ∷ h.more) h.comes;
   since = h.since;
   request = h.request;
   opened = begun-keeps x l h.opening _ h.opened;
   get = h.get;
   is = h.is;
-  current = ap (λ (older : List Noted). outrun older key.place h.opening) (before-keeps x l n (end-below l h.opening n _ h.ends.ended)) ∙ h.current;
+  current = ap (λ (older : List Noted). outrun older key.place h.opening) (before-keeps x l n (comes-below l h.opening n h.response (h.first ∷ h.more) h.comes)) ∙ h.current;
+  newest = ap (λ (older : List Noted). outdated older key h.first.number) (before-keeps x l n (comes-below l h.opening n h.response (h.first ∷ h.more) h.comes)) ∙ h.newest;
   lasts = h.lasts;
 })
 
@@ -58,24 +62,25 @@ use-back x l n key legal (inl h) other = elim (at-old x l n _ h.stands) [
   | inl w ↦ absurd (other w.0)
   | inr w ↦ inl (record { moment = h.moment; conn = h.conn; ask = h.ask; replies = h.replies; stands = w; request = h.request; sense = h.sense; is = h.is })
 ]
-use-back x l n key legal (inr h) other = elim (end-old (end_here (begun l h.opening) (length l) (replies l h.opening) (turn l h.opening x)) (length l) (end_of l h.opening) _ h.ends.ended) [
-  | inr w ↦ absurd (other (sym w.1))
-  | inl old ↦
-      let was = ended-begun l h.opening _ legal.0 old in
-      inr (record {
-        opening = h.opening;
-        response = h.response;
-        replies = h.replies;
-        ends = record { ended = old; code = h.ends.code };
-        since = h.since;
-        request = h.request;
-        opened = was.1 ∙ (sym (begun-keeps x l h.opening was.0 was.1) ∙ h.opened);
-        get = h.get;
-        is = h.is;
-        current = ap (λ (older : List Noted). outrun older key.place h.opening) (sym (before-keeps x l n (end-below l h.opening n _ old))) ∙ h.current;
-        lasts = h.lasts;
-      })
-]
+use-back x l n key legal (inr h) other =
+    let old = comes-back x l h.opening n h.response (h.first ∷ h.more) h.comes other in
+    let was = comes-begun l h.opening n h.response (h.first ∷ h.more) legal.0 old in
+    let below = comes-below l h.opening n h.response (h.first ∷ h.more) old in
+    inr (record {
+      opening = h.opening;
+      response = h.response;
+      first = h.first;
+      more = h.more;
+      comes = old;
+      since = h.since;
+      request = h.request;
+      opened = was.1 ∙ (sym (begun-keeps x l h.opening was.0 was.1) ∙ h.opened);
+      get = h.get;
+      is = h.is;
+      current = ap (λ (older : List Noted). outrun older key.place h.opening) (sym (before-keeps x l n below)) ∙ h.current;
+      newest = ap (λ (older : List Noted). outdated older key h.first.number) (sym (before-keeps x l n below)) ∙ h.newest;
+      lasts = h.lasts;
+    })
 
 -- the newest entry uses nothing under the key
 abbrev pub Unused : Noted → List Noted → CacheKey → Type 0
@@ -98,15 +103,15 @@ newest-is x l y e = elim (at-old x l (length l) y e) [
 pub unserved : (x : Noted) (l : List Noted) (key : CacheKey) → NotServing x.written.deed x.note → IsServing (x ∷ l) (length l) key → ⊥
 unserved x l key h s = serves-not x s.moment s.conn s.ask s.replies h (newest-is x l _ s.stands)
 
-pub unused-still : (x : Noted) (l : List Noted) → ((o : ℕ) → end_of (x ∷ l) o ≡ end_of l o) → NotServing x.written.deed x.note → (key : CacheKey) → Unused x l key
-unused-still x l same h key (inl s) = unserved x l key h s
-unused-still x l same h key (inr s) = let below = end-below l s.opening (length l) _ (sym (same s.opening) ∙ s.ends.ended) in omega (arith, below)
+pub unused-still : (x : Noted) (l : List Noted) → ((o : ℕ) → end_of (x ∷ l) o ≡ end_of l o) → counting l x.note ≡ None → NotServing x.written.deed x.note → (key : CacheKey) → Unused x l key
+unused-still x l same silent h key (inl s) = unserved x l key h s
+unused-still x l same silent h key (inr s) = none-comes x l s.opening s.response (s.first ∷ s.more) (same s.opening) silent s.comes
 
 -- What is served is used, and nothing else.
-pub served-key : (x : Noted) (l : List Noted) (t c : ℕ) (a : Ask) (js : List ℕ) (key k : CacheKey) → x ≡ noted t (Asks c a) (Serves js) → ((o : ℕ) → end_of (x ∷ l) o ≡ end_of l o)
+pub served-key : (x : Noted) (l : List Noted) (t c : ℕ) (a : Ask) (js : List ℕ) (key k : CacheKey) → x ≡ noted t (Asks c a) (Serves js) → ((o : ℕ) → end_of (x ∷ l) o ≡ end_of l o) → counting l x.note ≡ None
     → ((q : CoapRequest) → a.sense ≡ Requests q → asked_key q ≡ key) → IsUse (x ∷ l) (length l) k → k ≡ key
-served-key x l t c a js key k is same asks (inr s) = let below = end-below l s.opening (length l) _ (sym (same s.opening) ∙ s.ends.ended) in absurd (omega (arith, below))
-served-key x l t c a js key k is same asks (inl s) = sym s.is ∙ asks s.request (ap (λ (b : Ask). b.sense) (ask-is (sym is ∙ newest-is x l _ s.stands)) ∙ s.sense)
+served-key x l t c a js key k is same silent asks (inr s) = absurd (none-comes x l s.opening s.response (s.first ∷ s.more) (same s.opening) silent s.comes)
+served-key x l t c a js key k is same silent asks (inl s) = sym s.is ∙ asks s.request (ap (λ (b : Ask). b.sense) (ask-is (sym is ∙ newest-is x l _ s.stands)) ∙ s.sense)
   where
     ask-is : noted t (Asks c a) (Serves js) ≡ noted s.moment (Asks s.conn s.ask) (Serves s.replies) → a ≡ s.ask
     ask-is e = asks-of (ap (λ (y : Noted). y.written.deed) e)

@@ -16,6 +16,7 @@ use Rattle.message_layer.specs.declared.verdict.News.{News}
 use Rattle.message_layer.specs.declared.verdict.Verdict.{Verdict}
 use Rattle.message_layer.specs.declared.state.Reply.TheVariants as R
 use Rattle.message_layer.specs.declared.verdict.News.TheVariants as N
+use Rattle.observe_share.specs.Watches.{is_idle}
 use Rattle.resp_cache.specs.Stored.{Stored}
 use Rattle.resp_cache.specs.Stores.{served}
 use Rattle.ask_model.specs.declared.cause.Cause.{Cause}
@@ -171,8 +172,8 @@ goes_as t p (Ok m) S =
 abbrev pub goes_by : ℕ → Peer → List ℕ → State → Option (Exchange × Progress)
 goes_by t p d S = goes_as t p (message_at d) S
 
--- A tick does what is due, and leaves no entry where nothing is: a copy, an end, or a message given
--- up.
+-- A tick does what is due, and leaves no entry where nothing is: a copy, an end, a message given
+-- up, or a watch for what nobody asks any more.
 abbrev pub is_due : ℕ → Option Outstanding → Bool
 is_due t None = false
 is_due t (Some o) = nat_le (due_of o) t
@@ -182,7 +183,8 @@ link_due t x = is_due t x.link.outstanding
 
 abbrev pub something_due : ℕ → State → Bool
 something_due t S =
-    list_any (link_due t) S.links || list_any (expires t S.links) S.exchanges
+    list_any (link_due t) S.links
+    || (list_any (expires t S.links) S.exchanges || list_any (is_idle t) S.watches)
 
 -- At each endpoint a copy goes out that is due, or the next message where one was given up.
 abbrev pub moves_by : ℕ → Peer → Option Outstanding → State → State

@@ -2,6 +2,7 @@
 use Rattle.std.specs.Prelude.{◌≡◌, ℕ, ◌+◌, min, Bool, false, nat_le, List, [], ◌∷◌, Option, Some, None, option_map}
 use Rattle.limits.specs.declared.TheConstants.{MAX_TRANSMIT_WAIT}
 use Rattle.message_layer.specs.Sending.{due_of}
+use Rattle.observe_share.specs.declared.registration.Registration.{Registration}
 use Rattle.exchange_model.specs.declared.kept.Exchange.{Exchange}
 use Rattle.exchange_model.specs.State.{PeerLink, State}
 use Rattle.exchange_model.specs.Calls.{something_due}
@@ -23,8 +24,14 @@ timer x = option_map due_of x.link.outstanding
 abbrev pub deadline : Exchange → Option ℕ
 deadline e = Some (e.since + MAX_TRANSMIT_WAIT)
 
+-- and that at which a watch is forgotten, if nobody asks for its key
+abbrev pub idle_from : Registration → Option ℕ
+idle_from r = Some (r.asked + 120000)
+
 abbrev pub next_due : State → Option ℕ
-next_due S = earlier (earliest timer S.links) (earliest deadline S.exchanges)
+next_due S =
+    earlier (earliest timer S.links)
+    (earlier (earliest deadline S.exchanges) (earliest idle_from S.watches))
 
 abbrev pub has_come : ℕ → Option ℕ → Bool
 has_come t None = false

@@ -1,7 +1,6 @@
 -- What each call leaves, in one piece: the entries that it adds, in order, and each table after it.
 use Rattle.std.specs.Prelude.{◌≡◌, ℕ, ◌+◌, ◌<◌, ◌≤◌, Bool, true, false, not, ◌||◌, nat_lt, List, [], ◌∷◌, ◌++◌, length, map, filter, Option, Some, None, option_map, is_some, Ok, Err, if◌then◌else◌, ⊤}
-use Rattle.std.specs.List.{AllByRecursion, list_any}
-use Rattle.std.specs.Str.{bytes_eq}
+use Rattle.std.specs.List.{AllByRecursion}
 use Rattle.limits.specs.declared.TheConstants.{MAX_DATAGRAM_LEN}
 use Rattle.coap_codec.specs.Spelling.{Content}
 use Rattle.coap_codec.specs.Reading.{message_at}
@@ -18,6 +17,8 @@ use Rattle.message_layer.specs.declared.state.Waiting.{Waiting}
 use Rattle.message_layer.specs.declared.verdict.Verdict.{Verdict}
 use Rattle.message_layer.specs.declared.state.Reply.TheVariants as R
 use Rattle.message_layer.specs.declared.verdict.News.TheVariants as N
+use Rattle.observe_share.specs.declared.registration.Registration.{Registration}
+use Rattle.observe_share.specs.Watches.{without}
 use Rattle.resp_cache.specs.Stored.{Stored}
 use Rattle.resp_cache.specs.Stores.{moved}
 use Rattle.ask_model.specs.declared.cause.Cause.{Cause}
@@ -26,10 +27,10 @@ use Rattle.ask_model.specs.Views.{Ask}
 use Rattle.ask_model.specs.Sharing.{asked_key}
 use Rattle.ask_model.specs.declared.cause.Cause.TheVariants as C
 use Rattle.journal_book.specs.Entries.{Kept, Fault, Deed, Asks, Sends, Hears, Passes, Answers}
-use Rattle.history_links.specs.Steps.{ended_token}
 use Rattle.exchange_model.specs.declared.kept.Exchange.{Exchange}
+use Rattle.exchange_model.specs.Watching.{is_one_of, is_renewed_by, tokens_of, touched_for}
 use Rattle.exchange_model.specs.State.{PeerLink, State, link_of, with_link}
-use Rattle.exchange_model.specs.Steps.{entered, exchange_for, reader_for, joins, left_by, Numbers, Matter, Nothing, matter_of, more_by, issued_by, exchanges_by, pieces_by, store_by, is_of_none, retired, given_out, went_out, timed_out, goes_on, is_gone}
+use Rattle.exchange_model.specs.Steps.{entered, exchange_for, reader_for, joins, left_by, Numbers, Matter, Nothing, matter_of, more_by, issued_by, exchanges_by, gone_by, pieces_by, store_by, watches_by, is_of_none, is_unwatched, retired, given_out, went_out, timed_out, goes_on, is_gone}
 use Rattle.exchange_model.specs.Calls.{Telling, told_for, told_late, has_place, served_in, IsAlone, joined, asked, heard, something_due, ticked}
 use Rattle.exchange_model.specs.Keeping.{MayStep, IsNumbered, MayGoOn}
 
@@ -74,22 +75,30 @@ begin_deeds t c a q n S =
     let s = link_of S.links q.peer in let w = waits n.token n.text n.word in
     Asks c a ∷ first_deeds t q.peer s.last_mid (at_once w s.outstanding)
 
-abbrev pub begun_exchange : ℕ → CoapRequest → Numbers → State → Exchange
-begun_exchange t q n S =
+abbrev pub begun_exchange : ℕ → Ask → CoapRequest → Numbers → State → Exchange
+begun_exchange t a q n S =
     let w = at_once (waits n.token n.text n.word) (link_of S.links q.peer).outstanding in
-    let e = exchange_for t q n.token S in record e {
+    let e = exchange_for t a q n.token S in record e {
       sending = option_map (λ (x : Waiting). length S.entries + 1) w;
       awaits = is_some w;
     }
 
+-- Under these tokens nothing is expected any more.
+abbrev pub awaits_no_more : List (List ℕ) → LinkState → LinkState
+awaits_no_more [] s = s
+awaits_no_more (token ∷ tokens) s = awaits_no_more tokens (expected token false s)
+
 abbrev pub begun : ℕ → ℕ → Ask → CoapRequest → Numbers → State → State
 begun t c a q n S =
-    let s = link_of S.links q.peer in let w = waits n.token n.text n.word in
+    let w = waits n.token n.text n.word in
     let S1 = entered_all t (begin_deeds t c a q n S) S in record S1 {
       issued = S.issued + 1;
-      exchanges = S.exchanges ++ begun_exchange t q n S ∷ [];
+      exchanges = S.exchanges ++ begun_exchange t a q n S ∷ [];
       readers = S.readers ++ reader_for c S ∷ [];
-      links = with_link q.peer (given_out (submitted t w s)) S.links;
+      watches = without (is_renewed_by q) S.watches;
+      links = with_link q.peer
+          (given_out (awaits_no_more (tokens_of (is_renewed_by q) S.watches)
+          (submitted t w (link_of S.links q.peer)))) S.links;
     }
 
 -- one that is refused, or for which there is no place
@@ -115,9 +124,12 @@ abbrev pub next_out : Verdict → LinkState → Option Waiting → Option Waitin
 next_out v s None = in_turn v.ends s.waiting
 next_out v s (Some w) = in_turn (is_free v s) (s.waiting ++ w ∷ [])
 
--- What a message is to the exchanges, and the message that one of them goes on with.
+-- What a message is to the exchanges and to what is observed, what is observed after it, the tokens under which
+-- nothing is expected any more, and the message that an exchange goes on with.
 pub record Effect : Type 0 where
   pub matter : Matter
+  pub watches : List Registration
+  pub gone : List (List ℕ)
   pub numbers : Numbers
 
 abbrev pub more_of : Effect → Option Waiting
@@ -135,27 +147,23 @@ heard_going p mid v x S =
     going_as (length S.entries + 1 + length (replies mid v.reply))
     (next_out v (link_of S.links p) (more_of x))
 
--- The token under which nothing is awaited any more is that of the reply, or of the message that was rejected.
-abbrev pub awaits_no_more : Option (List ℕ) → LinkState → LinkState
-awaits_no_more None s = s
-awaits_no_more (Some token) s = expected token false s
-
 abbrev pub taken_with : ℕ → Option Waiting → LinkState → LinkState
 taken_with t None s = s
 taken_with t (Some w) s = submitted t w s
 
 abbrev pub heeded : ℕ → Peer → List ℕ → ℕ → List ℕ → Verdict → Effect → State → State
 heeded t p d mid token v x S =
-    let s = link_of S.links p in let over = ended_token v.news token in
+    let s = link_of S.links p in
     let S1 = entered_all t (heard_deeds t p d mid v x S) S in record S1 {
       issued = issued_by x.matter S.issued;
       exchanges =
           sent_as (heard_going p mid v x S)
           (exchanges_by S.entries x.numbers.token x.matter S.exchanges);
       pieces = pieces_by (length S.entries) x.matter S.pieces;
+      watches = x.watches;
       store = store_by S.entries t x.matter S.store;
       links = with_link p
-          (given_out (awaits_no_more over (taken_with t (more_of x) (applied t mid token v s))))
+          (given_out (awaits_no_more x.gone (taken_with t (more_of x) (applied t mid token v s))))
           S.links;
     }
 
@@ -228,6 +236,7 @@ moved_by t S =
       exchanges =
           sent_as (all_going t gone (length S.entries + 1) S.links)
           (left_by S.entries (timed_out t S) (filter (goes_on t S) S.exchanges));
+      watches = without (is_unwatched t S) S.watches;
       store = retired S.entries (timed_out t S) S.store;
       links = map (link_after t gone) S.links;
     }
@@ -247,7 +256,7 @@ pub record IsDrained (S : State) : Type 0 where
 abbrev pub BeginsEnter : Type 0
 BeginsEnter =
     (t c : ℕ) (a : Ask) (q : CoapRequest) (n : Numbers) (S : State)
-    → MayStep t S → IsDrained S → IsNumbered q n S
+    → MayStep t S → IsDrained S → IsNumbered a q n S
     → a.sense ≡ Requests q → IsAlone t q S → has_place t q.peer S ≡ true
     → asked t c a n S ≡ begun t c a q n S
 
@@ -258,8 +267,10 @@ ServedEnters =
     → a.sense ≡ Requests q → served_in q t S ≡ Some s
     → asked t c a n S
     ≡ (let k = length S.entries in
-    let S1 = entered_all t (Asks c a ∷ Answers c k (Kept s.list) ∷ []) S in
-    record S1 { store = moved (asked_key q) t S.store })
+    let S1 = entered_all t (Asks c a ∷ Answers c k (Kept s.list) ∷ []) S in record S1 {
+      watches = touched_for t q S.watches;
+      store = moved (asked_key q) t S.store;
+    })
 
 -- One that joins an exchange leaves itself, and who waits.
 abbrev pub JoinsEnter : Type 0
@@ -279,7 +290,9 @@ abbrev pub BusyEnters : Type 0
 BusyEnters =
     (t c : ℕ) (a : Ask) (q : CoapRequest) (n : Numbers) (S : State)
     → a.sense ≡ Requests q → IsAlone t q S → has_place t q.peer S ≡ false
-    → asked t c a n S ≡ entered_all t (refusal_deeds c a C.Busy S) S
+    → asked t c a n S
+    ≡ (let S1 = entered_all t (refusal_deeds c a C.Busy S) S in
+    record S1 { watches = touched_for t q S.watches })
 
 -- a datagram of at most 2,048 bytes, from an endpoint to which something was sent
 pub record Comes (t : ℕ) (p : Peer) (d : List ℕ) (S : State) : Type 0 where
@@ -290,7 +303,12 @@ pub record Comes (t : ℕ) (p : Peer) (d : List ℕ) (S : State) : Type 0 where
 
 -- A message is heeded, also one that repeats another, which is nothing to the exchanges.
 abbrev pub effect_of : ℕ → Peer → Content → Verdict → Numbers → State → Effect
-effect_of t p m v n S = record { matter = matter_of t p m v S; numbers = n }
+effect_of t p m v n S = let x = matter_of t p m v S in record {
+  matter = x;
+  watches = watches_by t m S.entries x S.watches;
+  gone = gone_by m S.entries x S.watches;
+  numbers = n;
+}
 
 abbrev pub MessageEnters : Type 0
 MessageEnters =
@@ -301,13 +319,16 @@ MessageEnters =
     → heard t p d n S ≡ heeded t p d m.mid m.token v (effect_of t p m v n S) S
 
 -- So is what is no message, whatever its token and the numbers.
+abbrev pub no_effect : Numbers → State → Effect
+no_effect n S = record { matter = Nothing; watches = S.watches; gone = []; numbers = n }
+
 abbrev pub GarbledEnters : Type 0
 GarbledEnters =
     (t : ℕ) (p : Peer) (d : List ℕ) (e : CodecFault) (mid : ℕ) (token : List ℕ) (n : Numbers)
     (S : State)
     → Comes t p d S → message_at d ≡ Err e → IsMid (reset_for d) mid
     → heard t p d n S
-    ≡ heeded t p d mid token (garbled (reset_for d)) (record { matter = Nothing; numbers = n }) S
+    ≡ heeded t p d mid token (garbled (reset_for d)) (no_effect n S) S
 
 -- Where 1,024 are remembered one more is lost, as what is too long or from elsewhere.
 abbrev pub LostStays : Type 0
@@ -341,15 +362,12 @@ TicksEnter =
 abbrev pub TickStays : Type 0
 TickStays = (t : ℕ) (S : State) → something_due t S ≡ false → ticked t S ≡ S
 
--- What is gone is what bears the token of an exchange that ends then.
+-- What is gone is what bears the token of an exchange or a watch that ends then.
 abbrev pub token_of : Exchange → List ℕ
 token_of e = e.token
 
 abbrev pub gone_tokens : ℕ → State → List (List ℕ)
-gone_tokens t S = map token_of (timed_out t S)
-
-abbrev pub is_one_of : List (List ℕ) → List ℕ → Bool
-is_one_of tokens token = list_any (bytes_eq token) tokens
+gone_tokens t S = map token_of (timed_out t S) ++ tokens_of (is_unwatched t S) S.watches
 
 abbrev pub GoneTokens : Type 0
 GoneTokens = (t : ℕ) (S : State) → is_gone t S ≡ is_one_of (gone_tokens t S)

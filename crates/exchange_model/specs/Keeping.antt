@@ -7,7 +7,7 @@ use Rattle.coap_codec.specs.Spelling.{Spells}
 use Rattle.uri_map.specs.declared.peer.Peer.{Peer}
 use Rattle.message_layer.specs.Values.{LinkState}
 use Rattle.message_layer.specs.declared.state.Waiting.{Waiting}
-use Rattle.ask_model.specs.Requests.{CoapRequest, Sense, Requests, Refuses, first_message}
+use Rattle.ask_model.specs.Requests.{CoapRequest, Sense, Requests, Refuses, opening_message}
 use Rattle.ask_model.specs.Views.{Ask}
 use Rattle.history_laws.specs.Causes.{IsRefusal}
 use Rattle.history_laws.specs.Numbering.{token_number}
@@ -16,7 +16,9 @@ use Rattle.exchange_model.specs.Laws.{IsContinued}
 use Rattle.history_laws.specs.Readings.{Noted}
 use Rattle.history_laws.specs.Sealing.{MaySeal}
 use Rattle.history_laws.specs.Justified.{Stands}
+use Rattle.observe_share.specs.declared.registration.Registration.{Registration}
 use Rattle.exchange_model.specs.declared.kept.Exchange.{Exchange}
+use Rattle.exchange_model.specs.Watching.{wants}
 use Rattle.exchange_model.specs.State.{State, link_of}
 use Rattle.exchange_model.specs.Steps.{opens, shuts, seals, Numbers}
 use Rattle.exchange_model.specs.Resting.{LinkRests, Rests, HasConn}
@@ -45,6 +47,7 @@ start = record {
   readers = [];
   exchanges = [];
   pieces = [];
+  watches = [];
   store = [];
   links = [];
 }
@@ -81,9 +84,9 @@ IsProper (Requests q) = Unit {0}
 IsProper (Refuses cause status) = IsRefusal cause
 
 -- Its first message is spelled under the next token, and its body keeps the limit.
-pub record IsNumbered (q : CoapRequest) (n : Numbers) (S : State) : Type 0 where
+pub record IsNumbered (a : Ask) (q : CoapRequest) (n : Numbers) (S : State) : Type 0 where
   pub short : length q.body ≤ MAX_BODY_LEN
-  pub spelled : Spells (first_message q 0 n.token) n.text
+  pub spelled : Spells (opening_message (wants a q S.watches) q 0 n.token) n.text
   pub token_size : length n.token ≡ 8
   pub number : token_number n.token ≡ S.issued
 
@@ -92,7 +95,7 @@ AsksKeeps =
     (t c : ℕ) (a : Ask) (n : Numbers) (S : State)
     → MayStep t S → HasConn S.conns c None → IsProper a.sense
     → ((q : CoapRequest) → a.sense ≡ Requests q → IsAlone t q S → has_place t q.peer S ≡ true
-    → IsNumbered q n S)
+    → IsNumbered a q n S)
     → Kept (asked t c a n S)
 
 -- Where an exchange goes on by the datagram, its next message may follow.
@@ -109,10 +112,12 @@ HearsKeeps =
 abbrev pub TicksKeeps : Type 0
 TicksKeeps = (t : ℕ) (S : State) → MayStep t S → Kept (ticked t S)
 
--- After a tick nothing is due at its moment: no copy, no message that waits, no end of an exchange.
+-- After a tick nothing is due at its moment: no copy, no message that waits, no end of an exchange, and
+-- no watch for what nobody asks any more.
 pub record IsDone (t : ℕ) (S : State) : Type 0 where
   pub links : (p : Peer) → LinkRests t (link_of S.links p)
   pub in_time : AllByRecursion (λ (e : Exchange). t < e.since + MAX_TRANSMIT_WAIT) S.exchanges
+  pub asked : AllByRecursion (λ (r : Registration). t < r.asked + 120000) S.watches
 
 abbrev pub TicksDo : Type 0
 TicksDo = (t : ℕ) (S : State) → MayStep t S → IsDone t (ticked t S)

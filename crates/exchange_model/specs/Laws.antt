@@ -11,7 +11,7 @@ use Rattle.message_layer.specs.declared.state.Waiting.{Waiting}
 use Rattle.message_layer.specs.declared.state.Outstanding.{Outstanding}
 use Rattle.message_layer.specs.declared.verdict.Verdict.{Verdict}
 use Rattle.resp_cache.specs.Stored.{Stored}
-use Rattle.ask_model.specs.Requests.{CoapRequest, Requests, first_message}
+use Rattle.ask_model.specs.Requests.{CoapRequest, Requests, opening_message}
 use Rattle.ask_model.specs.Views.{Ask}
 use Rattle.ask_model.specs.Sharing.{asked_key}
 use Rattle.journal_book.specs.Entries.{Grounds, Opens, Asks, Sends, Hears, Passes, Answers, Shuts, Seals}
@@ -28,6 +28,7 @@ use Rattle.history_laws.specs.Storing.{MissesAlone}
 use Rattle.history_laws.specs.Joining as H
 use Rattle.history_links.specs.Agrees.{due}
 use Rattle.history_links.specs.Steps.{MaySend, copy, first, heard, reset}
+use Rattle.exchange_model.specs.Watching.{wants}
 use Rattle.exchange_model.specs.State.{State, link_of}
 use Rattle.exchange_model.specs.Reads.{Reads}
 use Rattle.exchange_model.specs.Calls.{served_in}
@@ -100,7 +101,8 @@ BeginsLeads =
     (S : State)
     → Before l t S → MayCome l → MayAsk l c
     → a.sense ≡ Requests q → MissesAlone l t q → H.joins l q ≡ None → has_room l t q ≡ true → length q.body ≤ MAX_BODY_LEN
-    → Spells (first_message q 0 token) text → length token ≡ 8 → token_number token ≡ S.issued
+    → Spells (opening_message (wants a q S.watches) q 0 token) text
+    → length token ≡ 8 → token_number token ≡ S.issued
     → Leads l (noted t (Asks c a) (Begins q)) (begins t c a q token text word S)
 
 -- The message that waits first at an endpoint goes out where nothing is outstanding there.
@@ -161,7 +163,7 @@ pub record IsContinued (e : Exchange) (progress : Progress) (n : Numbers) (S : S
   pub request : CoapRequest
   pub asked : asked_in S.entries e.opening ≡ Some request
   pub message : Content
-  pub next : next_message request progress 0 n.token ≡ Some message
+  pub next : next_message false request progress 0 n.token ≡ Some message
   pub spelled : Spells message n.text
   pub token_size : length n.token ≡ 8
   pub number : token_number n.token ≡ S.issued

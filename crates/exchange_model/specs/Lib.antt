@@ -1,3 +1,4 @@
+pub mod Watching
 pub mod State
 pub mod Reads
 pub mod Steps

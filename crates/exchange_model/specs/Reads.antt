@@ -1,10 +1,11 @@
 -- A state says what a history says.
-use Rattle.std.specs.Prelude.{◌≡◌, ◌⊎◌, ⊤, ℕ, ◌+◌, ◌<◌, ◌≤◌, max, Bool, true, false, not, List, [], ◌∷◌, ◌++◌, length, map, Option, Some, None, is_some, ◌==◌, if◌then◌else◌}
+use Rattle.std.specs.Prelude.{◌≡◌, ◌⊎◌, ⊤, ℕ, ◌+◌, ◌<◌, ◌≤◌, max, Bool, true, false, not, List, [], ◌∷◌, ◌++◌, length, map, Option, Some, None, is_some, if◌then◌else◌}
 use Rattle.std.specs.List.{AllByRecursion, Contains, list_any}
 use Rattle.limits.specs.declared.TheConstants.{MAX_BODY_LEN, MAX_NUMBERED}
 use Rattle.uri_map.specs.declared.peer.Peer.{Peer}
 use Rattle.message_layer.specs.declared.state.Waiting.{Waiting}
 use Rattle.cache_key.specs.Keys.{CacheKey}
+use Rattle.observe_share.specs.declared.registration.Registration.{Registration}
 use Rattle.resp_cache.specs.Stored.{Stored, is_never_fresh}
 use Rattle.resp_cache.specs.Stores.{is_of}
 use Rattle.resp_cache.specs.declared.pair.Pair.{Pair}
@@ -21,6 +22,7 @@ use Rattle.history_laws.specs.Transmissions.{FirstSending, firsts, first_at, sen
 use Rattle.history_laws.specs.Progress.{Reply, numbers, progress}
 use Rattle.history_laws.specs.Exchanges.{Begun, begun, issued, rank, replies, waits_for, open_exchanges}
 use Rattle.history_laws.specs.Justified.{Legal, IsNextConn}
+use Rattle.history_laws.specs.Observing.{Watch, asked_last, observes, outdated, watches}
 use Rattle.history_links.specs.Agrees.{Start, Agrees}
 use Rattle.exchange_model.specs.declared.kept.Conn.{Conn}
 use Rattle.exchange_model.specs.declared.kept.Exchange.{Exchange}
@@ -65,6 +67,11 @@ got_for (Some b) rs = got_by (progress b.request rs)
 abbrev pub got_in : List Noted → ℕ → List Reply
 got_in l o = got_for (begun l o) (replies l o)
 
+-- No notification that counts for the key came since the first of these replies.
+abbrev pub IsNewest : List Noted → CacheKey → List Reply → Bool → Type 0
+IsNewest l key [] current = ⊤
+IsNewest l key (r ∷ rs) current = outdated l key r.number ≡ not current
+
 -- What is kept of an exchange is what the history says of it.
 pub record ExchangeIn (start : Start) (l : List Noted) (e : Exchange) : Type 0 where
   pub request : CoapRequest
@@ -74,9 +81,12 @@ pub record ExchangeIn (start : Start) (l : List Noted) (e : Exchange) : Type 0 w
   pub number : start.issued + rank l e.opening ≡ token_number e.token
   pub sending : sent_last l e.opening ≡ e.sending
   pub awaits : waits_for l e.opening ≡ awaited_by e.awaits e.sending
+  pub observes : observes l e.opening ≡ e.observes
+  pub asked : asked_last l e.opening ≡ e.asked
   pub named : e.awaits ≡ true → is_some e.sending ≡ true
   pub sent : IsSentUnder l e.peer e.token (awaited_by e.awaits e.sending)
   pub current : e.current ≡ not (outrun l (asked_place request) e.opening)
+  pub newest : is_get request ≡ true → IsNewest l (asked_key request) (got_in l e.opening) e.newest
   pub progress : progress request (replies l e.opening) ≡ progress_with e.work (got_in l e.opening)
   pub short : length request.body ≤ MAX_BODY_LEN
   pub conn : ℕ
@@ -96,6 +106,10 @@ WaitsUnder ws e =
 
 abbrev pub opening_of : Exchange → ℕ
 opening_of e = e.opening
+
+-- what is kept of those that are observed
+abbrev pub held_of : Watch → Registration
+held_of w = w.held
 
 -- Each pair is what is stored for GETs of its key.
 pub record PairIn (l : List Noted) (p : Pair) : Type 0 where
@@ -149,6 +163,7 @@ pub record Reads (l : List Noted) (S : State) : Type 0 where
   pub keys : open_exchanges l ≡ map opening_of S.exchanges
   pub exchanges_are : AllByRecursion (ExchangeIn start l) S.exchanges
   pub pieces_are : PiecesIn l S.exchanges S.pieces
+  pub watches_are : map held_of (watches l) ≡ S.watches
   pub store_is : StoreIn l S.store
   pub tokens_are :
       AllByRecursion (λ (f : FirstSending). token_number f.message.token < S.issued) (firsts l)

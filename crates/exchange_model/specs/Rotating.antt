@@ -126,7 +126,7 @@ fault_of t S =
     else (if is_spent S then Some Spent
     else (if not (are_few (copies t S.entries)) then Some Crowded else None))))
 
--- what it goes on with: numbers, and what is remembered; what was stored is asked for anew
+-- what it goes on with: numbers, and what is remembered; what was stored or observed is asked for anew
 abbrev pub turned : ℕ → State → State
 turned t S = let ws = copies t S.entries in record {
   entries = ws;
@@ -138,6 +138,7 @@ turned t S = let ws = copies t S.entries in record {
   readers = [];
   exchanges = [];
   pieces = [];
+  watches = [];
   store = [];
   links = filter (has_copy ws) (map (keep_peer t) S.links);
 }

@@ -3,6 +3,7 @@ use Rattle.std.specs.Prelude.{ℕ, Bool, not, ◌==◌, List, [], ◌∷◌, ◌
 use Rattle.uri_map.specs.declared.peer.Peer.{Peer}
 use Rattle.uri_map.specs.Peers.{same_peer}
 use Rattle.message_layer.specs.Values.{LinkState, empty_link}
+use Rattle.observe_share.specs.declared.registration.Registration.{Registration}
 use Rattle.resp_cache.specs.declared.pair.Pair.{Pair}
 use Rattle.journal_book.specs.Entries.{Deed, Opens, Asks, Answers, Shuts, Written}
 use Rattle.exchange_model.specs.declared.kept.Conn.{Conn}
@@ -31,6 +32,8 @@ pub record State : Type 0 where
   pub pieces : List Piece
   -- who waits for an exchange, in the order of their asks
   pub readers : List Reader
+  -- what is observed, in the order of registration (RFC 7641 section 1.2)
+  pub watches : List Registration
   -- the responses that are stored, the last used first
   pub store : List Pair
   -- the endpoints, in the order in which they were first asked for something

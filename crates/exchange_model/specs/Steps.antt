@@ -16,9 +16,14 @@ use Rattle.message_layer.specs.declared.state.Outstanding.{Outstanding}
 use Rattle.message_layer.specs.declared.verdict.Verdict.{Verdict}
 use Rattle.message_layer.specs.declared.verdict.News.{News}
 use Rattle.message_layer.specs.declared.verdict.News.TheVariants as N
-use Rattle.cache_key.specs.Keys.{CacheKey}
+use Rattle.cache_key.specs.Keys.{CacheKey, same_key}
+use Rattle.observe_share.specs.declared.registration.Registration.{Registration}
+use Rattle.observe_share.specs.declared.notice.Notice.{Notice}
+use Rattle.observe_share.specs.declared.notice.Notice.TheVariants.{Update, Other}
+use Rattle.observe_share.specs.Watches.{is_idle, noticed, without}
+use Rattle.observe_share.specs.Watches as Watches
 use Rattle.resp_cache.specs.Stored.{Stored, stored_of}
-use Rattle.resp_cache.specs.Stores.{is_elsewhere, moved, placed}
+use Rattle.resp_cache.specs.Stores.{is_elsewhere, moved, others, placed}
 use Rattle.resp_cache.specs.declared.pair.Pair.{Pair}
 use Rattle.ask_model.specs.Requests.{CoapRequest, Sense, Requests, Refuses}
 use Rattle.ask_model.specs.Sharing.{asked_key, asked_place, is_get, writes_to}
@@ -29,13 +34,15 @@ use Rattle.blockwise.specs.Uploads.{begun}
 use Rattle.history_laws.specs.Responses.{Response}
 use Rattle.history_laws.specs.Progress.{Reply, numbers, Ending, Whole, Reset, Turned, Progress, Fetches, Gives, Ends, step}
 use Rattle.history_laws.specs.Storing.{content}
-use Rattle.history_links.specs.Steps.{ended_token, heard_link, is_over, passed_link}
+use Rattle.history_laws.specs.Observing.{as_first, notice_in}
+use Rattle.history_links.specs.Steps.{ended_token, heard_link, is_over, lets_go, passed_link}
 use Rattle.exchange_model.specs.declared.kept.Exchange.{Exchange}
 use Rattle.exchange_model.specs.declared.kept.Piece.{Piece}
 use Rattle.exchange_model.specs.declared.kept.Reader.{Reader}
 use Rattle.exchange_model.specs.declared.kept.Work.{Work}
 use Rattle.exchange_model.specs.declared.kept.Work.TheVariants as W
 use Rattle.exchange_model.specs.State.{PeerLink, State, link_of, with_link, conns_after, readers_after}
+use Rattle.exchange_model.specs.Watching.{counts_to, is_one_of, is_renewed_by, is_written_by, registered, registers, tokens_of, touched, wants}
 
 -- one entry more, and what it does to the connections and to who waits
 abbrev pub entered : ℕ → Deed → State → State
@@ -52,7 +59,7 @@ opens t S = let S1 = entered t (Opens S.opened) S in record S1 { opened = S.open
 
 -- an ask that opens nothing; an answer; a connection is shut; the journal is sealed
 abbrev pub asks : ℕ → ℕ → Ask → State → State
-asks t c a S = entered t (Asks c a) S
+asks t c a S = let S1 = entered t (Asks c a) S in record S1 { watches = touched t a.sense S.watches }
 
 abbrev pub answers : ℕ → ℕ → ℕ → Grounds → State → State
 answers t c k g S = entered t (Answers c k g) S
@@ -72,8 +79,8 @@ reader_for c S = record { ask = length S.entries; conn = c; opening = length S.e
 abbrev pub first_work : CoapRequest → Work
 first_work q = if q.method == 1 then W.Fetches 0 no_pieces else W.Gives (begun (length q.body) 6)
 
-abbrev pub exchange_for : ℕ → CoapRequest → List ℕ → State → Exchange
-exchange_for t q token S = record {
+abbrev pub exchange_for : ℕ → Ask → CoapRequest → List ℕ → State → Exchange
+exchange_for t a q token S = record {
   opening = length S.entries;
   token = token;
   since = t;
@@ -81,25 +88,41 @@ exchange_for t q token S = record {
   method = q.method;
   sending = None;
   awaits = false;
+  observes = wants a q S.watches;
+  asked = t;
   current = true;
+  newest = true;
   work = first_work q;
 }
+
+-- the link of its server, without what comes under the token of a watch that it renews
+abbrev pub unwatched : CoapRequest → State → LinkState
+unwatched q S =
+    lets_go (is_one_of (tokens_of (is_renewed_by q) S.watches)) (link_of S.links q.peer)
 
 abbrev pub begins : ℕ → ℕ → Ask → CoapRequest → List ℕ → List ℕ → ℕ → State → State
 begins t c a q token text word S = let S1 = entered t (Asks c a) S in record S1 {
   issued = S.issued + 1;
-  exchanges = S.exchanges ++ exchange_for t q token S ∷ [];
+  exchanges = S.exchanges ++ exchange_for t a q token S ∷ [];
   readers = S.readers ++ reader_for c S ∷ [];
-  links = with_link q.peer (queued t (waits token text word) (link_of S.links q.peer)) S.links;
+  watches = without (is_renewed_by q) S.watches;
+  links = with_link q.peer (queued t (waits token text word) (unwatched q S)) S.links;
 }
 
 -- An ask is answered from the store: its pair comes to the front.
 abbrev pub recalls : ℕ → ℕ → Ask → CacheKey → State → State
-recalls t c a key S = let S1 = entered t (Asks c a) S in record S1 { store = moved key t S.store }
+recalls t c a key S = let S1 = asks t c a S in record S1 { store = moved key t S.store }
 
 -- an ask reads an exchange that is open
+abbrev pub read_last : ℕ → ℕ → Exchange → ℕ
+read_last t o e = if e.opening == o then t else e.asked
+
+abbrev pub read_at : ℕ → ℕ → Exchange → Exchange
+read_at t o e = record e { asked = read_last t o e }
+
 abbrev pub joins : ℕ → ℕ → Ask → ℕ → State → State
-joins t c a o S = let S1 = entered t (Asks c a) S in record S1 {
+joins t c a o S = let S1 = asks t c a S in record S1 {
+  exchanges = map (read_at t o) S.exchanges;
   readers = S.readers ++ record { ask = length S.entries; conn = c; opening = o } ∷ [];
 }
 
@@ -203,10 +226,26 @@ progress_of S e = progress_with e.work (fetched_in S.entries e.opening S.pieces)
 abbrev pub comes_to : Content → State → Exchange → Progress
 comes_to m S e = step (progress_of S e) (reply_at (length S.entries) m)
 
--- what a message is to the exchanges
+-- A whole 2.05 is stored, and counts from the moment of its first reply, the entry of which stands before or is
+-- the one of this moment (RFC 7252 section 5.6.1).
+abbrev pub moment_in : List Written → ℕ → ℕ → ℕ
+moment_in ws t n = option_map_or (λ (w : Written). w.moment) (slice_get ws n) t
+
+abbrev pub stored_by : List Written → ℕ → ℕ → Response → List Reply → Option Stored
+stored_by ws t o w [] = None
+stored_by ws t o w (r ∷ rs) =
+    if w.code == content then Some (stored_of w o (moment_in ws t r.number) (numbers (r ∷ rs))) else None
+
+abbrev pub content_by : List Written → ℕ → ℕ → Ending → Option Stored
+content_by ws t o (Whole w rs) = stored_by ws t o w rs
+content_by ws t o how = None
+
+-- what a message is to the exchanges, and to what is observed
 pub data Matter : Type 0 where
   -- nothing
   Nothing : Matter
+  -- it is a notification that counts for this watch, and this is stored by it
+  Tells : (watch : Registration) → (found : Option Stored) → Matter
   -- by it the exchange goes on so
   Goes : (exchange : Exchange) → (progress : Progress) → Matter
   -- by it the exchange ends so
@@ -227,20 +266,46 @@ replied place e (Ends how) = Over e how
 replied true e progress = Goes e progress
 replied false e progress = Over e Turned
 
-abbrev pub matter_by : News → Bool → Content → State → Option Exchange → Matter
-matter_by news place m S None = Nothing
-matter_by (N.Reset token) place m S (Some e) = Over e Reset
-matter_by news place m S (Some e) = replied place e (comes_to m S e)
+-- What comes under the token of a watch alone: a whole update is stored.
+abbrev pub found_in : ℕ → State → Notice → ℕ → Progress → Option Stored
+found_in t S (Update v) o (Ends how) = content_by S.entries t o how
+found_in t S notice o progress = None
+
+abbrev pub tells_of : ℕ → Content → State → Option Registration → Matter
+tells_of t m S None = Nothing
+tells_of t m S (Some r) =
+    if counts_to t m r
+    then Tells r (found_in t S (notice_in m) r.opening (as_first (length S.entries) 0 m))
+    else Nothing
+
+abbrev pub told_alone : ℕ → News → Content → State → Matter
+told_alone t N.Response m S = tells_of t m S (find (Watches.is_under m.token) S.watches)
+told_alone t news m S = Nothing
+
+abbrev pub matter_by : ℕ → News → Bool → Content → State → Option Exchange → Matter
+matter_by t news place m S None = told_alone t news m S
+matter_by t (N.Reset token) place m S (Some e) = Over e Reset
+matter_by t news place m S (Some e) = replied place e (comes_to m S e)
 
 abbrev pub matter_of : ℕ → Peer → Content → Verdict → State → Matter
 matter_of t p m v S =
-    matter_by v.news (has_next_place t p v S) m S (answered_in (ended_token v.news m.token) S.exchanges)
+    matter_by t v.news (has_next_place t p v S) m S (answered_in (ended_token v.news m.token) S.exchanges)
 
 -- what the next message of an exchange is handed in with: its token and bytes, and a random word
 pub record Numbers : Type 0 where
   pub token : List ℕ
   pub text : List ℕ
   pub word : ℕ
+
+abbrev pub got_by : Progress → List Reply
+got_by (Fetches restarts pieces got) = got
+got_by (Gives upload got) = got
+got_by (Ends how) = []
+
+-- The first of its replies is newer than all that was told before it.
+abbrev pub newest_by : List Reply → Bool → Bool
+newest_by (r ∷ []) old = true
+newest_by rs old = old
 
 -- An exchange that goes on has its next message under this token.
 abbrev pub work_by : Progress → Work → Work
@@ -249,14 +314,29 @@ work_by (Gives upload got) old = W.Gives upload
 work_by (Ends how) old = old
 
 abbrev pub continued : List ℕ → Progress → Exchange → Exchange
-continued token progress e =
-    record e { token = token; awaits = false; work = work_by progress e.work }
+continued token progress e = record e {
+  token = token;
+  awaits = false;
+  observes = false;
+  newest = newest_by (got_by progress) e.newest;
+  work = work_by progress e.work;
+}
 
 abbrev pub goes_so : Exchange → List ℕ → Progress → Exchange → Exchange
 goes_so e token progress x = if is_under e.token x then continued token progress x else x
 
+-- What is fetched of a key is out of date where a notification of that counts.
+abbrev pub reads_key : CacheKey → CoapRequest → Bool
+reads_key key q = is_get q && same_key (asked_key q) key
+
+abbrev pub outdated_by : List Written → CacheKey → Exchange → Exchange
+outdated_by ws key e =
+    if option_map_or (reads_key key) (asked_in ws e.opening) false
+    then record e { newest = false } else e
+
 abbrev pub exchanges_by : List Written → List ℕ → Matter → List Exchange → List Exchange
 exchanges_by ws token Nothing es = es
+exchanges_by ws token (Tells r found) es = map (outdated_by ws r.key) es
 exchanges_by ws token (Goes e progress) es = map (goes_so e token progress) es
 exchanges_by ws token (Over e how) es = left_by ws (e ∷ []) (filter (is_other e.token) es)
 
@@ -268,13 +348,9 @@ abbrev pub pieces_with : Exchange → ℕ → List Reply → List Piece → List
 pieces_with e n [] xs = filter (is_of_other e) xs
 pieces_with e n (r ∷ rs) xs = xs ++ record { opening = e.opening; number = n } ∷ []
 
-abbrev pub got_by : Progress → List Reply
-got_by (Fetches restarts pieces got) = got
-got_by (Gives upload got) = got
-got_by (Ends how) = []
-
 abbrev pub pieces_by : ℕ → Matter → List Piece → List Piece
 pieces_by n Nothing xs = xs
+pieces_by n (Tells r found) xs = xs
 pieces_by n (Goes e progress) xs = pieces_with e n (got_by progress) xs
 pieces_by n (Over e how) xs = filter (is_of_other e) xs
 
@@ -290,20 +366,6 @@ more_by n matter = None
 abbrev pub link_with : ℕ → Option Waiting → LinkState → LinkState
 link_with t None s = s
 link_with t (Some w) s = queued t w s
-
--- A whole 2.05 is stored, and counts from the moment of its first reply, the entry of which stands before or is
--- the one of this moment (RFC 7252 section 5.6.1).
-abbrev pub moment_in : List Written → ℕ → ℕ → ℕ
-moment_in ws t n = option_map_or (λ (w : Written). w.moment) (slice_get ws n) t
-
-abbrev pub stored_by : List Written → ℕ → ℕ → Response → List Reply → Option Stored
-stored_by ws t o w [] = None
-stored_by ws t o w (r ∷ rs) =
-    if w.code == content then Some (stored_of w o (moment_in ws t r.number) (numbers (r ∷ rs))) else None
-
-abbrev pub content_by : List Written → ℕ → ℕ → Ending → Option Stored
-content_by ws t o (Whole w rs) = stored_by ws t o w rs
-content_by ws t o how = None
 
 abbrev pub put_by : Option Stored → CacheKey → List Pair → List Pair
 put_by None key ps = ps
@@ -329,20 +391,60 @@ abbrev pub retired : List Written → List Exchange → List Pair → List Pair
 retired ws [] ps = ps
 retired ws (e ∷ es) ps = retired ws es (settled ws (Some e) None ps)
 
+-- None is stored where a newer notification came.
+abbrev pub is_newest : Exchange → Ending → Bool
+is_newest e (Whole w rs) = newest_by rs e.newest
+is_newest e how = false
+
+abbrev pub newest_content : List Written → ℕ → Exchange → Ending → Option Stored
+newest_content ws t e how = if is_newest e how then content_by ws t e.opening how else None
+
+-- A notification takes the place of what is stored for its key, or takes that out.
+abbrev pub retold : CacheKey → Option Stored → List Pair → List Pair
+retold key None ps = others key ps
+retold key (Some s) ps = put_by (Some s) key ps
+
 abbrev pub store_by : List Written → ℕ → Matter → List Pair → List Pair
-store_by ws t (Over e how) ps = settled ws (Some e) (content_by ws t e.opening how) ps
+store_by ws t (Over e how) ps = settled ws (Some e) (newest_content ws t e how) ps
+store_by ws t (Tells r found) ps = retold r.key found ps
 store_by ws t matter ps = ps
+
+-- What is observed after it: the reply to a message that asked for that registers, a notification counts, and with
+-- a write those of its place end.
+abbrev pub watches_by : ℕ → Content → List Written → Matter → List Registration → List Registration
+watches_by t m ws Nothing rs = rs
+watches_by t m ws (Tells r found) rs = noticed m.token (notice_in m) t rs
+watches_by t m ws (Goes e progress) rs = registered t m e (asked_in ws e.opening) rs
+watches_by t m ws (Over e how) rs =
+    without (is_written_by (asked_in ws e.opening)) (registered t m e (asked_in ws e.opening) rs)
+
+-- Under these tokens nothing is expected any more.
+abbrev pub unless_registered : Content → Exchange → List Registration → List (List ℕ)
+unless_registered m e rs = if registers m e rs then [] else e.token ∷ []
+
+abbrev pub unless_updated : Notice → Registration → List (List ℕ)
+unless_updated (Update v) r = []
+unless_updated (Other v) r = r.token ∷ []
+
+abbrev pub gone_by : Content → List Written → Matter → List Registration → List (List ℕ)
+gone_by m ws Nothing rs = []
+gone_by m ws (Tells r found) rs = unless_updated (notice_in m) r
+gone_by m ws (Goes e progress) rs = unless_registered m e rs
+gone_by m ws (Over e how) rs =
+    unless_registered m e rs ++ tokens_of (is_written_by (asked_in ws e.opening)) rs
 
 -- The entry of a message, and all that it does but for what goes out and is answered then.
 abbrev pub hears : ℕ → Peer → List ℕ → Content → Numbers → State → State
 hears t p d m n S =
     let s = link_of S.links p in let v = verdict_of t s m in let x = matter_of t p m v S in
+    let gone = is_one_of (gone_by m S.entries x S.watches) in
     let S1 = entered t (Hears p d) S in record S1 {
       issued = issued_by x S.issued;
       exchanges = exchanges_by S.entries n.token x S.exchanges;
       pieces = pieces_by (length S.entries) x S.pieces;
+      watches = watches_by t m S.entries x S.watches;
       store = store_by S.entries t x S.store;
-      links = with_link p (link_with t (more_by n x) (heard_link t m.mid m.token v s)) S.links;
+      links = with_link p (link_with t (more_by n x) (heard_link t m.mid m.token gone v s)) S.links;
     }
 
 -- A tick ends the exchanges that have been open for as long as they may, and those whose message
@@ -363,10 +465,19 @@ timed_out t S = filter (expires t S.links) S.exchanges
 abbrev pub goes_on : ℕ → State → Exchange → Bool
 goes_on t S e = not (expires t S.links e)
 
+-- It ends what nobody asked for in a while, and what is at a place that one of them writes to.
+abbrev pub is_written_late : List Written → List Exchange → Registration → Bool
+is_written_late ws over r =
+    list_any (λ (e : Exchange). is_written_by (asked_in ws e.opening) r) over
+
+abbrev pub is_unwatched : ℕ → State → Registration → Bool
+is_unwatched t S r = is_idle t r || is_written_late S.entries (timed_out t S) r
+
 -- the token of one that ends
 abbrev pub is_gone : ℕ → State → List ℕ → Bool
 is_gone t S token =
     list_any (λ (e : Exchange). is_under token e && expires t S.links e) S.exchanges
+    || is_one_of (tokens_of (is_unwatched t S) S.watches) token
 
 abbrev pub passed : ℕ → State → PeerLink → PeerLink
 passed t S x = record { peer = x.peer; link = passed_link t (is_gone t S) x.link }
@@ -379,6 +490,7 @@ abbrev pub passes : ℕ → State → State
 passes t S = let S1 = entered t Passes S in record S1 {
   pieces = filter (is_of_none (timed_out t S)) S.pieces;
   exchanges = left_by S.entries (timed_out t S) (filter (goes_on t S) S.exchanges);
+  watches = without (is_unwatched t S) S.watches;
   store = retired S.entries (timed_out t S) S.store;
   links = map (passed t S) S.links;
 }

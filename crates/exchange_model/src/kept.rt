@@ -27,8 +27,14 @@ pub struct Exchange {
     pub sending: Option<u32>,
     /// that is of its latest message, to which a reply is awaited
     pub awaits: bool,
+    /// its next message asks to observe what it reads (RFC 7641 section 3.1)
+    pub observes: bool,
+    /// the moment of the last ask that reads it
+    pub asked: u64,
     /// no write to its place has ended since it was opened, so that equal GETs may join it
     pub current: bool,
+    /// no notification that counts has come since the first of its replies (RFC 7641 section 3.4)
+    pub newest: bool,
     /// how far it has come by its replies
     pub work: Work,
 }

@@ -1,4 +1,5 @@
-use Rattle.exchange_model.proofs.Stepping.{start-keeps, kept-stands, opens-keeps, shuts-keeps, seals-keeps, asks-keeps}
+use Rattle.exchange_model.proofs.Started.{start-keeps}
+use Rattle.exchange_model.proofs.Stepping.{kept-stands, opens-keeps, shuts-keeps, seals-keeps, asks-keeps}
 use Rattle.exchange_model.proofs.laws.step_keeps.Goals as goal
 
 pub returns-clause-start : goal.returns-clause-start
