@@ -34,14 +34,16 @@ room_at (x ∷ xs) (r ∷ rs) spare p = if same_peer x.peer p then r else room_a
 abbrev pub link_at : TableValue → Peer → LinkValue
 link_at v p = record { state = link_of v.links p; room = room_at v.links v.rooms v.spare p }
 
--- the links after the endpoint's took the message, and gave out what it had
-abbrev pub submitted_to : Peer → ℕ → Waiting → List PeerLink → List PeerLink
-submitted_to p t w xs = with_link p (given_out (submitted t w (link_of xs p))) xs
+-- the links after the endpoint's took the message, awaits nothing more under these tokens, and gave
+-- out what it had
+abbrev pub submitted_to : Peer → ℕ → Waiting → List (List ℕ) → List PeerLink → List PeerLink
+submitted_to p t w gone xs =
+    with_link p (given_out (awaits_no_more gone (submitted t w (link_of xs p)))) xs
 
 -- a link after the datagram that was prepared and the message that was prepared after it, if one
--- was, which awaits nothing more under the token that is over, and gave out all
-abbrev pub heeds : ℕ → Heeding → Option Submission → Option (List ℕ) → LinkState → LinkState
-heeds t x more over s = given_out (awaits_no_more over (followed t more (heeded t x s)))
+-- was, which awaits nothing more under these tokens, and gave out all
+abbrev pub heeds : ℕ → Heeding → Option Submission → List (List ℕ) → LinkState → LinkState
+heeds t x more gone s = given_out (awaits_no_more gone (followed t more (heeded t x s)))
 
 -- what stands behind a table
 

@@ -111,26 +111,31 @@ impl Endpoints {
     }
 
     /// The endpoint's link, which has not changed since, takes the message, and gives out nothing by
-    /// itself.
-    pub fn submit(&mut self, peer: Peer, submission: Submission, moment: u64)
+    /// itself. Nothing is awaited any more under the tokens that are gone.
+    pub fn submit(&mut self, peer: Peer, submission: Submission, gone: &[Token], moment: u64)
         requires early { moment ≤ LAST_MOMENT }
         requires ready { MaySubmit moment (link_at self.old peer) submission }
-        ensures { self.new.links ≡ submitted_to peer moment submission.waiting self.old.links }
+        ensures { self.new.links
+            ≡ submitted_to peer moment submission.waiting gone.now self.old.links }
     {
         match self.hints.find(&self.rows, &peer) {
-            Some(place) => {
-                rows::submit_at(&mut self.rows, &mut self.dues, place, submission, moment)
-            }
-            None => {
-                rows::submit_spare(
-                    &mut self.rows,
-                    &mut self.dues,
-                    &mut self.spare,
-                    peer,
-                    submission,
-                    moment,
-                )
-            }
+            Some(place) => rows::submit_at(
+                &mut self.rows,
+                &mut self.dues,
+                place,
+                submission,
+                gone,
+                moment,
+            ),
+            None => rows::submit_spare(
+                &mut self.rows,
+                &mut self.dues,
+                &mut self.spare,
+                peer,
+                submission,
+                gone,
+                moment,
+            ),
         }
     }
 
@@ -183,14 +188,14 @@ impl Endpoints {
     }
 
     /// The endpoint's link, which has not changed since, does what was prepared, and takes the
-    /// message that was prepared after it, if one was. Nothing is awaited any more under the token
-    /// that is over.
+    /// message that was prepared after it, if one was. Nothing is awaited any more under the tokens
+    /// that are gone.
     pub fn heed(
         &mut self,
         peer: &Peer,
         heeding: Heeding,
         more: Option<Submission>,
-        over: Option<Token>,
+        gone: &[Token],
         moment: u64,
     )
         requires early { moment ≤ LAST_MOMENT }
@@ -198,7 +203,7 @@ impl Endpoints {
         requires follows { MayFollow moment (link_at self.old peer.now) heeding more }
         requires known { is_some (link_of self.old.links peer.now).last_mid ≡ true }
         ensures { self.new.links
-            ≡ with_link peer.now (heeds moment heeding more over (link_of self.old.links peer.now))
+            ≡ with_link peer.now (heeds moment heeding more gone.now (link_of self.old.links peer.now))
             self.old.links }
     {
         if let Some(place) = self.hints.find(&self.rows, peer) {
@@ -208,7 +213,7 @@ impl Endpoints {
                 place,
                 heeding,
                 more,
-                over,
+                gone,
                 moment,
             );
         }

@@ -1,12 +1,14 @@
 //! The links of the endpoints, of which one takes a message or a datagram.
 
-ghost use Rattle.std.specs.Prelude.{◌≡◌, ◌≤◌, ◌<◌, ◌∷◌, ◌++◌, [], Bool, Some, None, IfOk, length, map, slice_get, vec_len, vec_capacity};
+ghost use Rattle.std.specs.Prelude.{◌≡◌, ◌≤◌, ◌<◌, ◌∷◌, ◌++◌, [], Bool, false, Some, None, IfOk, length, map, slice_get, vec_len, vec_capacity};
 ghost use Rattle.std.specs.List.{list_all};
 ghost use Rattle.limits.specs.declared.TheConstants.{LAST_MOMENT};
 ghost use Rattle.uri_map.specs.declared.peer.Peer.{Peer as PeerValue};
+ghost use Rattle.message_layer.specs.Calls.{expected};
 ghost use Rattle.message_layer.specs.Values.{empty_link};
 ghost use Rattle.message_layer.specs.Sending.{submitted, IsSubmitted, is_over_by};
 ghost use Rattle.message_layer.specs.Prepared.{heeded, link_after, IsPreparedFor, IsSubmission, IsUnnumberedCon, MayFollow, MayHeed, MaySubmit};
+ghost use Rattle.exchange_model.specs.Entering.{awaits_no_more};
 ghost use Rattle.exchange_model.specs.State.{link_of, with_link};
 ghost use Rattle.exchange_model.specs.Steps.{given_out};
 ghost use Rattle.endpoint_table.specs.declared.endpoint.Endpoint.{Endpoint as EndpointValue};
@@ -92,33 +94,56 @@ pub fn prepare_spare(
     Ok(submission)
 }
 
-/// The link takes the message, and gives out nothing by itself.
-fn submit_to(link: &mut Link, submission: Submission, moment: u64)
+/// The link awaits nothing more under the token.
+fn let_go(link: &mut Link, token: &Token)
+    ensures { link.new.state ≡ expected token.now false link.old.state }
+{
+    match link.expect(token, false) {
+        Ok(()) => {}
+        Err(_) => unreachable!(),
+    }
+}
+
+/// The link awaits nothing more under these tokens.
+fn let_go_all(link: &mut Link, gone: &[Token])
+    ensures { link.new.state ≡ awaits_no_more gone.now link.old.state }
+{
+    'each: for token in gone {
+        let_go(link, token);
+    }
+}
+
+/// The link takes the message, awaits nothing more under these tokens, and gives out nothing by
+/// itself.
+fn submit_to(link: &mut Link, submission: Submission, gone: &[Token], moment: u64)
     requires early { moment ≤ LAST_MOMENT }
     requires ready { MaySubmit moment link.old submission }
-    ensures { link.new.state ≡ given_out (submitted moment submission.waiting link.old.state) }
+    ensures { link.new.state
+        ≡ given_out (awaits_no_more gone.now (submitted moment submission.waiting link.old.state)) }
 {
     link.submit_prepared(submission, moment);
+    let_go_all(link, gone);
     link.clear_out();
 }
 
-/// The link of the endpoint takes the message.
-fn submit(endpoint: &mut Endpoint, submission: Submission, moment: u64)
+/// The link of the endpoint takes the message, and awaits nothing more under these tokens.
+fn submit(endpoint: &mut Endpoint, submission: Submission, gone: &[Token], moment: u64)
     requires early { moment ≤ LAST_MOMENT }
     requires ready { MaySubmit moment endpoint.old.link submission }
     ensures peer { endpoint.new.peer ≡ endpoint.old.peer }
-    ensures link { endpoint.new.link.state
-        ≡ given_out (submitted moment submission.waiting endpoint.old.link.state) }
+    ensures link { endpoint.new.link.state ≡ given_out
+        (awaits_no_more gone.now (submitted moment submission.waiting endpoint.old.link.state)) }
 {
-    submit_to(&mut endpoint.link, submission, moment);
+    submit_to(&mut endpoint.link, submission, gone, moment);
 }
 
-/// The link in this place takes the message.
+/// The link in this place takes the message, and awaits nothing more under these tokens.
 pub fn submit_at(
     rows: &mut Vec<Endpoint>,
     dues: &mut Vec<Due>,
     place: usize,
     submission: Submission,
+    gone: &[Token],
     moment: u64,
 )
     requires dues { AreDues rows.old.items dues.old.items (vec_capacity dues.old) }
@@ -128,11 +153,11 @@ pub fn submit_at(
         → MaySubmit moment e.link submission }
     ensures links { (p : PeerValue) → IsFirstAt p (map peer_link rows.old.items) place
         → map peer_link rows.new.items
-        ≡ submitted_to p moment submission.waiting (map peer_link rows.old.items) }
+        ≡ submitted_to p moment submission.waiting gone.now (map peer_link rows.old.items) }
     ensures dues { AreDues rows.new.items dues.new.items (vec_capacity dues.new) }
 {
     let before = rows[place].link.next_due();
-    submit(&mut rows[place], submission, moment);
+    submit(&mut rows[place], submission, gone, moment);
     set_due(dues, place, before, rows[place].link.next_due());
 }
 
@@ -143,6 +168,7 @@ pub fn submit_spare(
     spare: &mut Option<Link>,
     peer: Peer,
     submission: Submission,
+    gone: &[Token],
     moment: u64,
 )
     requires early { moment ≤ LAST_MOMENT }
@@ -154,14 +180,14 @@ pub fn submit_spare(
           spare.old;
     }) submission }
     ensures links { HasNone peer (map peer_link rows.old.items) → map peer_link rows.new.items
-        ≡ submitted_to peer moment submission.waiting (map peer_link rows.old.items) }
+        ≡ submitted_to peer moment submission.waiting gone.now (map peer_link rows.old.items) }
     ensures dues { AreDues rows.new.items dues.new.items (vec_capacity dues.new) }
     ensures spare { spare.new ≡ None }
 {
     let Some(mut link) = spare.take() else {
         unreachable!()
     };
-    submit_to(&mut link, submission, moment);
+    submit_to(&mut link, submission, gone, moment);
     put_due(dues, rows.len(), link.next_due());
     rows.push_reserved(Endpoint { peer, link });
 }
@@ -227,12 +253,12 @@ pub fn prepare_more_at(
 }
 
 /// The endpoint's link does what was prepared, takes the message that was prepared after it, awaits
-/// nothing more under the token that is over, and gives out nothing by itself.
+/// nothing more under these tokens, and gives out nothing by itself.
 fn heed(
     endpoint: &mut Endpoint,
     heeding: Heeding,
     more: Option<Submission>,
-    over: Option<Token>,
+    gone: &[Token],
     moment: u64,
 )
     requires early { moment ≤ LAST_MOMENT }
@@ -240,15 +266,10 @@ fn heed(
     requires follows { MayFollow moment endpoint.old.link heeding more }
     ensures peer { endpoint.new.peer ≡ endpoint.old.peer }
     ensures link { endpoint.new.link.state
-        ≡ heeds moment heeding more over endpoint.old.link.state }
+        ≡ heeds moment heeding more gone.now endpoint.old.link.state }
 {
     endpoint.link.hear_with_more_prepared(heeding, more, moment);
-    if let Some(token) = over {
-        match endpoint.link.expect(&token, false) {
-            Ok(()) => {}
-            Err(_) => unreachable!(),
-        }
-    }
+    let_go_all(&mut endpoint.link, gone);
     endpoint.link.clear_out();
 }
 
@@ -259,7 +280,7 @@ pub fn heed_at(
     place: usize,
     heeding: Heeding,
     more: Option<Submission>,
-    over: Option<Token>,
+    gone: &[Token],
     moment: u64,
 )
     requires place { place < length rows.old.items }
@@ -271,12 +292,12 @@ pub fn heed_at(
     requires dues { AreDues rows.old.items dues.old.items (vec_capacity dues.old) }
     ensures links { (p : PeerValue) → IsFirstAt p (map peer_link rows.old.items) place
         → map peer_link rows.new.items
-        ≡ with_link p (heeds moment heeding more over (link_of (map peer_link rows.old.items) p))
+        ≡ with_link p (heeds moment heeding more gone.now (link_of (map peer_link rows.old.items) p))
         (map peer_link rows.old.items) }
     ensures dues { AreDues rows.new.items dues.new.items (vec_capacity dues.new) }
 {
     let before = rows[place].link.next_due();
-    heed(&mut rows[place], heeding, more, over, moment);
+    heed(&mut rows[place], heeding, more, gone, moment);
     set_due(dues, place, before, rows[place].link.next_due());
 }
 

@@ -117,7 +117,7 @@ fn answer<R: Relation>(
 
 /// What a GET comes to by a piece of what it fetches, which the entry with this number bears: none
 /// where it is the last.
-fn fetch(restarts: u8, pieces: &Pieces, number: u32, m: &Message) -> Option<Coming>
+pub fn fetch(restarts: u8, pieces: &Pieces, number: u32, m: &Message) -> Option<Coming>
     requires { restarts ≤ 3 }
     ensures coming { (got : List Reply) → IfSome result (λ x. IsComing number x
         (fetched restarts pieces.now got (reply_at number (content m.now)))) }

@@ -10,5 +10,7 @@
 
 mod coming;
 mod fetching;
+mod notice;
 
 pub use coming::{Coming, Ended, Onward, comes_to};
+pub use notice::{comes_first, notice_of};

@@ -12,7 +12,7 @@ use Rattle.history_laws.proofs.CallerLemmas.{all-filter, all-more, all-push}
 use Rattle.exchange_model.proofs.CallerLemmas.{not-under}
 use Rattle.exchange_model.specs.declared.kept.Exchange.{Exchange}
 use Rattle.exchange_model.specs.declared.kept.Work.{Work}
-use Rattle.exchange_model.specs.Steps.{continued, goes_so, is_other, is_under, went_out, work_by}
+use Rattle.exchange_model.specs.Steps.{continued, goes_so, got_by, is_other, is_under, newest_by, went_out, work_by}
 use Rattle.exchange_table.specs.declared.index.Named.{Named}
 use Rattle.exchange_table.specs.Places.{RiseBy, IsNowhere, IsOnlyAt}
 use Rattle.exchange_table.specs.Tables.{IsIndexed, IsLatest, IsNewest, has_number, is_named, is_opened_at, is_opened_in, name_of, named_anew, opening_in, opening_under, number_in, number_of, opening_of, carried_on, went_on}
@@ -229,12 +229,12 @@ index-remove es names token i d indexed only lt = record {
 
 -- one goes on
 
-module _ (token next : List ℕ) (work : Work) where
+module _ (token next : List ℕ) (work : Work) (first : Bool) where
   abbrev goes : Exchange → Exchange
-  goes = went_on token next work
+  goes = went_on token next work first
 
   abbrev more : Exchange → Exchange
-  more e = carried_on next work e
+  more e = carried_on next work first e
 
   not-on : (e : Exchange) → is_under token e ≡ false → goes e ≡ e
   not-on e h = ap (λ (b : Bool). cond b (more e) e) h
@@ -327,14 +327,20 @@ module _ (token next : List ℕ) (work : Work) where
       (index-anew es names i d indexed only lt newest)
 
 -- One that goes on does so as a step of the core's state says.
-pub went-so : (e : Exchange) (next : List ℕ) (work : Work) (how : Progress) → ((old : Work) → work_by how old ≡ work) → (es : List Exchange)
-    → map (went_on e.token next work) es ≡ map (goes_so e next how) es
-went-so e next work how same [] = refl
-went-so e next work how same (x ∷ es) = by (is_under e.token x) (went-so e next work how same es)
+pub went-so : (e : Exchange) (next : List ℕ) (work : Work) (first : Bool) (how : Progress) → ((old : Work) → work_by how old ≡ work)
+    → ((old : Bool) → newest_by (got_by how) old ≡ first || old) → (es : List Exchange)
+    → map (went_on e.token next work first) es ≡ map (goes_so e next how) es
+went-so e next work first how same new [] = refl
+went-so e next work first how same new (x ∷ es) = by (is_under e.token x) (went-so e next work first how same new es)
   where
-    by : (b : Bool) → map (went_on e.token next work) es ≡ map (goes_so e next how) es
-        → (cond b (carried_on next work x) x ∷ map (went_on e.token next work) es) ≡ (cond b (continued next how x) x ∷ map (goes_so e next how) es)
-    by true ih = rw (ih) (ap (λ (w : Work). carried_on next w x ∷ map (goes_so e next how) es) (sym (same x.work)))
+    here : carried_on next work first x ≡ continued next how x
+    here =
+        ap (λ (w : Work). record x { token = next; awaits = false; observes = false; newest = first || x.newest; work = w }) (sym (same x.work))
+        ∙ ap (λ (b : Bool). record x { token = next; awaits = false; observes = false; newest = b; work = work_by how x.work }) (sym (new x.newest))
+
+    by : (b : Bool) → map (went_on e.token next work first) es ≡ map (goes_so e next how) es
+        → (cond b (carried_on next work first x) x ∷ map (went_on e.token next work first) es) ≡ (cond b (continued next how x) x ∷ map (goes_so e next how) es)
+    by true ih = rw (ih) (ap (λ (y : Exchange). y ∷ map (goes_so e next how) es) here)
     by false ih = ap (λ (ys : List Exchange). x ∷ ys) ih
 
 -- some of them

@@ -3,4 +3,5 @@ mod Standing
 mod Searching
 mod Indexed
 mod Outrun
+mod Reading
 mod Grouping

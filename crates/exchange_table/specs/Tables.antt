@@ -1,5 +1,5 @@
 -- The open exchanges, and the index of the tokens of their latest messages.
-use Rattle.std.specs.Prelude.{◌≡◌, ℕ, ◌<◌, Bool, true, false, ◌&&◌, ◌==◌, nat_lt, not, List, [], ◌∷◌, ◌++◌, Option, Some, None, option_map, filter, if◌then◌else◌}
+use Rattle.std.specs.Prelude.{◌≡◌, ℕ, ◌<◌, Bool, true, false, ◌&&◌, ◌||◌, ◌==◌, nat_lt, not, List, [], ◌∷◌, ◌++◌, Option, Some, None, option_map, filter, if◌then◌else◌}
 use Rattle.std.specs.List.{AllByRecursion, find, list_any}
 use Rattle.history_laws.specs.Numbering.{token_number}
 use Rattle.exchange_model.specs.declared.kept.Exchange.{Exchange}
@@ -64,12 +64,19 @@ pub record IsLatest (e : Exchange) (es : List Exchange) : Type 0 where
   pub opening : AllByRecursion (λ (f : Exchange). f.opening < e.opening) es
   pub token : IsNewest e.token es
 
--- The exchange under this token goes on with its next message under the next one, having come so far.
-abbrev pub carried_on : List ℕ → Work → Exchange → Exchange
-carried_on next work x = record x { token = next; awaits = false; work = work }
+-- The exchange under this token goes on with its next message under the next one, having come so far
+-- by its replies, of which this is the first or not.
+abbrev pub carried_on : List ℕ → Work → Bool → Exchange → Exchange
+carried_on next work first x = record x {
+  token = next;
+  awaits = false;
+  observes = false;
+  newest = first || x.newest;
+  work = work;
+}
 
-abbrev pub went_on : List ℕ → List ℕ → Work → Exchange → Exchange
-went_on token next work x = if is_under token x then carried_on next work x else x
+abbrev pub went_on : List ℕ → List ℕ → Work → Bool → Exchange → Exchange
+went_on token next work first x = if is_under token x then carried_on next work first x else x
 
 -- the exchanges, and whether one more can be opened without memory
 pub record TableValue : Type 0 where

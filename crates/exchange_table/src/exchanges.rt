@@ -3,11 +3,12 @@
 ghost use Rattle.std.specs.Prelude.{◌≡◌, ◌∷◌, ◌++◌, [], Bool, true, false, filter, find, length, map, IfOk, OnErr, OnOk};
 ghost use Rattle.std.specs.Option.{option_copied};
 ghost use Rattle.exchange_model.specs.declared.kept.Exchange.{Exchange as Row};
-ghost use Rattle.exchange_model.specs.Steps.{is_other, is_under, left_by, went_out};
+ghost use Rattle.exchange_model.specs.Steps.{is_other, is_under, left_by, outdated_by, read_at, went_out};
 ghost use Rattle.exchange_table.specs.Tables.{IsIndexed, IsLatest, IsNewest, went_on};
 
 use crate::index::{self, Named};
 use crate::{outrunning, rows};
+use cache_key::Key;
 use coap_codec::Token;
 use exchange_model::{Exchange, Work};
 use journal_book::Journal;
@@ -101,14 +102,33 @@ impl Exchanges {
     }
 
     /// The exchange under the token goes on with its next message under the next token, which was
-    /// issued after those of all others, having come so far by its replies. It takes no memory.
-    pub fn go_on(&mut self, token: &Token, next: &Token, work: Work)
+    /// issued after those of all others, having come so far by its replies: what is fetched is new,
+    /// where this is the first of them. It takes no memory.
+    pub fn go_on(&mut self, token: &Token, next: &Token, work: Work, is_first: bool)
         requires { IsNewest next.now self.old.exchanges }
         ensures exchanges { self.new.exchanges
-            ≡ map (went_on token.now next.now work) self.old.exchanges }
+            ≡ map (went_on token.now next.now work is_first) self.old.exchanges }
         ensures room { self.new.room ≡ self.old.room }
     {
-        rows::go_on(&mut self.rows, &mut self.names, token, next, work);
+        rows::go_on(&mut self.rows, &mut self.names, token, next, work, is_first);
+    }
+
+    /// An ask reads at this moment what the exchange with this opening fetches. It takes no memory.
+    pub fn read(&mut self, opening: u32, moment: u64)
+        ensures exchanges { self.new.exchanges ≡ map (read_at moment opening) self.old.exchanges }
+        ensures room { self.new.room ≡ self.old.room }
+    {
+        rows::read(&mut self.rows, opening, moment);
+    }
+
+    /// A notification of this key counts: what exchanges fetch of that is out of date. It takes no
+    /// memory.
+    pub fn outdate<R: Relation>(&mut self, journal: &Journal<R>, key: &Key)
+        ensures exchanges { self.new.exchanges
+            ≡ map (outdated_by journal.now.entries key.now) self.old.exchanges }
+        ensures room { self.new.room ≡ self.old.room }
+    {
+        outrunning::outdate(&mut self.rows, journal, key);
     }
 
     /// An exchange has ended: where it was a write, GETs join those of its place no more.

@@ -1,7 +1,8 @@
 //! The pieces that open exchanges have fetched.
 
 ghost use Rattle.std.specs.Prelude.{◌≡◌, ◌≤◌, ◌∷◌, ◌++◌, [], true, false, filter, vec_capacity, vec_len, IfOk, OnErr, OnOk};
-ghost use Rattle.exchange_model.specs.Steps.{is_of_none};
+ghost use Rattle.exchange_model.specs.Steps.{is_of_none, is_piece_of};
+ghost use Rattle.std.specs.List.{list_any};
 ghost use Rattle.exchange_table.specs.Fetched.{is_not_of};
 ghost use Rattle.exchange_table.specs.Places.{RiseBy};
 ghost use Rattle.exchange_table.specs.Tables.{opening_of};
@@ -67,6 +68,13 @@ impl Fetched {
         &self.pieces
     }
 
+    /// Whether the exchange with this opening has fetched any.
+    pub fn has_any_of(&self, opening: u32) -> bool
+        ensures { result ≡ list_any (is_piece_of opening) self.now.pieces }
+    {
+        has_piece_of(&self.pieces, opening)
+    }
+
     /// Drops the pieces of the exchange with this opening. It takes no memory.
     pub fn drop_of(&mut self, opening: u32)
         ensures pieces { self.new.pieces ≡ filter (is_not_of opening) self.old.pieces }
@@ -93,6 +101,13 @@ impl Fetched {
             pieces: Vec::from_slice(alloc, &self.pieces)?,
         })
     }
+}
+
+/// Whether one of them is of the exchange with this opening.
+fn has_piece_of(pieces: &[Piece], opening: u32) -> bool
+    ensures { result ≡ list_any (is_piece_of opening) pieces.now }
+{
+    pieces.iter().any(|piece| piece.opening == opening)
 }
 
 /// Drops the pieces of the exchange with this opening.

@@ -1,10 +1,11 @@
 //! Exchanges that a write outruns.
 
-ghost use Rattle.std.specs.Prelude.{◌≡◌, ◌∷◌, [], option_and_then};
-ghost use Rattle.exchange_model.specs.Steps.{asked_in, left_by, request_in};
+ghost use Rattle.std.specs.Prelude.{◌≡◌, ◌∷◌, [], map, option_and_then};
+ghost use Rattle.exchange_model.specs.Steps.{asked_in, left_by, outdated_by, request_in};
 ghost use Rattle.exchange_table.specs.Outrunning.{is_write, outrun_with};
 
 use ask_model::{Mapped, Meaning};
+use cache_key::Key;
 use exchange_model::Exchange;
 use journal_book::{Event, Journal};
 use transformers::Relation;
@@ -56,5 +57,28 @@ pub fn outrun<R: Relation>(rows: &mut [Exchange], journal: &Journal<R>, ended: &
     }
     'each: for i in 0..rows.len() {
         outrun_row(&mut rows[i], journal, write);
+    }
+}
+
+/// What the row fetches is out of date, where it is of this key.
+fn outdate_row<R: Relation>(row: &mut Exchange, journal: &Journal<R>, key: &Key)
+    ensures { row.new ≡ outdated_by journal.now.entries key.now row.old }
+{
+    let Some(mapped) = asked(journal, row.opening) else {
+        return;
+    };
+    if let Some(reading) = mapped.reading() {
+        if key.is_of(&reading) {
+            row.newest = false;
+        }
+    }
+}
+
+/// A notification of this key counts: what is fetched of that is out of date.
+pub fn outdate<R: Relation>(rows: &mut [Exchange], journal: &Journal<R>, key: &Key)
+    ensures { rows.new ≡ map (outdated_by journal.now.entries key.now) rows.old }
+{
+    'each: for i in 0..rows.len() {
+        outdate_row(&mut rows[i], journal, key);
     }
 }

@@ -3,7 +3,7 @@
 ghost use Rattle.std.specs.Prelude.{◌≡◌, [], Some, true, filter, find, map, vec_capacity, vec_len};
 ghost use Rattle.std.specs.Option.{option_copied};
 ghost use Rattle.exchange_model.specs.Calls.{read_by};
-ghost use Rattle.exchange_model.specs.Steps.{is_other, is_under, went_out};
+ghost use Rattle.exchange_model.specs.Steps.{is_other, is_under, read_at, went_out};
 ghost use Rattle.exchange_table.specs.Places.{RiseBy};
 ghost use Rattle.exchange_table.specs.Tables.{IsIndexed, IsNewest, carried_on, opening_of, went_on};
 
@@ -49,27 +49,53 @@ pub fn note_sending(rows: &mut [Exchange], names: &[Named], token: &Token, numbe
 }
 
 /// The row goes on with its next message under this token.
-fn continue_row(row: &mut Exchange, next: &Token, work: Work)
-    ensures { row.new ≡ carried_on next.now work row.old }
+fn continue_row(row: &mut Exchange, next: &Token, work: Work, is_first: bool)
+    ensures { row.new ≡ carried_on next.now work is_first row.old }
 {
     row.token = *next;
     row.awaits = false;
+    row.observes = false;
+    row.newest = is_first || row.newest;
     row.work = work;
 }
 
 /// The row under the token goes on with its next message under the next one, which was issued after
 /// those of all others.
-pub fn go_on(rows: &mut [Exchange], names: &mut Vec<Named>, token: &Token, next: &Token, work: Work)
+pub fn go_on(
+    rows: &mut [Exchange],
+    names: &mut Vec<Named>,
+    token: &Token,
+    next: &Token,
+    work: Work,
+    is_first: bool,
+)
     requires indexed { IsIndexed rows.old names.old.items }
     requires newest { IsNewest next.now rows.old }
-    ensures rows { rows.new ≡ map (went_on token.now next.now work) rows.old }
+    ensures rows { rows.new ≡ map (went_on token.now next.now work is_first) rows.old }
     ensures names { IsIndexed rows.new names.new.items }
     ensures len { vec_len names.new ≡ vec_len names.old }
     ensures capacity { vec_capacity names.new ≡ vec_capacity names.old }
 {
     if let Some(place) = place_under(rows, names.as_slice(), token) {
-        continue_row(&mut rows[place], next, work);
+        continue_row(&mut rows[place], next, work, is_first);
         name_anew(names, number_of(token), number_of(next));
+    }
+}
+
+/// The row is read by an ask at this moment.
+fn read_row(row: &mut Exchange, moment: u64)
+    ensures { row.new ≡ record row.old { asked = moment } }
+{
+    row.asked = moment;
+}
+
+/// An ask reads at this moment the row that the entry with this number opened.
+pub fn read(rows: &mut [Exchange], opening: u32, moment: u64)
+    requires { RiseBy opening_of rows.old }
+    ensures { rows.new ≡ map (read_at moment opening) rows.old }
+{
+    if let Some(place) = opening_place(rows, opening) {
+        read_row(&mut rows[place], moment);
     }
 }
 

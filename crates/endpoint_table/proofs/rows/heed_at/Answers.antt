@@ -33,7 +33,7 @@ returns-clause-links c = λ p f.
     (c.heed.ensures.peer ∙ ap (λ (v : Endpoint). v.peer) c.index_mut.ensures.value)
     ∙ ap (λ (u : LinkState). with_link p u (map peer_link c.args.rows.now.items))
     (c.heed.ensures.link
-    ∙ ap (heeds c.args.moment c.args.heeding c.args.more c.args.over)
+    ∙ ap (heeds c.args.moment c.args.heeding c.args.more c.args.gone.now)
     (ap (λ (v : Endpoint). v.link.state) c.index_mut.ensures.value
     ∙ sym (state-there p c.args.rows.now.items c.args.place _ f
     (slice_get-get_or c.args.rows.now.items c.args.place c.index_mut.result.now

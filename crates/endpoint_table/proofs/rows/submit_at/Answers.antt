@@ -4,6 +4,7 @@ use Rattle.std.proofs.lemmas.Option.{slice_get-get_or}
 use Rattle.message_layer.specs.Prepared.{MaySubmit}
 use Rattle.message_layer.specs.Sending.{submitted}
 use Rattle.message_layer.specs.Values.{LinkState}
+use Rattle.exchange_model.specs.Entering.{awaits_no_more}
 use Rattle.exchange_model.specs.State.{with_link}
 use Rattle.exchange_model.specs.Steps.{given_out}
 use Rattle.endpoint_table.specs.declared.endpoint.Endpoint.{Endpoint}
@@ -28,7 +29,7 @@ returns-clause-links c = λ p f.
     (c.submit.ensures.peer ∙ ap (λ (v : Endpoint). v.peer) c.index_mut.ensures.value)
     ∙ ap (λ (u : LinkState). with_link p u (map peer_link c.args.rows.now.items))
     (c.submit.ensures.link
-    ∙ ap (λ (u : LinkState). given_out (submitted c.args.moment c.args.submission.waiting u))
+    ∙ ap (λ (u : LinkState). given_out (awaits_no_more c.args.gone.now (submitted c.args.moment c.args.submission.waiting u)))
     (ap (λ (v : Endpoint). v.link.state) c.index_mut.ensures.value
     ∙ sym (state-there p c.args.rows.now.items c.args.place _ f
     (slice_get-get_or c.args.rows.now.items c.args.place c.index_mut.result.now

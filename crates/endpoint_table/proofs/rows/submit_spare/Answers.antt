@@ -1,6 +1,7 @@
 use Rattle.std.proofs.Common.{◌≡◌, ℕ, Option, arith, ◌∷◌, ◌++◌, [], List, map, sym, ap, subst, ◌∙◌}
 use Rattle.message_layer.specs.Sending.{submitted}
 use Rattle.message_layer.specs.Values.{LinkState, empty_link}
+use Rattle.exchange_model.specs.Entering.{awaits_no_more}
 use Rattle.exchange_model.specs.State.{PeerLink, link_of}
 use Rattle.exchange_model.specs.Steps.{given_out}
 use Rattle.endpoint_table.specs.Tables.{peer_link, IsUnused}
@@ -17,7 +18,7 @@ returns-clause-links c = λ h.
     let p = c.args.peer in
     let links : List PeerLink = map peer_link c.args.rows.now.items in
     let after = λ (s : LinkState).
-    given_out (submitted c.args.moment c.args.submission.waiting s) in
+    given_out (awaits_no_more c.args.gone.now (submitted c.args.moment c.args.submission.waiting s)) in
     let empty : c.in-Some.link.state ≡ empty_link =
     subst IsUnused (sym c.take.ensures.value ∙ c.in-Some.is) c.requires.unused in
     let state : c.submit_to.new.link.state ≡ after (link_of links p) =
