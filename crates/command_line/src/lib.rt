@@ -20,5 +20,5 @@ pub use fault::{Reason, ReplayFault};
 pub use report::{Failure, Hint, Report, USAGE};
 pub use script::{Event, Line, LineFault, line_of};
 pub use serving::Serving;
-pub use settings::{asks_to_observe, demonstration, followed};
+pub use settings::{demonstration, followed};
 pub use story::{StoryFault, StoryLine, StoryTurn, story_line_of};

@@ -1,7 +1,6 @@
 //! The settings that scripts run under: those of a demonstration, or those of a file.
 
 ghost use Rattle.std.specs.Prelude.{◌≡◌, ◌++◌, map, IfOk, OnOk};
-ghost use Rattle.std.specs.List.{list_any};
 ghost use Rattle.ask_model.specs.Views.{rules_of};
 ghost use Rattle.command_line.specs.Rules.{line_of, observed_hosts, forms_of, routes_in, rules_in};
 
@@ -102,11 +101,4 @@ fn add_routes(routes: &mut Routes, more: &[Route]) -> Result<(), AllocError>
         routes.push(route.from.copy()?, route.to.copy()?)?;
     }
     Ok(())
-}
-
-/// Whether a device is to be observed, which the gateway doesn't do yet.
-pub fn asks_to_observe(serve: &Serve) -> bool
-    ensures { result ≡ list_any (λ o. o.observe) serve.now.origins }
-{
-    serve.origins.as_slice().iter().any(|o| o.observe)
 }

@@ -19,6 +19,7 @@ use Rattle.exchange_model.specs.Keeping.{IsProper}
 use Rattle.exchange_model.specs.Room.{KeptInRoom}
 use Rattle.exchange_model.specs.Entering.{refusal_deeds, entered_all}
 use Rattle.exchange_model.specs.Sealing.{in_room, asks_in_room}
+use Rattle.exchange_model.specs.Watching.{touched}
 use Rattle.exchange_model.proofs.CallerLemmas.{asks-in-room, busy-enters, joins-enter, refusals-enter}
 use Rattle.std.specs.Prelude.{◌&&◌, nat_lt}
 use Rattle.std.proofs.lemmas.Bool.{false≢true}
@@ -41,7 +42,7 @@ use Rattle.exchange_model.specs.declared.kept.Exchange.{Exchange}
 use Rattle.exchange_model.specs.Steps.{joins, Numbers}
 use Rattle.exchange_core.specs.Joining.{MayJoin, is_joined_by, joined_for}
 use Rattle.exchange_core.specs.Recalling.{MayRecall, recalled, served_for}
-use Rattle.exchange_core.specs.Refusing.{MayRefuse, BeginsNothing}
+use Rattle.exchange_core.specs.Refusing.{MayRefuse, BeginsNothing, refused}
 use Rattle.exchange_core.specs.States.{number_in}
 use Rattle.exchange_core.proofs.Recalls.{alone-by, enters-served, served-is, was-heard}
 use Rattle.exchange_core.proofs.Sounding.{second-of}
@@ -84,7 +85,7 @@ turned-away (Err F.Pending) t word c a token old new size number random none idl
 -- an ask that begins nothing may be refused
 pub may-refuse : (t c : ℕ) (a : Ask) (cause : Cause) (S : State)
     → KeptInRoom S → S.sealed ≡ false → S.moment ≤ t → HasConn S.conns c None → IsProper a.sense → came_size a.came ≤ MAX_REQUEST_SIZE
-    → BeginsNothing t a S → ((n : Numbers) → asked t c a n S ≡ entered_all t (refusal_deeds c a cause S) S)
+    → BeginsNothing t a S → ((n : Numbers) → asked t c a n S ≡ refused t c a cause S)
     → MayRefuse t c a cause S
 may-refuse t c a cause S k unsealed later idle proper size none is =
     let n : Numbers = record { token = []; text = []; word = 0 } in
@@ -192,6 +193,10 @@ may-join t c a q e S k unsealed later idle size sense unserved found =
       none,
     )
 
+-- the ask and its answer, where what it means is noted
+abbrev noted-by : ℕ → ℕ → Ask → Cause → State → Sense → State
+noted-by t c a cause S sense = let U = entered_all t (refusal_deeds c a cause S) S in record U { watches = touched t sense S.watches }
+
 -- an ask that is busy may be refused
 pub may-be-busy : (t c : ℕ) (a : Ask) (q : CoapRequest) (S : State)
     → KeptInRoom S → S.sealed ≡ false → S.moment ≤ t → HasConn S.conns c None → came_size a.came ≤ MAX_REQUEST_SIZE
@@ -199,11 +204,11 @@ pub may-be-busy : (t c : ℕ) (a : Ask) (q : CoapRequest) (S : State)
     → MayRefuse t c a C.Busy S
 may-be-busy t c a q S k unsealed later idle size sense unserved alone full =
     may-refuse t c a C.Busy S k unsealed later idle (subst IsProper (sym sense) tt) size (no-place t a q S sense full)
-    (λ n. busy-enters t c a q n S sense (alone-by t a.sense q S sense unserved alone) full)
+    (λ n. busy-enters t c a q n S sense (alone-by t a.sense q S sense unserved alone) full ∙ ap (noted-by t c a C.Busy S) (sym sense))
 
 pub may-be-refused : (t c : ℕ) (a : Ask) (cause : Cause) (status : ℕ) (S : State)
     → KeptInRoom S → S.sealed ≡ false → S.moment ≤ t → HasConn S.conns c None → came_size a.came ≤ MAX_REQUEST_SIZE
     → a.sense ≡ Refuses cause status → IsRefusal cause → MayRefuse t c a cause S
 may-be-refused t c a cause status S k unsealed later idle size sense proper =
     may-refuse t c a cause S k unsealed later idle (subst IsProper (sym sense) proper) size (refuses-no-place t a cause status S sense)
-    (λ n. refusals-enter t c a n cause status S sense)
+    (λ n. refusals-enter t c a n cause status S sense ∙ ap (noted-by t c a cause S) (sym sense))

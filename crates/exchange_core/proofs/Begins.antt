@@ -1,10 +1,13 @@
 -- An ask that begins an exchange leaves what the step says.
 use Rattle.std.proofs.Common.{◌≡◌, ℕ, ◌+◌, ◌≤◌, ◌<◌, Bool, true, false, cond, List, [], ◌∷◌, ◌++◌, length, Option, Some, None, Ok, Err, refl, sym, ap, subst, ◌∙◌, arith, append-nil}
-use Rattle.std.specs.Prelude.{option_map, is_some, sum_by, ◌&&◌}
+use Rattle.std.specs.Prelude.{option_map, is_some, nat_lt, sum_by, ◌&&◌}
 use Rattle.std.proofs.lemmas.Bool.{lt-ltb}
 use Rattle.coap_codec.specs.Spelling.{Spells}
 use Rattle.uri_map.specs.declared.peer.Peer.{Peer}
-use Rattle.ask_model.specs.Requests.{CoapRequest, Sense, Requests, Refuses, first_message}
+use Rattle.ask_model.specs.Requests.{CoapRequest, Sense, Requests, Refuses, opening_message}
+use Rattle.observe_share.specs.Watches.{without}
+use Rattle.ask_model.specs.Observing.{is_named}
+use Rattle.ask_model.specs.Sharing.{is_get}
 use Rattle.ask_model.specs.Views.{Ask, Mapping}
 use Rattle.ask_model.specs.Sizes.{capped}
 use Rattle.ask_model.specs.Datagrams.{asked_peer}
@@ -24,11 +27,12 @@ use Rattle.exchange_model.specs.Steps.{entered, given_out, seals, Numbers}
 use Rattle.exchange_model.specs.Calls.{asked, has_place}
 use Rattle.exchange_model.specs.Keeping.{IsProper, IsNumbered}
 use Rattle.exchange_model.specs.Room.{fits, KeptInRoom}
+use Rattle.exchange_model.specs.Watching.{is_renewed_by, tokens_of, wants}
 use Rattle.exchange_model.specs.Sealing.{asks_in_room}
-use Rattle.exchange_model.specs.Entering.{entered_all, at_once, begin_deeds, begun, begun_exchange, first_deeds, IsDrained}
+use Rattle.exchange_model.specs.Entering.{entered_all, at_once, awaits_no_more, begin_deeds, begun, begun_exchange, first_deeds, IsDrained}
 use Rattle.exchange_model.proofs.CallerLemmas.{asks-in-room, begins-enter, stays-drained}
 use Rattle.exchange_core.specs.Answering.{Given}
-use Rattle.exchange_core.specs.Beginning.{IsRequest, exchange_by, reader_by, with_exchange, numbers_of, MayBegin, IsBegunBy}
+use Rattle.exchange_core.specs.Beginning.{IsRequest, wants_for, exchange_by, reader_by, with_exchange, numbers_of, MayBegin, IsBegunBy}
 use Rattle.exchange_core.specs.Sending.{IsTimed, sent_first}
 use Rattle.exchange_core.specs.declared.fault.AskFault.TheVariants as Ask
 use Rattle.exchange_core.specs.Calls.{IsSpelled}
@@ -37,6 +41,7 @@ use Rattle.exchange_core.specs.Drafts.{DraftValue, Drafts, empty_draft, draft_wi
 use Rattle.exchange_core.specs.Sound.{SoundState}
 use Rattle.exchange_core.specs.States.{with_draft, core_of}
 use Rattle.exchange_core.specs.Values.{Outgoing, written, stepped}
+use Rattle.exchange_core.specs.Watching.{may_watch, observed_by}
 use Rattle.exchange_core.proofs.BeginLinks.{LinkTakes}
 use Rattle.exchange_core.proofs.Drafting.{answers-none, drafts-none, drafts-alone}
 use Rattle.exchange_core.proofs.Sounding.{first-of, second-of, sound-drafted, sound-seal}
@@ -106,6 +111,14 @@ first-readers : (t : ℕ) (p : Peer) (last : Option ℕ) (v : Option Waiting) (S
 first-readers t p last None S = refl
 first-readers t p last (Some x) S = refl
 
+-- A test that is made twice counts once.
+get-once : (g n k : Bool) → ((g && n) && (g && k)) ≡ ((g && k) && n)
+get-once false n k = refl
+get-once true true true = refl
+get-once true true false = refl
+get-once true false true = refl
+get-once true false false = refl
+
 module _ (t word c : ℕ) (m : Mapping) (p : Peer) (token text : List ℕ) (S : State) where
   abbrev a : Ask
   a = ask_of m
@@ -116,6 +129,15 @@ module _ (t word c : ℕ) (m : Mapping) (p : Peer) (token text : List ℕ) (S : 
   abbrev w : Waiting
   w = waits token text word
 
+  -- what its first message asks for
+  asks-to : (q : CoapRequest) → m.sense ≡ Requests q → wants_for m S.watches ≡ wants a q S.watches
+  asks-to q e =
+      ap (λ (s : Sense). may_watch s S.watches && observed_by m.rules s) e
+      ∙ get-once (is_get q) (nat_lt (length (without (is_renewed_by q) S.watches)) 64) (is_named m.rules.observed q.target.host)
+
+  spelled-by : (b : MayBegin t word c m p token text S) → Spells (opening_message (wants a b.spelled.request S.watches) b.spelled.request 0 token) text
+  spelled-by b = subst (λ (v : Bool). Spells (opening_message v b.spelled.request 0 token) text) (asks-to b.spelled.request b.spelled.is) b.spelled.spelled
+
   asked-is : (bytes room : ℕ) (gs : List Given) → SoundState S bytes room gs
       → (b : MayBegin t word c m p token text S)
       → asked t c a n S ≡ begun t c a b.spelled.request n S
@@ -124,47 +146,49 @@ module _ (t word c : ℕ) (m : Mapping) (p : Peer) (token text : List ℕ) (S : 
       let same : q.peer ≡ p = peer-same q p (ap asked_peer (sym b.spelled.is) ∙ b.peer) in
       begins-enter t c a q n S
       (record { kept = s.kept.kept; unsealed = b.unsealed; later = b.later }) s.drained
-      (record { short = b.spelled.body; spelled = b.spelled.spelled; token_size = b.worded.token_size; number = b.worded.number })
+      (record { short = b.spelled.body; spelled = spelled-by b; token_size = b.worded.token_size; number = b.worded.number })
       b.spelled.is (alone-by t m.sense q S b.spelled.is b.unserved b.alone) (subst (λ (z : Peer). has_place t z S ≡ true) (sym same) b.place)
 
   in-room : (bytes room : ℕ) (gs : List Given) → SoundState S bytes room gs
       → MayBegin t word c m p token text S → KeptInRoom (asks_in_room t c a n S)
   in-room bytes room gs s b =
       let q = b.spelled.request in
-      let numbered : IsNumbered q n S = record { short = b.spelled.body; spelled = b.spelled.spelled; token_size = b.worded.token_size; number = b.worded.number } in
+      let numbered : IsNumbered a q n S = record { short = b.spelled.body; spelled = spelled-by b; token_size = b.worded.token_size; number = b.worded.number } in
       asks-in-room t c a n S s.kept b.later b.idle (subst IsProper (sym b.spelled.is) tt)
-      (λ r e j h. subst (λ (z : CoapRequest). IsNumbered z n S) (request-of q r (sym b.spelled.is ∙ e)) numbered)
+      (λ r e j h. subst (λ (z : CoapRequest). IsNumbered a z n S) (request-of q r (sym b.spelled.is ∙ e)) numbered)
       (record { request = b.small; message = b.spelled.short })
 
   spelled-so : MayBegin t word c m p token text S → IsSpelled t a n S
-  spelled-so b = λ r e j h. subst (λ (z : CoapRequest). Spells (first_message z 0 token) text) (request-of b.spelled.request r (sym b.spelled.is ∙ e)) b.spelled.spelled
+  spelled-so b = λ r e j h. subst (λ (z : CoapRequest). Spells (opening_message (wants a z S.watches) z 0 token) text) (request-of b.spelled.request r (sym b.spelled.is ∙ e)) (spelled-by b)
 
   module _ (sent : Option FirstSending) (d : DraftValue) where
     abbrev ds : List Deed
     ds = Asks c a ∷ sent_first p sent
 
     abbrev S1 : State
-    S1 = with_exchange t (exchange_by t token p m.sense sent (length S.entries)) (reader_by c (length S.entries)) w (with_draft t d S)
+    S1 = with_exchange t m.sense (exchange_by t token p m.sense (wants_for m S.watches) sent (length S.entries)) (reader_by c (length S.entries)) w (with_draft t d S)
 
-    begun-at : (q : CoapRequest) → Drafts t S (Asks c a ∷ sent_first q.peer sent) d
+    begun-at : (q : CoapRequest) (o : Bool) → o ≡ wants a q S.watches → Drafts t S (Asks c a ∷ sent_first q.peer sent) d
         → IsNext t (link_of S.links q.peer).last_mid (next_list w (link_of S.links q.peer).outstanding) sent
-        → with_exchange t (exchange_by t token q.peer (Requests q) sent (length S.entries)) (reader_by c (length S.entries)) w (with_draft t d S) ≡ begun t c a q n S
-    begun-at q h next =
+        → with_exchange t (Requests q) (exchange_by t token q.peer (Requests q) o sent (length S.entries)) (reader_by c (length S.entries)) w (with_draft t d S) ≡ begun t c a q n S
+    begun-at q o asks h next =
         let s = link_of S.links q.peer in
         let both = goes-at-once t (length S.entries) q.peer s.last_mid w s.outstanding sent next in
-        let links = with_link q.peer (given_out (submitted t w s)) S.links in
+        let links = with_link q.peer (given_out (awaits_no_more (tokens_of (is_renewed_by q) S.watches) (submitted t w s))) S.links in
+        let rest = without (is_renewed_by q) S.watches in
         let draft : with_draft t d S ≡ entered_all t (begin_deeds t c a q n S) S =
         with-draft t S (Asks c a) (sent_first q.peer sent) d h ∙ ap (λ (xs : List Deed). entered_all t (Asks c a ∷ xs) S) both.0 in
-        let e = exchange_by t token q.peer (Requests q) sent (length S.entries) in
+        let e = exchange_by t token q.peer (Requests q) o sent (length S.entries) in
         let r = reader_by c (length S.entries) in
         let rs : (entered_all t (begin_deeds t c a q n S) S).readers ≡ S.readers = first-readers t q.peer s.last_mid (at_once w s.outstanding) (entered t (Asks c a) S) in
         let out = at_once w s.outstanding in
-        let ex : e ≡ begun_exchange t q n S =
+        let ex : e ≡ begun_exchange t a q n S =
         ap (λ (v : Option ℕ). record e { sending = v }) both.1
-        ∙ ap (λ (b : Bool). record e { sending = option_map (λ (x : Waiting). length S.entries + 1) out; awaits = b }) both.2 in
-        ap (λ (U : State). record U { issued = S.issued + 1; exchanges = S.exchanges ++ e ∷ []; readers = U.readers ++ r ∷ []; links = links }) draft
-        ∙ ap (λ (qs : List Reader). record (entered_all t (begin_deeds t c a q n S) S) { issued = S.issued + 1; exchanges = S.exchanges ++ e ∷ []; readers = qs ++ r ∷ []; links = links }) rs
-        ∙ ap (λ (x : Exchange). record (entered_all t (begin_deeds t c a q n S) S) { issued = S.issued + 1; exchanges = S.exchanges ++ x ∷ []; readers = S.readers ++ r ∷ []; links = links }) ex
+        ∙ ap (λ (b : Bool). record e { sending = option_map (λ (x : Waiting). length S.entries + 1) out; awaits = b }) both.2
+        ∙ ap (λ (b : Bool). record e { sending = option_map (λ (x : Waiting). length S.entries + 1) out; awaits = is_some out; observes = b }) asks in
+        ap (λ (U : State). record U { issued = S.issued + 1; exchanges = S.exchanges ++ e ∷ []; readers = U.readers ++ r ∷ []; watches = rest; links = links }) draft
+        ∙ ap (λ (qs : List Reader). record (entered_all t (begin_deeds t c a q n S) S) { issued = S.issued + 1; exchanges = S.exchanges ++ e ∷ []; readers = qs ++ r ∷ []; watches = rest; links = links }) rs
+        ∙ ap (λ (x : Exchange). record (entered_all t (begin_deeds t c a q n S) S) { issued = S.issued + 1; exchanges = S.exchanges ++ x ∷ []; readers = S.readers ++ r ∷ []; watches = rest; links = links }) ex
 
     begun-is : (b : MayBegin t word c m p token text S) → Drafts t S ds d
         → IsNext t (link_of S.links p).last_mid (next_list w (link_of S.links p).outstanding) sent
@@ -175,11 +199,11 @@ module _ (t word c : ℕ) (m : Mapping) (p : Peer) (token text : List ℕ) (S : 
         let sense : Requests q ≡ m.sense = sym b.spelled.is in
         subst (λ (z : Peer). Drafts t S (Asks c a ∷ sent_first z sent) d
         → IsNext t (link_of S.links z).last_mid (next_list w (link_of S.links z).outstanding) sent
-        → with_exchange t (exchange_by t token z m.sense sent (length S.entries)) (reader_by c (length S.entries)) w (with_draft t d S) ≡ begun t c a q n S)
+        → with_exchange t m.sense (exchange_by t token z m.sense (wants_for m S.watches) sent (length S.entries)) (reader_by c (length S.entries)) w (with_draft t d S) ≡ begun t c a q n S)
         same (subst (λ (k : Sense). Drafts t S (Asks c a ∷ sent_first q.peer sent) d
         → IsNext t (link_of S.links q.peer).last_mid (next_list w (link_of S.links q.peer).outstanding) sent
-        → with_exchange t (exchange_by t token q.peer k sent (length S.entries)) (reader_by c (length S.entries)) w (with_draft t d S) ≡ begun t c a q n S)
-        sense (begun-at q)) h next
+        → with_exchange t k (exchange_by t token q.peer k (wants_for m S.watches) sent (length S.entries)) (reader_by c (length S.entries)) w (with_draft t d S) ≡ begun t c a q n S)
+        sense (begun-at q (wants_for m S.watches) (asks-to q b.spelled.is))) h next
 
     module _ (bytes room : ℕ) (gs : List Given) (os : List Outgoing) (s : SoundState S bytes room gs)
         (b : MayBegin t word c m p token text S) (h : Drafts t S ds d)

@@ -20,13 +20,14 @@ use Rattle.message_layer.specs.declared.verdict.Verdict.{Verdict}
 use Rattle.history_links.specs.Steps.{ended_token}
 use Rattle.history_laws.specs.Numbering.{token_number}
 use Rattle.history_laws.specs.Progress.{Progress}
+use Rattle.observe_share.specs.declared.registration.Registration.{Registration}
 use Rattle.exchange_model.specs.declared.kept.Exchange.{Exchange}
 use Rattle.exchange_model.specs.State.{State, link_of}
 use Rattle.exchange_model.specs.Steps.{Matter, Nothing, Numbers, answered_in, has_next_place, matter_by, seals}
 use Rattle.exchange_model.specs.Calls.{goes_as, goes_by, goes_with, heard, repeats}
 use Rattle.exchange_model.specs.Room.{fits, KeptInRoom}
 use Rattle.exchange_model.specs.Sealing.{hears_in_room}
-use Rattle.exchange_model.specs.Entering.{confirm, entered_all, IsDrained, Comes}
+use Rattle.exchange_model.specs.Entering.{Effect, confirm, entered_all, IsDrained, Comes}
 use Rattle.exchange_model.proofs.CallerLemmas.{dropped-stays, hears-in-room, readers-known, stays-drained}
 use Rattle.exchange_model.specs.Keeping.{Kept}
 use Rattle.exchange_table.specs.Tables.{IsNewest}
@@ -37,14 +38,15 @@ use Rattle.exchange_core.specs.Calls.{HearsSo, IsTakenIn}
 use Rattle.exchange_core.specs.Drafts.{DraftValue, IsDrafted, empty_draft}
 use Rattle.exchange_core.specs.Ending.{IsTold}
 use Rattle.exchange_core.specs.Hearing.{IsNewestIn, hearing_deeds, link_deeds, tables_after, with_heard}
-use Rattle.exchange_core.specs.Matters.{IsMatter, IsNextToken, IsPrepared, TellsSo, matter_for, next_in, told_of, under}
+use Rattle.exchange_core.specs.Matters.{IsMatter, IsNextToken, IsPrepared, TellsSo, next_in, told_of, under}
+use Rattle.exchange_core.specs.Notifying.{matter_told}
 use Rattle.exchange_core.specs.Sending.{sent_first}
 use Rattle.exchange_core.specs.Sound.{SoundState}
 use Rattle.exchange_core.specs.States.{with_draft, core_of}
 use Rattle.exchange_core.specs.Values.{CoreValue, Outgoing, stepped, written}
 use Rattle.exchange_core.proofs.Drafting.{drafts-none, drafts-alone}
 use Rattle.exchange_core.proofs.Heard.{idle-waits}
-use Rattle.exchange_core.proofs.Heeds.{as-heeded, goes-on, goes-short, heard-so, matter-is, not-lost, nothing-is, spells}
+use Rattle.exchange_core.proofs.Heeds.{WatchedAs, as-heeded, effect, goes-on, goes-short, heard-so, matter-is, not-lost, nothing-is, spells}
 use Rattle.exchange_core.proofs.Ordered.{latest}
 use Rattle.exchange_core.proofs.Sounding.{sound-drafted, sound-seal}
 use Rattle.exchange_core.proofs.Stepping.{with-draft, committed, stepped-same}
@@ -98,7 +100,7 @@ goes-not t p d S taken lost e u goes = by (link_of S.links p).last_mid taken.kno
     news : (m : Content) (v : News) → (verdict_of t s m).news ≡ v → says v m ≡ was_dropped → goes_as t p (Ok m) S ≡ Some (e, u) → ⊥
     news m N.Lost is told g =
         either-none (repeats t s m) _ e u
-        (ap (λ (w : News). matter_by w (has_next_place t p (verdict_of t s m) S) m S (answered_in (ended_token w m.token) S.exchanges)) is) g
+        (ap (λ (w : News). matter_by t w (has_next_place t p (verdict_of t s m) S) m S (answered_in (ended_token w m.token) S.exchanges)) is) g
     news m N.Quiet is told g = quiet-told told
     news m N.Response is told g = response-told m told
     news m (N.Reset token) is told g = reset-told token told
@@ -143,6 +145,7 @@ sealed-so t word p d token S gs os fresh sealed =
 -- The next token was issued after those of all others.
 pub newest-in : (S : State) → Kept S → (m : ℕ) (k : RustMatter) (x : Matter) (new : Numbers) → IsMatter m new k x → token_number new.token ≡ S.issued → IsNewestIn k S.exchanges
 newest-in S kept m M.Nothing x new i number = tt
+newest-in S kept m (M.Tells y) x new i number = tt
 newest-in S kept m (M.Over e ended) x new i number = tt
 newest-in S kept m (M.Goes g) x new i number =
     subst (λ (token : List ℕ). IsNewest token S.exchanges) (sym i.3)
@@ -156,9 +159,9 @@ module _ (t word : ℕ) (p : Peer) (d : List ℕ) (S : State) (link : LinkValue)
     (early : t ≤ 2 ^ 62)
     (small : AllByRecursion (λ (b : ℕ). b < 256) d)
     (i : IsHearing t d link h) (at : link.state ≡ link_of S.links p)
-    (k : RustMatter) (made : IsPrepared t word link h.heeding S k (matter_for t p h.heeding (told h.up) S)) where
+    (k : RustMatter) (made : IsPrepared t word link h.heeding S k (matter_told t p h.heeding (told h.up) S)) where
   abbrev matter : Matter
-  matter = matter_for t p h.heeding (told h.up) S
+  matter = matter_told t p h.heeding (told h.up) S
 
   abbrev n : Numbers
   n = made.numbers
@@ -190,23 +193,28 @@ module _ (t word : ℕ) (p : Peer) (d : List ℕ) (S : State) (link : LinkValue)
           (length S.entries) matter (sym (matter-is t p d S link h m at read)) (readers-known S s.kept)
       by (Err e) is read = subst (λ (x : Matter). AllByRecursion (IsTold S.entries (map (written t) (link_deeds p d h.heeding next)) t) (told_of (length S.entries) x S.readers)) (sym (nothing-is t p d S link.state h e read)) tt
 
-  module _ (dv : DraftValue) (drafted : IsDrafted t S (hearing_deeds p d h.heeding next matter S) dv) where
+  module _ (dv : DraftValue) (drafted : IsDrafted t S (hearing_deeds p d h.heeding next matter S) dv) (ws : List Registration) (gone : List (List ℕ))
+      (watched : WatchedAs t word p d S link h k i at made ws gone (message_at d)) where
+    abbrev pub f : Effect
+    f = effect t word p d S link h k i at made ws gone
+
     abbrev after : State
-    after = with_heard t p h.heeding k matter n dv S
+    after = with_heard t p h.heeding k f dv S
 
     drawn : with_draft t dv S ≡ entered_all t (hearing_deeds p d h.heeding next matter S) S
     drawn = with-draft t S (Hears p d) _ dv drafted.drafts
 
     pub new-is : after ≡ heard t p d n S
     new-is =
-        ap (λ (U : State). let T = tables_after t p h.heeding k matter n S in record U {
+        ap (λ (U : State). let T = tables_after t p h.heeding k f S in record U {
           issued = T.issued;
           exchanges = T.exchanges;
           pieces = T.pieces;
+          watches = T.watches;
           store = T.store;
           links = T.links;
         }) drawn
-        ∙ sym (heard-so t word p d S link h k i at made comes (idle-waits p S s.kept.kept))
+        ∙ sym (heard-so t word p d S link h k i at made ws gone comes (idle-waits p S s.kept.kept) watched)
 
     fits-is : fits (with_draft t dv S) ≡ fits (heard t p d n S)
     fits-is = ap fits new-is
@@ -226,7 +234,7 @@ module _ (t word : ℕ) (p : Peer) (d : List ℕ) (S : State) (link : LinkValue)
 
     kept : KeptInRoom (hears_in_room t p d n S)
     kept =
-        hears-in-room t p d n S s.kept later small (goes-on t word p d S link h k i at made) (goes-short t word p d S link h k i at made)
+        hears-in-room t p d n S s.kept later small (goes-on t word p d S link h k i at made ws gone) (goes-short t word p d S link h k i at made ws gone)
 
     pub sound-sealed : (S1 : State) (bytes1 room1 : ℕ) (gs1 : List Given) → fits (with_draft t dv S)
         ≡ false
@@ -245,9 +253,9 @@ module _ (t word : ℕ) (p : Peer) (d : List ℕ) (S : State) (link : LinkValue)
     sound-heard S1 bytes1 room1 gs1 fit is bs rs gave =
         let U = after in
         let drained : IsDrained U =
-        subst IsDrained (as-heeded t word p d S link h k i at made (idle-waits p S s.kept.kept)
-        ∙ (sym (heard-so t word p d S link h k i at made comes (idle-waits p S s.kept.kept)) ∙ sym new-is))
-        ((stays-drained t S s.drained).1 p d h.heeding.mid h.heeding.token h.heeding.verdict (record { matter = matter; numbers = n })) in
+        subst IsDrained (as-heeded t word p d S link h k i at made ws gone (idle-waits p S s.kept.kept)
+        ∙ (sym (heard-so t word p d S link h k i at made ws gone comes (idle-waits p S s.kept.kept) watched) ∙ sym new-is))
+        ((stays-drained t S s.drained).1 p d h.heeding.mid h.heeding.token h.heeding.verdict f) in
         subst (λ (V : State). SoundState V bytes1 room1 gs1) (sym is)
         (sound-drafted t S U bytes bytes1 room room1 gs gs1 _ dv s drafted refl early refl
         (subst KeptInRoom (in-room fit) kept) drained bs rs gave)
@@ -256,8 +264,8 @@ module _ (t word : ℕ) (p : Peer) (d : List ℕ) (S : State) (link : LinkValue)
     so-by os v is = record {
       numbers = n;
       worded = made.worded;
-      goes = λ taken. goes-on t word p d S link h k i at made;
-      short = λ taken. goes-short t word p d S link h k i at made;
+      goes = λ taken. goes-on t word p d S link h k i at made ws gone;
+      short = λ taken. goes-short t word p d S link h k i at made ws gone;
       is = is;
     }
 

@@ -8,6 +8,7 @@ mod Takes
 mod Sounding
 mod Least
 mod Refusals
+mod Asked
 mod Asks
 mod BeginLinks
 mod Begins
@@ -36,3 +37,6 @@ mod Tolds
 mod Heeds
 mod HeardSteps
 mod Restoring
+mod Watched
+mod Notified
+mod HeardNotes

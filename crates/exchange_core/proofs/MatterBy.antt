@@ -1,12 +1,12 @@
 -- What a message is to the exchanges, by what its link tells of it.
-use Rattle.std.proofs.Common.{◌≡◌, ◌⊎◌, inl, inr, ℕ, Bool, true, false, List, [], length, Option, Some, None, refl, sym, ap, subst, ◌∙◌}
+use Rattle.std.proofs.Common.{◌≡◌, ◌⊎◌, inl, inr, ℕ, Bool, true, false, cond, List, [], length, Option, Some, None, refl, sym, ap, subst, ◌∙◌}
 use Rattle.std.specs.Prelude.{find, is_none, is_some, IfSome}
 use Rattle.std.proofs.lemmas.Bool.{false≢true}
 use Rattle.std.specs.List.{AllByRecursion, Contains}
 use Rattle.coap_codec.specs.Spelling.{Content, Spells}
 use Rattle.coap_codec.specs.declared.block.Block.{Block}
 use Rattle.uri_map.specs.declared.peer.Peer.{Peer}
-use Rattle.ask_model.specs.Requests.{CoapRequest, Sense, Requests, Refuses, block_message}
+use Rattle.ask_model.specs.Requests.{CoapRequest, Sense, Requests, Refuses, asking, block_message}
 use Rattle.journal_book.specs.Entries.{Written}
 use Rattle.message_layer.specs.Values.{LinkValue, Told, no_news, response, was_reset, timed_out, was_dropped}
 use Rattle.message_layer.specs.Hearing.{says}
@@ -15,14 +15,14 @@ use Rattle.message_layer.specs.declared.prepared.Heeding.{Heeding}
 use Rattle.message_layer.specs.declared.prepared.Submission.{Submission}
 use Rattle.message_layer.specs.declared.verdict.News.{News}
 use Rattle.message_layer.specs.declared.verdict.News.TheVariants as N
-use Rattle.history_laws.specs.Progress.{Reply, Ending, Reset, Turned, Progress, Ends, next_message}
+use Rattle.history_laws.specs.Progress.{Reply, Ending, Reset, Turned, Progress, Ends, block_after, next_message}
 use Rattle.history_links.specs.Steps.{ended_token}
 use Rattle.history_laws.proofs.CallerLemmas.{all-of, find-some, none-some, some-is}
 use Rattle.exchange_model.specs.declared.kept.Exchange.{Exchange}
 use Rattle.exchange_model.specs.declared.kept.Work.{Work}
 use Rattle.exchange_model.specs.declared.kept.Work.TheVariants as W
 use Rattle.exchange_model.specs.State.{State}
-use Rattle.exchange_model.specs.Steps.{Nothing, Goes, Over, Numbers, answered_in, asked_in, comes_to, fetched_in, has_next_place, is_under, matter_by, progress_with, replied, reply_at, request_in}
+use Rattle.exchange_model.specs.Steps.{Nothing, Goes, Over, Numbers, answered_in, asked_in, comes_to, fetched_in, has_next_place, is_under, matter_by, progress_with, replied, reply_at, request_in, told_alone}
 use Rattle.exchange_model.specs.Laws.{IsContinued}
 use Rattle.exchange_progress.specs.Coming.{IsComing, IsEnded, block_in, comes_by, is_fetched}
 use Rattle.exchange_model.specs.Growing.{IsWorkOf}
@@ -35,22 +35,24 @@ use Rattle.exchange_progress.specs.declared.coming.Ended.TheVariants as How
 use Rattle.exchange_progress.specs.declared.coming.Onward.{Onward}
 use Rattle.exchange_core.specs.declared.matter.Answered.{Answered}
 use Rattle.exchange_core.specs.declared.matter.Matter.TheVariants as M
+use Rattle.exchange_core.specs.Notifying.{is_alone, matter_alone}
 use Rattle.exchange_core.specs.Matters.{Answer, IsAnswered, IsAskedFor, IsFewTimes, IsNextFor, IsNextToken, IsPrepared, answer_in, matter_for, matter_with, replied_to}
 
 -- it is the same as by the news
 
-pub matter-told : (v : News) (m : Content) (b : Bool) (S : State)
-    → matter_by v b m S (answered_in (ended_token v m.token) S.exchanges) ≡ matter_with b (answer_in (says v m) m.token S)
-matter-told N.Quiet m b S = refl
-matter-told N.Lost m b S = refl
-matter-told N.Response m b S = by (find (is_under m.token) S.exchanges)
+pub matter-told : (t : ℕ) (v : News) (m : Content) (b : Bool) (S : State)
+    → matter_by t v b m S (answered_in (ended_token v m.token) S.exchanges)
+    ≡ cond (is_alone (says v m) m.token S.exchanges) (matter_alone t (says v m) S) (matter_with b (answer_in (says v m) m.token S))
+matter-told t N.Quiet m b S = refl
+matter-told t N.Lost m b S = refl
+matter-told t N.Response m b S = by (find (is_under m.token) S.exchanges)
   where
-    by : (v : Option Exchange) → matter_by N.Response b m S v ≡ matter_with b (replied_to v (comes_to m S))
+    by : (v : Option Exchange) → matter_by t N.Response b m S v ≡ cond (is_none v) (told_alone t N.Response m S) (matter_with b (replied_to v (comes_to m S)))
     by None = refl
     by (Some e) = refl
-matter-told (N.Reset of) m b S = by (find (is_under of) S.exchanges)
+matter-told t (N.Reset of) m b S = by (find (is_under of) S.exchanges)
   where
-    by : (v : Option Exchange) → matter_by (N.Reset of) b m S v ≡ matter_with b (replied_to v (λ e. Ends Reset))
+    by : (v : Option Exchange) → matter_by t (N.Reset of) b m S v ≡ matter_with b (replied_to v (λ e. Ends Reset))
     by None = refl
     by (Some e) = refl
 
@@ -104,15 +106,15 @@ nothing-goes e u h = cc
 over-goes : (f e : Exchange) (how : Ending) (u : Progress) → Over f how ≡ Goes e u → ⊥
 over-goes f e how u h = cc
 
-goes-exchange : (f e : Exchange) (v u : Progress) → Goes f v ≡ Goes e u → f ≡ e
+pub goes-exchange : (f e : Exchange) (v u : Progress) → Goes f v ≡ Goes e u → f ≡ e
 goes-exchange f e v u h = cc
 
-goes-progress : (f e : Exchange) (v u : Progress) → Goes f v ≡ Goes e u → v ≡ u
+pub goes-progress : (f e : Exchange) (v u : Progress) → Goes f v ≡ Goes e u → v ≡ u
 goes-progress f e v u h = cc
 
 -- what comes of a reply
 
-abbrev ComesBy : State → Exchange → Progress → Type 0
+abbrev pub ComesBy : State → Exchange → Progress → Type 0
 ComesBy S e u = (u ≡ Ends Reset) ⊎ ((m : Content) × (u ≡ comes_to m S e))
 
 comes-found : (v : Option Exchange) (S : State) (m : Content) (a : Answer) → replied_to v (comes_to m S) ≡ Some a → ComesBy S a.exchange a.progress
@@ -125,7 +127,7 @@ reset-found None S a e = absurd (none-some a e)
 reset-found (Some x) S a e =
     subst (λ (a : Answer). ComesBy S a.exchange a.progress) (some-is (record { exchange = x; progress = Ends Reset }) a e) (inl refl)
 
-comes-by : (told : Told) (token : List ℕ) (S : State) (a : Answer) → answer_in told token S ≡ Some a → ComesBy S a.exchange a.progress
+pub comes-by : (told : Told) (token : List ℕ) (S : State) (a : Answer) → answer_in told token S ≡ Some a → ComesBy S a.exchange a.progress
 comes-by (response m) token S a e = comes-found (find (is_under token) S.exchanges) S m a e
 comes-by (was_reset of) token S a e = reset-found (find (is_under of) S.exchanges) S a e
 comes-by no_news token S a e = absurd (none-some a e)
@@ -159,8 +161,12 @@ turned-with false e (W.Fetches restarts pieces) got is = refl
 turned-with false e (W.Gives upload) got is = refl
 turned-with true e w got is = absurd (false≢true (sym is))
 
-next-with : (q : CoapRequest) (w : Work) (got : List Reply) (token : List ℕ) → next_message q (progress_with w got) 0 token ≡ Some (block_message q (block_in w) 0 token)
-next-with q (W.Fetches restarts pieces) got token = refl
+next-with : (q : CoapRequest) (w : Work) (got : List Reply) (token : List ℕ) → next_message false q (progress_with w got) 0 token ≡ Some (block_message q (block_in w) 0 token)
+next-with q (W.Fetches restarts pieces) got token = plain (block_after pieces)
+  where
+    plain : (b : Option Block) → Some (asking false q b 0 token) ≡ Some (block_message q b 0 token)
+    plain None = refl
+    plain (Some b) = refl
 next-with q (W.Gives upload) got token = refl
 
 module _ (t word : ℕ) (p : Peer) (link : LinkValue) (x : Heeding) (told : Told) (S : State) (token : List ℕ) (fresh : IsNextToken word token S) where

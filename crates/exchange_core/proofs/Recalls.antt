@@ -6,6 +6,7 @@ use Rattle.std.proofs.lemmas.Bool.{and_parts}
 use Rattle.std.proofs.lemmas.Bool.Decides.{Decides-eqb}
 use Rattle.coap_codec.specs.Spelling.{Content}
 use Rattle.cache_key.specs.Keys.{CacheKey}
+use Rattle.observe_share.specs.declared.registration.Registration.{Registration}
 use Rattle.resp_cache.specs.Stored.{Stored}
 use Rattle.resp_cache.specs.Stores.{is_fresh_under, moved, served, stored_in}
 use Rattle.resp_cache.specs.declared.pair.Pair.{Pair}
@@ -24,6 +25,7 @@ use Rattle.exchange_model.specs.Entering.{entered_all, IsDrained}
 use Rattle.exchange_model.specs.Growing.{AreHeardAt, IsHeardAt, IsHeardIn}
 use Rattle.exchange_model.specs.Room.{fits, KeptInRoom}
 use Rattle.exchange_model.specs.Sealing.{asks_in_room}
+use Rattle.exchange_model.specs.Watching.{touched, touched_for}
 use Rattle.exchange_model.proofs.CallerLemmas.{served-enters, store-heard}
 use Rattle.exchange_core.specs.Answering.{Given, AreHeard, HeardAs, IsFound, CountsFrom, IsGiven}
 use Rattle.exchange_core.specs.Drafts.{DraftValue, Drafts, IsDrafted}
@@ -68,7 +70,8 @@ enters-served t c a q n s S sense found =
     let first : moved_for a.sense t S.store ≡ moved (asked_key q) t S.store =
     ap (λ (x : Sense). moved_for x t S.store) sense ∙ moved-get (is_get q) (asked_key q) t S.store s is in
     served-enters t c a q n s S sense is
-    ∙ ap (λ (ps : List Pair). let U = entered_all t (recall_deeds c a s S) S in record U { store = ps }) (sym first)
+    ∙ ap (λ (ps : List Pair). let U = entered_all t (recall_deeds c a s S) S in record U { watches = touched_for t q S.watches; store = ps }) (sym first)
+    ∙ ap (λ (x : Sense). let U = entered_all t (recall_deeds c a s S) S in record U { watches = touched t x S.watches; store = moved_for a.sense t S.store }) (sym sense)
 
 -- what is stored was heard
 
@@ -148,28 +151,30 @@ kept-given-stands t c m s S j =
       counts = counts-stay S.entries more (Kept s.list) t s.heard (counts-kept S.entries s t j.heard);
     })
 
--- what is used is the first
-abbrev pub with_store : List Pair → State → State
-with_store ps S = record S { store = ps }
+-- what is used is the first, and what is observed was asked for
+abbrev pub with_used : List Registration → List Pair → State → State
+with_used rs ps S = record S { watches = rs; store = ps }
 
-pub used-after : (S1 V : State) (k m : Mapping) (t : ℕ) (ps : List Pair) → S1 ≡ V → ps ≡ moved_for k.sense t S1.store → k ≡ m
-    → with_store ps S1 ≡ with_store (moved_for m.sense t V.store) V
-used-after S1 V k m t ps is made same =
-    ap (λ (xs : List Pair). with_store xs S1) (made ∙ ap (λ (x : Mapping). moved_for x.sense t S1.store) same)
-    ∙ ap (λ (U : State). with_store (moved_for m.sense t U.store) U) is
+pub used-after : (S1 V : State) (k l m : Mapping) (t : ℕ) (ps : List Pair) (rs : List Registration) → S1 ≡ V
+    → ps ≡ moved_for k.sense t S1.store → k ≡ m → rs ≡ touched t l.sense S1.watches → l ≡ m
+    → with_used rs ps S1 ≡ with_used (touched t m.sense V.watches) (moved_for m.sense t V.store) V
+used-after S1 V k l m t ps rs is made same noted alike =
+    ap (λ (xs : List Pair). with_used rs xs S1) (made ∙ ap (λ (x : Mapping). moved_for x.sense t S1.store) same)
+    ∙ ap (λ (xs : List Registration). with_used xs (moved_for m.sense t S1.store) S1) (noted ∙ ap (λ (x : Mapping). touched t x.sense S1.watches) alike)
+    ∙ ap (λ (U : State). with_used (touched t m.sense U.watches) (moved_for m.sense t U.store) U) is
 
 module _ (t c : ℕ) (m : Mapping) (s : Stored) (S : State) (d : DraftValue)
     (h : Drafts t S (recall_deeds c (ask_of m) s S) d) (j : MayRecall t c m s S)
     (answers : d.answers ≡ kept_given (length S.entries) t c m s ∷ []) where
   abbrev V : State
-  V = with_store (moved_for m.sense t S.store) (with_draft t d S)
+  V = with_used (touched t m.sense S.watches) (moved_for m.sense t S.store) (with_draft t d S)
 
   abbrev U : State
   U = recalled t c (ask_of m) s S
 
   recalled-is : V ≡ U
   recalled-is =
-      ap (with_store (moved_for m.sense t S.store))
+      ap (with_used (touched t m.sense S.watches) (moved_for m.sense t S.store))
       (with-draft t S (Asks c (ask_of m)) (Answers c (length S.entries) (Kept s.list) ∷ []) d h)
 
   fit-same : fits U ≡ fits (with_draft t d S)

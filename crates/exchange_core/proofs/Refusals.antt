@@ -4,7 +4,9 @@ use Rattle.ask_model.specs.declared.cause.Cause.{Cause}
 use Rattle.ask_model.specs.Views.{Mapping, Ask}
 use Rattle.journal_book.specs.Entries.{Grounds, Fault, Deed, Asks, Answers, Written}
 use Rattle.journal_book.specs.Views.{ask_of}
+use Rattle.observe_share.specs.declared.registration.Registration.{Registration}
 use Rattle.exchange_model.specs.State.{State}
+use Rattle.exchange_model.specs.Watching.{touched}
 use Rattle.exchange_model.specs.Entering.{refusal_deeds, entered_all}
 use Rattle.exchange_model.specs.Steps.{seals, Numbers}
 use Rattle.exchange_model.specs.Calls.{asked}
@@ -86,3 +88,10 @@ refusal-so t c S m cause d h answers =
       given = subst (AllByRecursion (IsGiven (S.entries ++ d.entries))) (sym answers)
           (subst (λ (ws : List Written). IsGiven ws (refusal_given (length S.entries) t c m cause)) es (refusal-given-stands t c S m cause), tt);
     }
+
+-- What is observed was asked for.
+pub touched-after : (S1 W : State) (k m : Mapping) (t : ℕ) (rs : List Registration) → S1 ≡ W → rs ≡ touched t k.sense S1.watches → k ≡ m
+    → record S1 { watches = rs } ≡ record W { watches = touched t m.sense W.watches }
+touched-after S1 W k m t rs is noted same =
+    ap (λ (xs : List Registration). record S1 { watches = xs }) (noted ∙ ap (λ (x : Mapping). touched t x.sense S1.watches) same)
+    ∙ ap (λ (U : State). record U { watches = touched t m.sense U.watches }) is

@@ -1,5 +1,5 @@
 -- What the end of an exchange does to the store, and a datagram to the other tables, is what the step says.
-use Rattle.std.proofs.Common.{◌≡◌, ℕ, Bool, true, false, cond, eqb, List, [], ◌∷◌, ◌++◌, map, Option, Some, None, refl, sym, ap, ◌∙◌}
+use Rattle.std.proofs.Common.{◌≡◌, ℕ, Bool, true, false, cond, eqb, List, [], ◌∷◌, ◌++◌, map, Option, Some, None, refl, sym, ap, subst, ◌∙◌, ◌||◌, arith}
 use Rattle.std.specs.Prelude.{filter, option_and_then, take, ◌&&◌, ◌==◌, is_none, length}
 use Rattle.limits.specs.declared.TheConstants.{MAX_STORED}
 use Rattle.coap_codec.specs.declared.block.Block.{Block}
@@ -11,24 +11,27 @@ use Rattle.ask_model.specs.Requests.{CoapRequest}
 use Rattle.ask_model.specs.Sharing.{asked_key, asked_place}
 use Rattle.journal_book.specs.Entries.{Grounds, Live, Kept, Fault, Written}
 use Rattle.history_laws.specs.Responses.{Response}
-use Rattle.history_laws.specs.Progress.{Reply, Ending, Whole, NotUnderstood, Reset, TimedOut, Turned, Progress}
+use Rattle.history_laws.proofs.CallerLemmas.{eqb-apart}
+use Rattle.history_laws.specs.Progress.{Reply, numbers, Ending, Whole, NotUnderstood, Reset, TimedOut, Turned, Progress}
 use Rattle.reply_reading.specs.Findings.{Found, Told, Tells, Fails}
 use Rattle.exchange_model.specs.declared.kept.Exchange.{Exchange}
 use Rattle.exchange_model.specs.declared.kept.Piece.{Piece}
 use Rattle.exchange_model.specs.declared.kept.Reader.{Reader}
 use Rattle.exchange_model.specs.declared.kept.Work.{Work}
 use Rattle.exchange_model.specs.declared.kept.Work.TheVariants as W
-use Rattle.exchange_model.specs.Steps.{Matter, Numbers, asked_in, content_by, exchanges_by, goes_so, got_by, is_of_other, moment_in, pieces_by, pieces_with, progress_with, put_by, settled, settled_by, store_by, work_by}
+use Rattle.exchange_model.specs.Steps.{Matter, Numbers, asked_in, content_by, exchanges_by, goes_so, got_by, is_of_other, issued_by, moment_in, newest_content, outdated_by, pieces_by, pieces_with, progress_with, put_by, retold, settled, settled_by, store_by, work_by}
 use Rattle.exchange_model.specs.Calls.{grounds_for}
 use Rattle.exchange_table.specs.Tables.{went_on}
 use Rattle.exchange_table.proofs.CallerLemmas.{went-so}
-use Rattle.exchange_progress.specs.Coming.{IsEnded, first_got, told_as}
+use Rattle.exchange_progress.specs.Coming.{IsEnded, first_got, found_for, told_as}
 use Rattle.exchange_progress.specs.declared.coming.Ended.{Ended}
 use Rattle.exchange_progress.specs.declared.coming.Ended.TheVariants as How
 use Rattle.exchange_core.specs.declared.matter.Going.{Going}
+use Rattle.exchange_core.specs.declared.matter.Notification.{Notification}
 use Rattle.exchange_core.specs.declared.matter.Matter.TheVariants as M
+use Rattle.exchange_core.specs.Hearing.{IsFirstBy, IsFirstSo, is_first}
 use Rattle.exchange_core.specs.Matters.{IsMatter}
-use Rattle.exchange_core.specs.Storing.{content_told, key_ended, key_got, pair_of, put_for, put_in, settled_with, stored_for}
+use Rattle.exchange_core.specs.Storing.{content_told, if_newest, is_newest_found, key_ended, key_got, pair_of, put_for, put_in, settled_with, stored_for}
 
 -- what is put, or else what is there
 abbrev with_pair : Option Pair → List Pair → List Pair → List Pair
@@ -108,18 +111,48 @@ stored-some ws t o (Tells w) v j js e = some_told ws t o w v j js (eqb w.code 69
 some_reader : Reader
 some_reader = record { ask = 0; conn = 0; opening = 0 }
 
-pub put-ended : (n t : ℕ) (ws : List Written) (e : Exchange) (f : Found) (how : Ending) → IsEnded n (How.Found f) how
-    → put_for ws (Some e) (stored_for ws t e.opening f.told f.grounds) ≡ put_for ws (Some e) (content_by ws t e.opening how)
-put-ended n t ws e f how i =
-    ap (λ (g : Found). put_for ws (Some e) (stored_for ws t e.opening g.told g.grounds)) (i None some_reader)
-    ∙ ap (put_for ws (Some e)) (content-told ws t e.opening n how None some_reader)
+both-none : (b c : Bool) → cond {A = Option Stored} b None None ≡ cond c None None
+both-none true true = refl
+both-none true false = refl
+both-none false true = refl
+both-none false false = refl
 
-pair-none : (key : Option CacheKey) → pair_of key None ≡ None
+none-either : (b : Bool) → cond {A = Option Stored} b None None ≡ None
+none-either true = refl
+none-either false = refl
+
+newest-told : (ws : List Written) (t n : ℕ) (e : Exchange) (how : Ending) (sending : Option ℕ) (r : Reader)
+    → if_newest e (found_for how n sending r) (stored_for ws t e.opening (told_as how) (grounds_for how n sending r)) ≡ newest_content ws t e how
+newest-told ws t n e (Whole w []) sending r = both-none e.newest e.newest
+newest-told ws t n e (Whole w (x ∷ [])) sending r = refl
+newest-told ws t n e (Whole w (x ∷ y ∷ ys)) sending r =
+    ap (λ (b : Bool). cond (b || e.newest) (content_by ws t e.opening (Whole w (x ∷ y ∷ ys))) None)
+    (eqb-apart (length (numbers (x ∷ y ∷ ys))) 1 (λ (h : length (numbers (x ∷ y ∷ ys)) ≡ 1). omega (arith, h)))
+newest-told ws t n e NotUnderstood sending r = none-either (is_newest_found e (found_for NotUnderstood n sending r))
+newest-told ws t n e Reset sending r = none-either (is_newest_found e (found_for Reset n sending r))
+newest-told ws t n e TimedOut sending r = none-either (is_newest_found e (found_for TimedOut n sending r))
+newest-told ws t n e Turned sending r = none-either (is_newest_found e (found_for Turned n sending r))
+
+pub put-ended : (n t : ℕ) (ws : List Written) (e : Exchange) (f : Found) (how : Ending) → IsEnded n (How.Found f) how
+    → put_for ws (Some e) (if_newest e f (stored_for ws t e.opening f.told f.grounds)) ≡ put_for ws (Some e) (newest_content ws t e how)
+put-ended n t ws e f how i =
+    ap (λ (g : Found). put_for ws (Some e) (if_newest e g (stored_for ws t e.opening g.told g.grounds))) (i None some_reader)
+    ∙ ap (put_for ws (Some e)) (newest-told ws t n e how None some_reader)
+
+pub pair-none : (key : Option CacheKey) → pair_of key None ≡ None
 pair-none None = refl
 pair-none (Some key) = refl
 
-pub put-turned : (t : ℕ) (ws : List Written) (e : Exchange) (how : Ending) → how ≡ Turned → None ≡ put_for ws (Some e) (content_by ws t e.opening how)
-put-turned t ws e how is = sym (ap (λ (u : Ending). put_for ws (Some e) (content_by ws t e.opening u)) is ∙ pair-none (key_ended ws (Some e)))
+pub put-turned : (t : ℕ) (ws : List Written) (e : Exchange) (how : Ending) → how ≡ Turned → None ≡ put_for ws (Some e) (newest_content ws t e how)
+put-turned t ws e how is = sym (ap (λ (u : Ending). put_for ws (Some e) (newest_content ws t e u)) is ∙ pair-none (key_ended ws (Some e)))
+
+-- It isn't new, or it is.
+pub put-old : (ws : List Written) (e : Exchange) (f : Found) (s : Option Stored) → is_newest_found e f ≡ false → None ≡ put_for ws (Some e) (if_newest e f s)
+put-old ws e f s old = sym (ap (λ (b : Bool). put_for ws (Some e) (cond b s None)) old ∙ pair-none (key_ended ws (Some e)))
+
+pub put-new : (ws : List Written) (e : Exchange) (f : Found) (s : Option Stored) (o : Option Pair) → is_newest_found e f ≡ true → o ≡ put_for ws (Some e) s
+    → o ≡ put_for ws (Some e) (if_newest e f s)
+put-new ws e f s o new is = is ∙ sym (ap (λ (b : Bool). put_for ws (Some e) (cond b s None)) new)
 
 -- the store after it
 
@@ -127,7 +160,13 @@ pub stored-over : (n t : ℕ) (ws : List Written) (new : Numbers) (e : Exchange)
     → put ≡ put_in ws t x → settled_with ws (Some e) put ps ≡ store_by ws t x ps
 stored-over n t ws new e ended x put ps i is =
     ap (λ (o : Option Pair). settled_with ws (Some e) o ps) (is ∙ ap (put_in ws t) i.1)
-    ∙ (sym (settled-put ws (Some e) (content_by ws t e.opening i.0) ps) ∙ sym (ap (λ (y : Matter). store_by ws t y ps) i.1))
+    ∙ (sym (settled-put ws (Some e) (newest_content ws t e i.0) ps) ∙ sym (ap (λ (y : Matter). store_by ws t y ps) i.1))
+
+pub stored-tells : (n t : ℕ) (ws : List Written) (new : Numbers) (k : Notification) (x : Matter) (put : Option Pair) (ps qs : List Pair) → IsMatter n new (M.Tells k) x
+    → put ≡ put_in ws t x → ((found : Option Stored) → put ≡ pair_of (Some k.key) found → qs ≡ retold k.key found ps) → qs ≡ store_by ws t x ps
+stored-tells n t ws new k x put ps qs i is so =
+    so k.found (is ∙ (ap (put_in ws t) i.1 ∙ ap (λ (key : CacheKey). pair_of (Some key) k.found) (sym i.2)))
+    ∙ (ap (λ (key : CacheKey). retold key k.found ps) i.2 ∙ sym (ap (λ (y : Matter). store_by ws t y ps) i.1))
 
 pub stored-nothing : (n t : ℕ) (ws : List Written) (new : Numbers) (x : Matter) (ps : List Pair) → IsMatter n new M.Nothing x → ps ≡ store_by ws t x ps
 stored-nothing n t ws new x ps i = sym (ap (λ (y : Matter). store_by ws t y ps) i)
@@ -137,10 +176,12 @@ stored-goes n t ws new g x ps i = sym (ap (λ (y : Matter). store_by ws t y ps) 
 
 -- the exchanges after it
 
-pub exchanges-go : (n : ℕ) (ws : List Written) (new : Numbers) (g : Going) (x : Matter) (es : List Exchange) → IsMatter n new (M.Goes g) x
-    → map (went_on g.exchange.token g.token g.onward.work) es ≡ exchanges_by ws new.token x es
-exchanges-go n ws new g x es i =
-    went-so g.exchange g.token g.onward.work (progress_with g.onward.work i.2.got) (works g.onward.work i.2.got) es
+pub exchanges-go : (n : ℕ) (ws : List Written) (new : Numbers) (g : Going) (x : Matter) (xs : List Piece) (es : List Exchange) → IsMatter n new (M.Goes g) x
+    → IsFirstSo xs (M.Goes g) x
+    → map (went_on g.exchange.token g.token g.onward.work (is_first xs g)) es ≡ exchanges_by ws new.token x es
+exchanges-go n ws new g x xs es i first =
+    went-so g.exchange g.token g.onward.work (is_first xs g) (progress_with g.onward.work i.2.got) (works g.onward.work i.2.got)
+    (subst (IsFirstBy (is_first xs g)) i.2.is (subst (IsFirstSo xs (M.Goes g)) i.1 first)) es
     ∙ (ap (λ (token : List ℕ). map (goes_so g.exchange token (progress_with g.onward.work i.2.got)) es) i.3
     ∙ sym (ap (λ (y : Matter). exchanges_by ws new.token y es) i.1
     ∙ ap (λ (u : Progress). map (goes_so g.exchange new.token u) es) i.2.is))
@@ -149,7 +190,18 @@ exchanges-go n ws new g x es i =
     works (W.Fetches restarts pieces) got old = refl
     works (W.Gives upload) got old = refl
 
+pub exchanges-tell : (n : ℕ) (ws : List Written) (new : Numbers) (k : Notification) (x : Matter) (es : List Exchange) → IsMatter n new (M.Tells k) x
+    → map (outdated_by ws k.key) es ≡ exchanges_by ws new.token x es
+exchanges-tell n ws new k x es i =
+    ap (λ (key : CacheKey). map (outdated_by ws key) es) i.2 ∙ sym (ap (λ (y : Matter). exchanges_by ws new.token y es) i.1)
+
 -- the pieces after it
+
+pub pieces-tell : (n : ℕ) (new : Numbers) (k : Notification) (x : Matter) (xs : List Piece) → IsMatter n new (M.Tells k) x → xs ≡ pieces_by n x xs
+pieces-tell n new k x xs i = sym (ap (λ (y : Matter). pieces_by n y xs) i.1)
+
+pub issued-tells : (n : ℕ) (new : Numbers) (k : Notification) (x : Matter) (old : ℕ) → IsMatter n new (M.Tells k) x → old ≡ issued_by x old
+issued-tells n new k x old i = sym (ap (λ (y : Matter). issued_by y old) i.1)
 
 pieces-got : (e : Exchange) (n : ℕ) (got : List Reply) (b : Option Block) (xs : List Piece) → is_none b ≡ is_none (first_got got)
     → (is_none b ≡ true → filter (is_of_other e) xs ≡ pieces_with e n got xs)
@@ -182,3 +234,7 @@ pub pieces-anew : (n : ℕ) (new : Numbers) (g : Going) (x : Matter) (xs : List 
     → filter (is_of_other g.exchange) xs ≡ pieces_by n x xs
 pieces-anew n new g x xs i none =
     (pieces-got g.exchange n i.2.got g.onward.block xs i.2.anew).0 (ap (λ (o : Option Block). is_none o) none) ∙ pieces-are n new g x xs i
+
+pub ended-told : (ws : List Written) (t o n : ℕ) (f : Found) (how : Ending) → IsEnded n (How.Found f) how → stored_for ws t o f.told f.grounds ≡ content_by ws t o how
+ended-told ws t o n f how i =
+    ap (λ (g : Found). stored_for ws t o g.told g.grounds) (i None some_reader) ∙ content-told ws t o n how None some_reader

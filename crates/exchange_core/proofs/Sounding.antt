@@ -19,6 +19,7 @@ use Rattle.exchange_model.specs.Entering.{IsDrained}
 use Rattle.exchange_model.specs.Resting.{HasConn}
 use Rattle.exchange_model.specs.Steps.{opens, shuts, seals}
 use Rattle.exchange_model.specs.Room.{fits}
+use Rattle.observe_share.specs.declared.registration.Registration.{Registration}
 use Rattle.resp_cache.specs.declared.pair.Pair.{Pair}
 use Rattle.exchange_model.specs.declared.kept.Exchange.{Exchange}
 use Rattle.exchange_model.specs.declared.kept.Piece.{Piece}
@@ -205,11 +206,11 @@ sound-shut t c p S S1 bytes bytes1 room room1 gs gs1 s has later early is bs rs 
     (omega (arith, less, most, held, rs)) same)
 
 -- a core with no entry
-pub sound-start : (h : List Written) (cs : List Conn) (es : List Exchange) (fs : List Piece) (rs : List Reader) (ps : List Pair) (xs : List PeerLink) (gs : List Given) (room : ℕ)
-    → h ≡ [] → cs ≡ [] → es ≡ [] → fs ≡ [] → rs ≡ [] → ps ≡ [] → xs ≡ [] → gs ≡ [] → 1 ≤ room
-    → SoundState (record { entries = h; sealed = false; moment = 0; opened = 0; issued = 0; conns = cs; exchanges = es; pieces = fs; readers = rs; store = ps; links = xs }) 0 room gs
-sound-start h cs es fs rs ps xs gs room a b c f r p d e large =
-    rw (a, b, c, f, r, p, d, e) (record {
+pub sound-start : (h : List Written) (cs : List Conn) (es : List Exchange) (fs : List Piece) (rs : List Reader) (us : List Registration) (ps : List Pair) (xs : List PeerLink) (gs : List Given) (room : ℕ)
+    → h ≡ [] → cs ≡ [] → es ≡ [] → fs ≡ [] → rs ≡ [] → us ≡ [] → ps ≡ [] → xs ≡ [] → gs ≡ [] → 1 ≤ room
+    → SoundState (record { entries = h; sealed = false; moment = 0; opened = 0; issued = 0; conns = cs; exchanges = es; pieces = fs; readers = rs; watches = us; store = ps; links = xs }) 0 room gs
+sound-start h cs es fs rs us ps xs gs room a b c f r u p d e large =
+    rw (a, b, c, f, r, u, p, d, e) (record {
       kept = start-in-room;
       drained = record { once = tt; out = tt };
       early = omega arith;

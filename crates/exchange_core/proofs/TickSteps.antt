@@ -14,6 +14,8 @@ use Rattle.exchange_model.specs.Sealing.{late, ticks_in_room}
 use Rattle.exchange_model.proofs.CallerLemmas.{stays-drained, ticks-enter, ticks-in-room}
 use Rattle.exchange_core.specs.Drafts.{DraftValue, Drafts}
 use Rattle.exchange_core.specs.Passing.{moved_on}
+use Rattle.observe_share.specs.Watches.{without}
+use Rattle.exchange_core.specs.Watching.{is_unwatched_by}
 use Rattle.exchange_core.specs.States.{with_draft}
 use Rattle.exchange_core.proofs.TickDraft.{gone-is}
 use Rattle.exchange_core.proofs.Stepping.{with-draft}
@@ -72,24 +74,28 @@ module _ (t : ℕ) (S : State) (may : MayStep t S) (drained : IsDrained S)
         ap (λ (V : State). record V {
           exchanges = es;
           pieces = filter (is_of_none over) S.pieces;
+          watches = without (is_unwatched_by t S.entries over) S.watches;
           store = retired S.entries over S.store;
           links = map (link_after t (is_among gone)) S.links;
         }) drawn
         ∙ ap (λ (q : List ℕ → Bool). let V = entered_all t (tick_deeds t S) S in record V {
           exchanges = es;
           pieces = filter (is_of_none over) S.pieces;
+          watches = without (is_unwatched_by t S.entries over) S.watches;
           store = retired S.entries over S.store;
           links = map (link_after t q) S.links;
         }) (gone-is t S gone g)
         ∙ ap (λ (xs : List Exchange). let V = entered_all t (tick_deeds t S) S in record V {
           exchanges = es;
           pieces = filter (is_of_none xs) S.pieces;
+          watches = without (is_unwatched_by t S.entries xs) S.watches;
           store = retired S.entries xs S.store;
           links = map (link_after t (is_gone t S)) S.links;
         }) o
         ∙ ap (λ (fs : List Exchange). let V = entered_all t (tick_deeds t S) S in record V {
           exchanges = fs;
           pieces = filter (is_of_none (timed_out t S)) S.pieces;
+          watches = without (is_unwatched_by t S.entries (timed_out t S)) S.watches;
           store = retired S.entries (timed_out t S) S.store;
           links = map (link_after t (is_gone t S)) S.links;
         }) e

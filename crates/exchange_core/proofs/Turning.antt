@@ -10,6 +10,7 @@ use Rattle.journal_copies.proofs.CallerLemmas.{peers-of}
 use Rattle.history_laws.specs.Justified.{Stands}
 use Rattle.exchange_model.specs.Keeping.{Kept}
 use Rattle.exchange_model.proofs.CallerLemmas.{kept-stands}
+use Rattle.observe_share.specs.declared.registration.Registration.{Registration}
 use Rattle.resp_cache.specs.declared.pair.Pair.{Pair}
 use Rattle.exchange_model.specs.declared.kept.Conn.{Conn}
 use Rattle.exchange_model.specs.declared.kept.Exchange.{Exchange}
@@ -20,11 +21,11 @@ use Rattle.exchange_model.specs.Rotating.{RotateFault, Crowded, are_few, copies,
 use Rattle.endpoint_table.specs.Keeping.{is_any, marked}
 use Rattle.endpoint_table.proofs.CallerLemmas.{copies-kept}
 
-pub state-turned : (t : ℕ) (S : State) (ws : List Written) (cs : List Conn) (es : List Exchange) (gs : List Piece) (rs : List Reader) (ps : List Pair) (xs : List PeerLink)
-    → ws ≡ copies t S.entries → cs ≡ [] → es ≡ [] → gs ≡ [] → rs ≡ [] → ps ≡ [] → xs ≡ filter (has_copy ws) (map (keep_peer t) S.links)
-    → record { entries = ws; sealed = false; moment = t; opened = S.opened; issued = S.issued; conns = cs; exchanges = es; pieces = gs; readers = rs; store = ps; links = xs }
+pub state-turned : (t : ℕ) (S : State) (ws : List Written) (cs : List Conn) (es : List Exchange) (gs : List Piece) (rs : List Reader) (us : List Registration) (ps : List Pair) (xs : List PeerLink)
+    → ws ≡ copies t S.entries → cs ≡ [] → es ≡ [] → gs ≡ [] → rs ≡ [] → us ≡ [] → ps ≡ [] → xs ≡ filter (has_copy ws) (map (keep_peer t) S.links)
+    → record { entries = ws; sealed = false; moment = t; opened = S.opened; issued = S.issued; conns = cs; exchanges = es; pieces = gs; readers = rs; watches = us; store = ps; links = xs }
     ≡ turned t S
-state-turned t S ws cs es gs rs ps xs a b c g r p d = rw (d, a, b, c, g, r, p) refl
+state-turned t S ws cs es gs rs us ps xs a b c g r u p d = rw (d, a, b, c, g, r, u, p) refl
 
 -- the links of the endpoints of which something is copied
 pub links-kept : (t : ℕ) (ps : List Peer) (ws : List Written) (xs ys : List PeerLink) (ms : List Bool) → ps ≡ peers_in ws

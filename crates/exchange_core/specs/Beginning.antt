@@ -1,11 +1,13 @@
 -- Asks that begin an exchange.
-use Rattle.std.specs.Prelude.{◌≡◌, ℕ, ◌+◌, ◌≤◌, true, false, List, [], ◌∷◌, ◌++◌, length, sum_by, Option, Some, None, option_map, is_some, Result, Ok, Err, ⊤}
+use Rattle.std.specs.Prelude.{◌≡◌, ℕ, ◌+◌, ◌≤◌, Bool, ◌&&◌, true, false, List, [], ◌∷◌, ◌++◌, length, sum_by, Option, Some, None, option_map, is_some, Result, Ok, Err, ⊤}
 use Rattle.std.specs.Arc.{arc_value}
 use Rattle.limits.specs.declared.TheConstants.{LAST_MOMENT, MAX_BODY_LEN, MAX_MESSAGE_LEN, MAX_REQUEST_SIZE}
 use Rattle.coap_codec.specs.Spelling.{Spells}
 use Rattle.blockwise.specs.Uploads.{begun}
+use Rattle.observe_share.specs.declared.registration.Registration.{Registration}
+use Rattle.observe_share.specs.Watches.{without}
 use Rattle.uri_map.specs.declared.peer.Peer.{Peer}
-use Rattle.ask_model.specs.Requests.{CoapRequest, Sense, Requests, Refuses, first_message}
+use Rattle.ask_model.specs.Requests.{CoapRequest, Sense, Requests, Refuses, opening_message}
 use Rattle.ask_model.specs.Sizes.{capped, came_size}
 use Rattle.ask_model.specs.Datagrams.{asked_peer}
 use Rattle.ask_model.specs.Views.{Mapping}
@@ -22,6 +24,7 @@ use Rattle.exchange_model.specs.Steps.{first_work, seals, Numbers}
 use Rattle.exchange_model.specs.Calls.{has_place}
 use Rattle.exchange_model.specs.Resting.{HasConn}
 use Rattle.exchange_model.specs.Room.{fits}
+use Rattle.exchange_model.specs.Watching.{tokens_of}
 use Rattle.endpoint_table.specs.Tables.{submitted_to}
 use Rattle.exchange_core.specs.declared.beginning.Begun.{Begun}
 use Rattle.exchange_core.specs.declared.beginning.Begun.TheVariants.{Asked, Busy}
@@ -34,17 +37,18 @@ use Rattle.exchange_core.specs.Recalling.{served_for}
 use Rattle.exchange_core.specs.Drafts.{DraftValue}
 use Rattle.exchange_core.specs.States.{state_of, given_in, outgoing, with_draft, SeesSame}
 use Rattle.exchange_core.specs.Values.{CoreValue}
+use Rattle.exchange_core.specs.Watching.{is_renewed_for, may_watch, observed_by}
 
 abbrev pub IsRequest : Sense → Type 0
 IsRequest (Requests q) = ⊤
 IsRequest (Refuses cause status) = ⊥
 
--- the first message of a request, spelled under ID 0
-pub record IsTextFor (sense : Sense) (token text : List ℕ) : Type 0 where
+-- the first message of a request, spelled under ID 0, which asks to observe or doesn't
+pub record IsTextFor (observes : Bool) (sense : Sense) (token text : List ℕ) : Type 0 where
   pub request : CoapRequest
   pub is : sense ≡ Requests request
   pub body : length request.body ≤ MAX_BODY_LEN
-  pub spelled : Spells (first_message request 0 token) text
+  pub spelled : Spells (opening_message observes request 0 token) text
   pub short : length text ≤ MAX_MESSAGE_LEN
 
 -- the code of the request that is asked, or 0 where none is
@@ -57,9 +61,13 @@ abbrev pub asked_work : Sense → Work
 asked_work (Requests q) = first_work q
 asked_work (Refuses cause status) = W.Gives (begun 0 6)
 
+-- Its first message asks to observe, where so many are observed.
+abbrev pub wants_for : Mapping → List Registration → Bool
+wants_for m rs = may_watch m.sense rs && observed_by m.rules m.sense
+
 -- the exchange that the ask with this number opens for what it means
-abbrev pub exchange_by : ℕ → List ℕ → Peer → Sense → Option FirstSending → ℕ → Exchange
-exchange_by t token p sense sent n = record {
+abbrev pub exchange_by : ℕ → List ℕ → Peer → Sense → Bool → Option FirstSending → ℕ → Exchange
+exchange_by t token p sense observes sent n = record {
   opening = n;
   token = token;
   since = t;
@@ -67,7 +75,10 @@ exchange_by t token p sense sent n = record {
   method = asked_method sense;
   sending = option_map (λ (x : FirstSending). n + 1) sent;
   awaits = is_some sent;
+  observes = observes;
+  asked = t;
   current = true;
+  newest = true;
   work = asked_work sense;
 }
 
@@ -75,13 +86,15 @@ exchange_by t token p sense sent n = record {
 abbrev pub reader_by : ℕ → ℕ → Reader
 reader_by c n = record { ask = n; conn = c; opening = n }
 
--- one exchange more with its reader, whose message was handed in under the next token
-abbrev pub with_exchange : ℕ → Exchange → Reader → Waiting → State → State
-with_exchange t e r w S = record S {
+-- one exchange more with its reader, whose message was handed in under the next token; what observed the
+-- same ends, and nothing is awaited under its tokens
+abbrev pub with_exchange : ℕ → Sense → Exchange → Reader → Waiting → State → State
+with_exchange t sense e r w S = record S {
   issued = S.issued + 1;
   exchanges = S.exchanges ++ e ∷ [];
   readers = S.readers ++ r ∷ [];
-  links = submitted_to e.peer t w S.links;
+  watches = without (is_renewed_for sense) S.watches;
+  links = submitted_to e.peer t w (tokens_of (is_renewed_for sense) S.watches) S.links;
 }
 
 abbrev pub numbers_of : List ℕ → List ℕ → ℕ → Numbers
@@ -98,7 +111,7 @@ pub record MayBegin (t word c : ℕ) (m : Mapping) (p : Peer) (token text : List
   pub peer : asked_peer m.sense ≡ Some p
   pub unserved : served_for m.sense t S.store ≡ None
   pub alone : joined_for m.sense S ≡ None
-  pub spelled : IsTextFor m.sense token text
+  pub spelled : IsTextFor (wants_for m S.watches) m.sense token text
   pub small : came_size m.came ≤ MAX_REQUEST_SIZE
   pub worded : IsWordedBy word (numbers_of token text word) S
   pub place : has_place t p S ≡ true
@@ -120,16 +133,16 @@ pub record LeavesSealed {R : Type 0} (t : ℕ) (old new : RustState R) : Type 0 
 
 -- What was drafted is entered with its exchange where there is room for it; else the journal is
 -- sealed. Where memory is wanted, nothing changes.
-abbrev pub IsEntered : {R X : Type 0} → Result X AskFault → ℕ → Exchange → Reader → Waiting
+abbrev pub IsEntered : {R X : Type 0} → Result X AskFault → ℕ → Sense → Exchange → Reader → Waiting
     → DraftValue → RustState R → RustState R → Type 0
-IsEntered (Ok x) t e r w d old new =
+IsEntered (Ok x) t sense e r w d old new =
     (fits (with_draft t d (state_of old)) ≡ true)
-    × Leaves (with_exchange t e r w (with_draft t d (state_of old))) d old new
-IsEntered (Err Ask.Sealed) t e r w d old new =
+    × Leaves (with_exchange t sense e r w (with_draft t d (state_of old))) d old new
+IsEntered (Err Ask.Sealed) t sense e r w d old new =
     (fits (with_draft t d (state_of old)) ≡ false) × LeavesSealed t old new
-IsEntered (Err Ask.Memory) t e r w d old new = SeesSame old new
-IsEntered (Err Ask.Unknown) t e r w d old new = ⊥
-IsEntered (Err Ask.Pending) t e r w d old new = ⊥
+IsEntered (Err Ask.Memory) t sense e r w d old new = SeesSame old new
+IsEntered (Err Ask.Unknown) t sense e r w d old new = ⊥
+IsEntered (Err Ask.Pending) t sense e r w d old new = ⊥
 
 -- An ask is entered under the next number, and its exchange begins; or there is no place for it; or
 -- the journal takes it no more. Where memory is wanted, nothing changes.

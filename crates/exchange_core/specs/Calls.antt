@@ -3,9 +3,10 @@ use Rattle.std.specs.Prelude.{◌≡◌, ◌⊎◌, ℕ, ◌≤◌, ◌<◌, ◌
 use Rattle.limits.specs.declared.TheConstants.{LAST_MOMENT, MAX_CONNECTIONS, MAX_DATAGRAM_LEN, MAX_MESSAGE_LEN}
 use Rattle.coap_codec.specs.Spelling.{Spells}
 use Rattle.uri_map.specs.declared.peer.Peer.{Peer}
-use Rattle.ask_model.specs.Requests.{CoapRequest, Requests, first_message}
+use Rattle.ask_model.specs.Requests.{CoapRequest, Requests, opening_message}
 use Rattle.ask_model.specs.Views.{Ask}
 use Rattle.history_laws.specs.Numbering.{token_number}
+use Rattle.exchange_model.specs.Watching.{wants}
 use Rattle.exchange_model.specs.State.{State, link_of}
 use Rattle.exchange_model.specs.Steps.{opens, shuts, Numbers}
 use Rattle.exchange_model.specs.Resting.{HasConn}
@@ -56,7 +57,7 @@ pub record IsWordedBy (word : ℕ) (n : Numbers) (S : State) : Type 0 where
 abbrev pub IsSpelled : ℕ → Ask → Numbers → State → Type 0
 IsSpelled t a n S =
     (q : CoapRequest) → a.sense ≡ Requests q → IsAlone t q S → has_place t q.peer S ≡ true
-    → Spells (first_message q 0 n.token) n.text
+    → Spells (opening_message (wants a q S.watches) q 0 n.token) n.text
 
 pub record AsksSo (t word c : ℕ) (a : Ask) (old new : CoreValue) : Type 0 where
   pub numbers : Numbers

@@ -1,6 +1,7 @@
 -- When a tick has something to do.
 use Rattle.std.specs.Prelude.{◌≡◌, ℕ, ◌+◌, ◌<◌, ◌≤◌, true, false, List, length, Option, option_map, if◌then◌else◌}
 use Rattle.limits.specs.declared.TheConstants.{LAST_MOMENT, MAX_TRANSMIT_WAIT}
+use Rattle.observe_share.specs.declared.registration.Registration.{Registration}
 use Rattle.exchange_model.specs.declared.kept.Exchange.{Exchange}
 use Rattle.exchange_model.specs.declared.kept.Reader.{Reader}
 use Rattle.exchange_model.specs.State.{State}
@@ -11,6 +12,10 @@ use Rattle.exchange_model.specs.Sealing.{ticks_in_room}
 -- The moment at which it was opened is one of a core's.
 abbrev pub IsSince : Exchange → Type 0
 IsSince e = e.since ≤ LAST_MOMENT
+
+-- So is that of the last ask for what is observed.
+abbrev pub IsAskedEarly : Registration → Type 0
+IsAskedEarly r = r.asked ≤ LAST_MOMENT
 
 -- the moment at which the exchange that the reader waits for took too long
 abbrev pub late_at : Exchange → ℕ

@@ -10,6 +10,7 @@ pub mod Faults
 pub mod Hearing
 pub mod Joining
 pub mod Matters
+pub mod Notifying
 pub mod Recalling
 pub mod Storing
 pub mod Refusing
@@ -25,3 +26,4 @@ pub mod Serving
 pub mod Taking
 pub mod Turns
 pub mod Values
+pub mod Watching

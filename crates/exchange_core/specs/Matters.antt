@@ -15,10 +15,11 @@ use Rattle.message_layer.specs.declared.prepared.FirstSending.{FirstSending}
 use Rattle.message_layer.specs.declared.prepared.Heeding.{Heeding}
 use Rattle.message_layer.specs.declared.prepared.Submission.{Submission}
 use Rattle.history_laws.specs.Progress.{Ending, Reset, Progress, Ends}
+use Rattle.observe_share.specs.declared.registration.Registration.{Registration}
 use Rattle.exchange_model.specs.declared.kept.Exchange.{Exchange}
 use Rattle.exchange_model.specs.declared.kept.Reader.{Reader}
 use Rattle.exchange_model.specs.State.{State}
-use Rattle.exchange_model.specs.Steps.{Matter, Nothing, Goes, Over, Numbers, asked_in, comes_to, has_next_place, is_under, replied}
+use Rattle.exchange_model.specs.Steps.{Matter, Nothing, Tells, Goes, Over, Numbers, asked_in, comes_to, has_next_place, is_under, replied}
 use Rattle.exchange_model.specs.Calls.{is_reader_of}
 use Rattle.exchange_model.specs.Growing.{IsFewTimes as WorkedFew, IsWorkOf}
 use Rattle.exchange_model.specs.Laws.{IsContinued}
@@ -60,6 +61,8 @@ matter_for t p x told S = matter_with (has_next_place t p x.verdict S) (answer_i
 -- It is prepared so, by the entry with this number: the next message has these numbers.
 abbrev pub IsMatter : ℕ → Numbers → RustMatter → Matter → Type 0
 IsMatter n new M.Nothing x = x ≡ Nothing
+IsMatter n new (M.Tells k) x =
+    (r : Registration) × (x ≡ Tells r k.found) × (k.key ≡ r.key) × (k.token ≡ r.token)
 IsMatter n new (M.Goes g) x =
     (u : Progress) × (x ≡ Goes g.exchange u) × IsOnward g.onward u × (g.token ≡ new.token)
     × (g.submission.waiting ≡ waits new.token new.text new.word)

@@ -4,15 +4,18 @@ use Rattle.exchange_model.specs.declared.kept.Exchange.{Exchange}
 use Rattle.exchange_model.specs.State.{State}
 use Rattle.exchange_model.specs.Steps.{is_of_none, retired}
 use Rattle.exchange_model.specs.Entering.{link_after}
+use Rattle.observe_share.specs.Watches.{without}
 use Rattle.exchange_core.specs.Drafts.{DraftValue}
 use Rattle.exchange_core.specs.States.{with_draft}
+use Rattle.exchange_core.specs.Watching.{is_unwatched_by}
 
--- The state after the links and exchanges moved on, some of which ended, and what was drafted came.
+-- The state after the links, the exchanges and what is observed moved on, and what was drafted came.
 abbrev pub moved_on :
     ℕ → (List ℕ → Bool) → List Exchange → List Exchange → DraftValue → State → State
 moved_on t gone over es d S = let V = with_draft t d S in record V {
   exchanges = es;
   pieces = filter (is_of_none over) S.pieces;
+  watches = without (is_unwatched_by t S.entries over) S.watches;
   store = retired S.entries over S.store;
   links = map (link_after t gone) S.links;
 }

@@ -17,6 +17,7 @@ use Rattle.exchange_model.specs.Steps.{Numbers}
 use Rattle.exchange_model.specs.Calls.{asked}
 use Rattle.exchange_model.specs.Entering.{entered_all}
 use Rattle.exchange_model.specs.Room.{KeptInRoom}
+use Rattle.exchange_model.specs.Watching.{touched}
 use Rattle.exchange_model.specs.Sealing.{in_room}
 use Rattle.exchange_core.specs.Answering.{Given, HeardAs, AreHeard}
 
@@ -43,6 +44,7 @@ recall_deeds c a s S = Asks c a ∷ Answers c (length S.entries) (Kept s.list) �
 -- the state after it
 abbrev pub recalled : ℕ → ℕ → Ask → Stored → State → State
 recalled t c a s S = let S1 = entered_all t (recall_deeds c a s S) S in record S1 {
+  watches = touched t a.sense S.watches;
   store = moved_for a.sense t S.store;
 }
 

@@ -26,6 +26,7 @@ state_of s = record {
   exchanges = s.exchanges.exchanges;
   pieces = s.fetched.pieces;
   readers = s.readers.items;
+  watches = s.watches.standing;
   store = s.store.pairs;
   links = s.endpoints.links;
 }

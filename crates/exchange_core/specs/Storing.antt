@@ -1,5 +1,5 @@
 -- What the end of an exchange does to the store.
-use Rattle.std.specs.Prelude.{ℕ, List, ◌∷◌, Option, Some, None, option_and_then, take, ◌==◌, if◌then◌else◌}
+use Rattle.std.specs.Prelude.{ℕ, Bool, false, ◌||◌, length, List, ◌∷◌, Option, Some, None, option_and_then, take, ◌==◌, if◌then◌else◌}
 use Rattle.limits.specs.declared.TheConstants.{MAX_STORED}
 use Rattle.cache_key.specs.Keys.{CacheKey}
 use Rattle.ask_model.specs.Requests.{CoapRequest}
@@ -10,9 +10,9 @@ use Rattle.resp_cache.specs.Stores.{placed}
 use Rattle.resp_cache.specs.declared.pair.Pair.{Pair}
 use Rattle.history_laws.specs.Responses.{Response}
 use Rattle.history_laws.specs.Storing.{content}
-use Rattle.reply_reading.specs.Findings.{Told, Tells, Fails}
+use Rattle.reply_reading.specs.Findings.{Found, Told, Tells, Fails}
 use Rattle.exchange_model.specs.declared.kept.Exchange.{Exchange}
-use Rattle.exchange_model.specs.Steps.{Matter, Over, asked_in, content_by, moment_in, settled}
+use Rattle.exchange_model.specs.Steps.{Matter, Over, Tells as Notifies, asked_in, moment_in, newest_content, settled}
 
 -- the whole 2.05 that is told, if it is one
 abbrev pub content_told : Told → Option Response
@@ -34,6 +34,17 @@ key_ended ws None = None
 key_ended ws (Some e) =
     if e.current then option_and_then key_got (asked_in ws e.opening) else None
 
+-- No notification that counts came since the first of the replies that are whole.
+abbrev pub is_newest_by : Bool → Grounds → Bool
+is_newest_by newest (Live js) = (length js == 1) || newest
+is_newest_by newest grounds = false
+
+abbrev pub is_newest_found : Exchange → Found → Bool
+is_newest_found e f = is_newest_by e.newest f.grounds
+
+abbrev pub if_newest : Exchange → Found → Option Stored → Option Stored
+if_newest e f s = if is_newest_found e f then s else None
+
 -- what it puts into the store
 abbrev pub pair_of : Option CacheKey → Option Stored → Option Pair
 pair_of (Some key) (Some s) = Some (record { key = key; stored = s })
@@ -44,7 +55,8 @@ put_for ws ended found = pair_of (key_ended ws ended) found
 
 -- what a message puts into the store, which is this to the exchanges
 abbrev pub put_in : List Written → ℕ → Matter → Option Pair
-put_in ws t (Over e how) = put_for ws (Some e) (content_by ws t e.opening how)
+put_in ws t (Over e how) = put_for ws (Some e) (newest_content ws t e how)
+put_in ws t (Notifies r found) = pair_of (Some r.key) found
 put_in ws t x = None
 
 -- what is stored after that, or after the end of an exchange that puts nothing

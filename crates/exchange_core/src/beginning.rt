@@ -1,6 +1,6 @@
 //! Asks that begin an exchange.
 
-ghost use Rattle.std.specs.Prelude.{◌≡◌, ◌≤◌, ◌<◌, ◌+◌, ◌^◌, ◌∷◌, ◌++◌, [], List, None, true, false, length, sum_by, IfOk, IfErr, OnOk, Ok, Err, Some};
+ghost use Rattle.std.specs.Prelude.{◌≡◌, ◌≤◌, ◌<◌, ◌+◌, ◌&&◌, ◌^◌, ◌∷◌, ◌++◌, [], List, None, true, false, length, sum_by, IfOk, IfErr, OnOk, Ok, Err, Some};
 ghost use Rattle.std.specs.Arc.{arc_value};
 ghost use Rattle.limits.specs.declared.TheConstants.{LAST_MOMENT, MAX_ENTRIES, MAX_EXCHANGES, MAX_REQUEST_SIZE};
 ghost use Rattle.ask_model.specs.Datagrams.{asked_peer};
@@ -12,12 +12,14 @@ ghost use Rattle.message_layer.specs.Sending.{IsSubmitted};
 ghost use Rattle.exchange_model.specs.State.{State as CoreState, link_of};
 ghost use Rattle.exchange_model.specs.Resting.{HasConn};
 ghost use Rattle.endpoint_table.specs.Tables.{link_at};
-ghost use Rattle.exchange_core.specs.Beginning.{IsRequest, IsTextFor, with_exchange, IsBegun, IsBegunBy, IsEntered, MayBegin, asked_method, asked_work, exchange_by};
+ghost use Rattle.exchange_core.specs.Beginning.{IsRequest, IsTextFor, wants_for, with_exchange, IsBegun, IsBegunBy, IsEntered, MayBegin, asked_method, asked_work, exchange_by};
 ghost use Rattle.exchange_core.specs.Joining.{joined_for};
 ghost use Rattle.exchange_core.specs.Recalling.{served_for};
 ghost use Rattle.exchange_core.specs.Sending.{IsTimed, sent_first};
 ghost use Rattle.exchange_core.specs.Drafts.{Drafts};
 ghost use Rattle.exchange_core.specs.Places.{IsOrdered};
+ghost use Rattle.exchange_model.specs.Watching.{tokens_of};
+ghost use Rattle.exchange_core.specs.Watching.{is_renewed_for, observed_by};
 ghost use Rattle.exchange_table.specs.Tables.{IsLatest};
 ghost use Rattle.exchange_core.specs.Sound.{IsSound};
 ghost use Rattle.exchange_core.specs.States.{state_of, seen, given_in, outgoing, with_draft, HasPlaces, SeesSame};
@@ -30,6 +32,7 @@ use crate::room;
 use crate::sealing::seal;
 use crate::sending::draft_first;
 use crate::state::{State, commit, make_places, start};
+use crate::watching::{may_watch, renew, tokens_renewed};
 use ask_model::{Mapped, Meaning};
 use blockwise::{LARGEST_SZX, Pieces, Upload};
 use coap_codec::{Bytes, Token};
@@ -53,22 +56,45 @@ pub enum Begun<R: Relation> {
     Busy(Arc<Mapped<R>>),
 }
 
-/// The message of a request under message ID 0, which its link sets when it goes out.
+/// The first message of a request, under message ID 0, which its link sets when it goes out.
+#[derive(Drop)]
+struct First {
+    text: Bytes,
+    /// it asks to observe
+    observes: bool,
+}
+
+/// The first message of a request. It asks to observe where its server may be observed, and one more
+/// may.
 fn text_of<R: Relation>(
     alloc: Global,
     mapped: &Mapped<R>,
     token: &Token,
-) -> Result<Bytes, AllocError>
+    may_watch: bool,
+) -> Result<First, AllocError>
     requires { IsRequest mapped.now.sense }
-    ensures text { IfOk result (λ text. IsTextFor mapped.now.sense token.now text) }
+    ensures text { IfOk result (λ x. IsTextFor x.observes mapped.now.sense token.now x.text) }
+    ensures observes { IfOk result
+        (λ x. x.observes ≡ may_watch && observed_by mapped.now.rules mapped.now.sense) }
     ensures small { came_size mapped.now.came ≤ MAX_REQUEST_SIZE }
 {
     let _came = mapped.came();
     let _body = mapped.body();
+    if may_watch {
+        if let Some(text) = mapped.observe_request(alloc, 0, token)? {
+            return Ok(First {
+                text,
+                observes: true,
+            });
+        }
+    }
     let Some(text) = mapped.request(alloc, None, 0, token)? else {
         unreachable!()
     };
-    Ok(text)
+    Ok(First {
+        text,
+        observes: false,
+    })
 }
 
 /// The ask of a connection, and its message where that goes out at once.
@@ -97,12 +123,15 @@ fn draft_ask<R: Relation>(
     Ok(draft)
 }
 
-/// Opens the exchange with its reader, hands in its message, and adds what was drafted.
+/// Opens the exchange with its reader, hands in its message, and adds what was drafted. What observed
+/// the same ends, and nothing is awaited any more under these tokens.
 fn add_exchange<R: Relation>(
     s: &mut State<R>,
+    mapped: &Mapped<R>,
     exchange: Exchange,
     reader: Reader,
     submission: Submission,
+    gone: &[Token],
     draft: Draft<R>,
     moment: u64,
 )
@@ -115,8 +144,9 @@ fn add_exchange<R: Relation>(
     requires reader { s.old.readers.room ≡ true }
     requires latest { IsLatest exchange s.old.exchanges.exchanges }
     requires may { MaySubmit moment (link_at s.old.endpoints exchange.peer) submission }
-    ensures state { state_of s.new ≡ with_exchange moment exchange reader submission.waiting
-        (with_draft moment draft (state_of s.old)) }
+    requires gone { gone.now ≡ tokens_of (is_renewed_for mapped.now.sense) s.old.watches.standing }
+    ensures state { state_of s.new ≡ with_exchange moment mapped.now.sense exchange reader
+        submission.waiting (with_draft moment draft (state_of s.old)) }
     ensures bytes { s.new.bytes ≡ capped (s.old.bytes + capped (sum_by entry_size draft.entries)) }
     ensures held { length s.old.conns.items + 1 ≤ s.new.journal.room }
     ensures answers { given_in s.new ≡ given_in s.old ++ draft.answers }
@@ -125,7 +155,8 @@ fn add_exchange<R: Relation>(
     let peer = exchange.peer;
     s.exchanges.push_in_room(exchange);
     s.issued += 1;
-    s.endpoints.submit(peer, submission, moment);
+    renew(&mut s.watches, mapped);
+    s.endpoints.submit(peer, submission, gone, moment);
     commit(s, draft, moment);
     s.readers.push_in_room(reader);
 }
@@ -160,10 +191,11 @@ fn exchange_of<R: Relation>(
     token: Token,
     peer: Peer,
     mapped: &Mapped<R>,
+    observes: bool,
     sent: &Option<FirstSending>,
 ) -> Exchange
     requires { opening ≤ MAX_ENTRIES }
-    ensures { result ≡ exchange_by moment token peer mapped.now.sense sent.now opening }
+    ensures { result ≡ exchange_by moment token peer mapped.now.sense observes sent.now opening }
 {
     let sending = match sent {
         Some(_) => Some(opening + 1),
@@ -177,7 +209,10 @@ fn exchange_of<R: Relation>(
         method: method_of(mapped),
         sending,
         awaits: sent.is_some(),
+        observes,
+        asked: moment,
         current: true,
+        newest: true,
         work: work_of(mapped),
     }
 }
@@ -201,9 +236,11 @@ fn make_all_places<R: Relation>(s: &mut State<R>, draft: &Draft<R>) -> Result<()
 fn enter<R: Relation>(
     alloc: Global,
     s: &mut State<R>,
+    mapped: &Mapped<R>,
     exchange: Exchange,
     reader: Reader,
     submission: Submission,
+    gone: &[Token],
     draft: Draft<R>,
     moment: u64,
 ) -> Result<(), AskFault>
@@ -212,7 +249,9 @@ fn enter<R: Relation>(
     requires latest { IsLatest exchange s.old.exchanges.exchanges }
     requires early { moment ≤ LAST_MOMENT }
     requires may { MaySubmit moment (link_at s.old.endpoints exchange.peer) submission }
-    ensures { IsEntered result moment exchange reader submission.waiting draft s.old s.new }
+    requires gone { gone.now ≡ tokens_of (is_renewed_for mapped.now.sense) s.old.watches.standing }
+    ensures { IsEntered result moment mapped.now.sense exchange reader submission.waiting draft
+        s.old s.new }
 {
     let taken = room::takes(alloc, s, &draft)?;
     if !taken {
@@ -220,7 +259,7 @@ fn enter<R: Relation>(
         return Err(AskFault::Sealed);
     }
     make_all_places(s, &draft)?;
-    add_exchange(s, exchange, reader, submission, draft, moment);
+    add_exchange(s, mapped, exchange, reader, submission, gone, draft, moment);
     Ok(())
 }
 
@@ -247,9 +286,10 @@ fn prepare<R: Relation>(
 struct Prepared {
     peer: Peer,
     token: Token,
-    /// the message under message ID 0
-    text: Bytes,
+    first: First,
     submission: Submission,
+    /// the tokens of what observed the same
+    gone: Vec<Token>,
 }
 
 /// Enters the ask, whose message was prepared.
@@ -264,8 +304,11 @@ fn ask<R: Relation>(
 ) -> Result<Ticket<R>, AskFault>
     requires sound { IsSound s.old }
     requires begins { MayBegin moment word conn (arc_value mapped) message.peer message.token
-        message.text (state_of s.old) }
-    requires message { IsSubmission moment message.token message.text word
+        message.first.text (state_of s.old) }
+    requires observes { message.first.observes ≡ wants_for (arc_value mapped) s.old.watches.standing }
+    requires gone { message.gone.items
+        ≡ tokens_of (is_renewed_for (arc_value mapped).sense) s.old.watches.standing }
+    requires message { IsSubmission moment message.token message.first.text word
         (link_at s.old.endpoints message.peer) message.submission }
     ensures sound { IsSound s.new }
     ensures ok { IfOk result (λ x. (x.conn ≡ conn) × (arc_value x.mapped ≡ arc_value mapped)
@@ -276,19 +319,23 @@ fn ask<R: Relation>(
     let Prepared {
         peer,
         token,
-        text: _,
+        first,
         submission,
+        gone,
     } = message;
     let sent = &submission.sent;
     let draft = draft_ask(alloc, s, moment, conn, &mapped, peer, sent)?;
     let number = s.journal.len() as u32;
-    let exchange = exchange_of(number, moment, token, peer, &mapped, sent);
+    let observes = first.observes;
+    let exchange = exchange_of(number, moment, token, peer, &mapped, observes, sent);
     let reader = Reader {
         ask: number,
         conn,
         opening: number,
     };
-    match enter(alloc, s, exchange, reader, submission, draft, moment) {
+    match enter(
+        alloc, s, &mapped, exchange, reader, submission, &gone, draft, moment,
+    ) {
         Ok(()) => Ok(Ticket {
             conn,
             number,
@@ -325,14 +372,17 @@ pub fn begin<R: Relation>(
         (seen s.old) (seen s.new) }
 {
     let token = token_of(s.issued, word);
-    let text = text_of(alloc, &mapped, &token)?;
-    match prepare(s, peer, token, text.as_slice(), moment, word) {
+    let may_watch = may_watch(&s.watches, &mapped);
+    let first = text_of(alloc, &mapped, &token, may_watch)?;
+    let gone = tokens_renewed(alloc, s.watches.as_slice(), &mapped)?;
+    match prepare(s, peer, token, first.text.as_slice(), moment, word) {
         Ok(submission) => {
             let message = Prepared {
                 peer,
                 token,
-                text,
+                first,
                 submission,
+                gone,
             };
             match ask(alloc, s, moment, word, conn, mapped, message) {
                 Ok(ticket) => Ok(Begun::Asked(ticket)),

@@ -33,6 +33,7 @@ use exchange_model::{Conn, Exchange};
 use exchange_table::{Exchanges, Fetched, Readers};
 use journal_book::Journal;
 use limits::LAST_MOMENT;
+use observe_share::Watch;
 use resp_cache::Store;
 use std::alloc::{AllocError, Global};
 use std::collections::VecDeque;
@@ -89,6 +90,7 @@ impl<R: Relation> Core<R> {
                 exchanges: Exchanges::new(alloc),
                 fetched: Fetched::new(alloc),
                 readers: Readers::new(alloc),
+                watches: Watch::new(alloc),
                 store: Store::new(alloc),
                 endpoints,
                 answers: Vec::new(alloc),

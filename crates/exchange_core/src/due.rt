@@ -2,11 +2,11 @@
 
 ghost use Rattle.std.specs.Prelude.{◌≡◌, ◌≤◌, ◌^◌};
 ghost use Rattle.std.specs.List.{AllByRecursion};
-ghost use Rattle.exchange_model.specs.Due.{earlier, earliest, deadline, next_due};
+ghost use Rattle.exchange_model.specs.Due.{earlier, earliest, deadline, idle_from, next_due};
 ghost use Rattle.exchange_model.specs.Steps.{is_past};
 ghost use Rattle.exchange_table.specs.Places.{RiseBy};
 ghost use Rattle.exchange_table.specs.Tables.{opening_of};
-ghost use Rattle.exchange_core.specs.Due.{IsSince, next_late, next_tick, read_deadline};
+ghost use Rattle.exchange_core.specs.Due.{IsAskedEarly, IsSince, next_late, next_tick, read_deadline};
 ghost use Rattle.exchange_core.specs.Places.{OpenLater};
 ghost use Rattle.exchange_core.specs.Sound.{IsSound};
 ghost use Rattle.exchange_core.specs.States.{state_of};
@@ -15,6 +15,7 @@ use crate::state::State;
 use exchange_model::{Exchange, Reader};
 use exchange_table::read_by;
 use limits::MAX_TRANSMIT_WAIT;
+use observe_share::Registration;
 use transformers::Relation;
 
 /// Whether the exchange has been open for as long as it may.
@@ -47,15 +48,26 @@ fn earliest_deadline(exchanges: &[Exchange]) -> Option<u64>
     }
 }
 
+/// The first moment at which nobody asked in a while for what is observed.
+fn earliest_idle(watches: &[Registration]) -> Option<u64>
+    requires early { AllByRecursion IsAskedEarly watches.now }
+    ensures { result ≡ earliest idle_from watches.now }
+{
+    let mut first = None;
+    'each: for watch in watches {
+        first = earlier(first, Some(watch.asked + 120_000));
+    }
+    first
+}
+
 /// When a tick has something to do, in a journal that isn't sealed.
 pub fn next_due<R: Relation>(s: &State<R>) -> Option<u64>
     requires { IsSound s.now }
     ensures { result ≡ next_due (state_of s.now) }
 {
-    earlier(
-        s.endpoints.next_due(),
-        earliest_deadline(s.exchanges.as_slice()),
-    )
+    let deadline = earliest_deadline(s.exchanges.as_slice());
+    let idle = earliest_idle(s.watches.as_slice());
+    earlier(s.endpoints.next_due(), earlier(deadline, idle))
 }
 
 /// The moment at which the exchange that the reader waits for took too long.

@@ -9,10 +9,10 @@ ghost use Rattle.message_layer.specs.Prepared.{IsHearing, MayFollow, MayHeed};
 ghost use Rattle.endpoint_table.specs.Tables.{link_at};
 ghost use Rattle.exchange_model.specs.State.{State as CoreState, link_of};
 ghost use Rattle.exchange_model.specs.Steps.{Matter as ModelMatter, Numbers, exchanges_by, issued_by, pieces_by, store_by};
-ghost use Rattle.exchange_model.specs.Entering.{confirm};
+ghost use Rattle.exchange_model.specs.Entering.{Effect, confirm};
 ghost use Rattle.exchange_core.specs.Calls.{HearsSo};
 ghost use Rattle.exchange_core.specs.Drafts.{Drafts, IsDrafted};
-ghost use Rattle.exchange_core.specs.Hearing.{IsNewestIn, first_number, hearing_deeds, link_deeds, note_next, over_in, tables_after, with_heard};
+ghost use Rattle.exchange_core.specs.Hearing.{IsEffect, IsFirstSo, IsNewestIn, first_number, hearing_deeds, is_first, link_deeds, note_next, tables_after, watches_after, with_heard};
 ghost use Rattle.exchange_core.specs.Matters.{IsMatter, IsNextToken, TellsSo, more_in, next_in, told_of};
 ghost use Rattle.exchange_core.specs.Places.{IsOrdered};
 ghost use Rattle.exchange_core.specs.Sending.{IsTimed};
@@ -22,33 +22,27 @@ ghost use Rattle.exchange_core.specs.Storing.{put_in};
 
 use crate::draft::Draft;
 use crate::ending::{Telling, draft_tellings, readers_told};
-use crate::matter::{Matter, matter_of, next_in};
+use crate::matter::{Going, Matter, next_in};
+use crate::notifying::{
+    Watching, make_room_to_watch, matter_told, notice_told, register, watching_of,
+};
 use crate::numbering::token_of;
 use crate::room::takes;
 use crate::sealing::seal;
 use crate::sending::draft_first;
 use crate::state::{State, commit, make_places, start};
-use crate::storing::{make_room_for, put_of, settle};
+use crate::storing::{make_room_for, put_of, retell, settle};
+use crate::watching::retire;
 use coap_codec::{Bytes as Whole, Token};
 use exchange_table::{Exchanges, Fetched, Readers};
 use journal_book::{Entry, Event, Journal};
-use message_layer::{Bytes, FirstSending, Hearing, Heeding, News, Submission};
+use message_layer::{Bytes, FirstSending, Hearing, Heeding, Submission};
+use observe_share::{Notice, Registration, Watch};
 use resp_cache::{Pair, Store};
 use std::alloc::{AllocError, Global};
 use std::collections::VecDeque;
 use transformers::Relation;
 use uri_map::Peer;
-
-/// The token under which nothing is awaited any more.
-fn ended_token(heeding: &Heeding) -> Option<Token>
-    ensures { result ≡ over_in heeding.now }
-{
-    match heeding.verdict.news {
-        News::Quiet | News::Lost => None,
-        News::Response => Some(heeding.token),
-        News::Reset(token) => Some(token),
-    }
-}
 
 /// The ACK or RST goes out.
 fn draft_reply<R: Relation>(
@@ -148,18 +142,35 @@ fn draft_heard<R: Relation>(
     Ok(Brought { draft, put })
 }
 
+/// Whether an exchange goes on by the first of its replies: it has fetched none before, and doesn't
+/// begin anew.
+fn is_first(fetched: &Fetched, going: &Going) -> bool
+    ensures { result ≡ is_first fetched.now.pieces going.now }
+{
+    going.onward.block.is_some() && !fetched.has_any_of(going.exchange.opening)
+}
+
 /// The exchanges after the datagram: one goes on, or ends; where that was a write, GETs join those of
 /// its place no more.
-fn change_exchanges<R: Relation>(exchanges: &mut Exchanges, journal: &Journal<R>, matter: &Matter)
-    requires { IsNewestIn matter.now exchanges.old.exchanges }
+fn change_exchanges<R: Relation>(
+    exchanges: &mut Exchanges,
+    journal: &Journal<R>,
+    fetched: &Fetched,
+    matter: &Matter,
+)
+    requires newest { IsNewestIn matter.now exchanges.old.exchanges }
     ensures { (n : ℕ) (new : Numbers) (x : ModelMatter) → IsMatter n new matter.now x
+        → IsFirstSo fetched.now.pieces matter.now x
         → exchanges.new.exchanges
         ≡ exchanges_by journal.now.entries new.token x exchanges.old.exchanges }
 {
     match matter {
         Matter::Nothing => {}
+        Matter::Tells(told) => exchanges.outdate(journal, &told.key),
         Matter::Goes(going) => {
-            exchanges.go_on(&going.exchange.token, &going.token, going.onward.work);
+            let is_first = is_first(fetched, going);
+            let work = going.onward.work;
+            exchanges.go_on(&going.exchange.token, &going.token, work, is_first);
         }
         Matter::Over(exchange, _) => {
             exchanges.remove(&exchange.token);
@@ -195,7 +206,7 @@ fn change_pieces(fetched: &mut Fetched, matter: &Matter, number: u32)
         → fetched.new.pieces ≡ pieces_by number x fetched.old.pieces }
 {
     match matter {
-        Matter::Nothing => {}
+        Matter::Nothing | Matter::Tells(_) => {}
         Matter::Goes(going) => match going.onward.block {
             Some(_) => fetched.push_in_room(going.exchange.opening, number),
             None => fetched.drop_of(going.exchange.opening),
@@ -216,8 +227,37 @@ fn change_store<R: Relation>(
         → put ≡ put_in journal.now.entries t x
         → store.new.pairs ≡ store_by journal.now.entries t x store.old.pairs }
 {
-    if let Matter::Over(exchange, _) = matter {
-        settle(store, journal, exchange, put);
+    match matter {
+        Matter::Tells(told) => retell(store, &told.key, put),
+        Matter::Over(exchange, _) => settle(store, journal, exchange, put),
+        _ => {}
+    }
+}
+
+/// What is observed after the datagram. There is room for what is registered.
+fn change_watches<R: Relation>(
+    watches: &mut Watch,
+    journal: &Journal<R>,
+    matter: &Matter,
+    notice: Notice,
+    more: Option<Registration>,
+    moment: u64,
+)
+    requires room { IfSome more (λ r. watches.old.room ≡ true) }
+    requires few { IfSome more (λ r. length watches.old.standing < 64) }
+    ensures { watches.new.standing
+        ≡ watches_after moment journal.now.entries notice matter.now more watches.old.standing }
+{
+    match matter {
+        Matter::Nothing => {}
+        Matter::Tells(told) => {
+            let _told = watches.notified(&told.token, notice, moment);
+        }
+        Matter::Goes(_) => register(watches, more),
+        Matter::Over(exchange, _) => {
+            register(watches, more);
+            retire(watches, journal, exchange);
+        }
     }
 }
 
@@ -250,10 +290,13 @@ fn change_tables<R: Relation>(
     peer: Peer,
     heeding: Heeding,
     matter: Matter,
+    watching: Watching,
     put: Option<Pair>,
 )
     requires room { IfSome put (λ p. s.old.store.room ≡ true) }
     requires piece { s.old.fetched.room ≡ true }
+    requires watch { IfSome watching.more (λ r. s.old.watches.room ≡ true) }
+    requires watched { IfSome watching.more (λ r. length s.old.watches.standing < 64) }
     requires few { length s.old.journal.entries ≤ MAX_ENTRIES }
     requires issued { s.old.issued < 4294967295 }
     requires newest { IsNewestIn matter s.old.exchanges.exchanges }
@@ -261,10 +304,9 @@ fn change_tables<R: Relation>(
     requires ready { MayHeed moment (link_at s.old.endpoints peer) heeding }
     requires follows { MayFollow moment (link_at s.old.endpoints peer) heeding (more_in matter) }
     requires known { is_some (link_of s.old.endpoints.links peer).last_mid ≡ true }
-    ensures state { (new : Numbers) (x : ModelMatter)
-        → IsMatter (length s.old.journal.entries) new matter x
-        → put ≡ put_in s.old.journal.entries moment x
-        → state_of s.new ≡ tables_after moment peer heeding matter x new (state_of s.old) }
+    ensures state { (x : Effect) → IsEffect moment matter watching x (state_of s.old)
+        → put ≡ put_in s.old.journal.entries moment x.matter
+        → state_of s.new ≡ tables_after moment peer heeding matter x (state_of s.old) }
     ensures journal { s.new.journal ≡ s.old.journal }
     ensures conns { s.new.conns ≡ s.old.conns }
     ensures readers { s.new.readers ≡ s.old.readers }
@@ -274,14 +316,24 @@ fn change_tables<R: Relation>(
 {
     let number = s.journal.len() as u32;
     change_store(&mut s.store, &s.journal, &matter, put);
-    change_exchanges(&mut s.exchanges, &s.journal, &matter);
+    change_exchanges(&mut s.exchanges, &s.journal, &s.fetched, &matter);
+    let notice = watching.notice;
+    let registered = watching.more;
+    change_watches(
+        &mut s.watches,
+        &s.journal,
+        &matter,
+        notice,
+        registered,
+        moment,
+    );
     let next = next_in(&heeding, &matter);
     note_next(&mut s.exchanges, next, first_number(number, &heeding));
     change_pieces(&mut s.fetched, &matter, number);
     s.issued = issued_after(s.issued, &matter);
-    let over = ended_token(&heeding);
+    let more = into_more(matter);
     s.endpoints
-        .heed(&peer, heeding, into_more(matter), over, moment);
+        .heed(&peer, heeding, more, &watching.gone, moment);
 }
 
 /// Adds what was drafted, once there are places for it, and changes the tables.
@@ -291,21 +343,22 @@ fn add_heard<R: Relation>(
     peer: Peer,
     heeding: Heeding,
     matter: Matter,
+    watching: Watching,
     brought: Brought<R>,
 ) -> Result<(), AllocError>
     requires few { length s.old.journal.entries + length brought.draft.entries ≤ MAX_ENTRIES }
     requires ordered { IsOrdered (state_of s.old) }
     requires issued { s.old.issued < 4294967295 }
     requires newest { IsNewestIn matter s.old.exchanges.exchanges }
+    requires watched { IfSome watching.more (λ r. length s.old.watches.standing < 64) }
     requires early { moment ≤ LAST_MOMENT }
     requires ready { MayHeed moment (link_at s.old.endpoints peer) heeding }
     requires follows { MayFollow moment (link_at s.old.endpoints peer) heeding (more_in matter) }
     requires known { is_some (link_of s.old.endpoints.links peer).last_mid ≡ true }
-    ensures state { (new : Numbers) (x : ModelMatter)
-        → IsMatter (length s.old.journal.entries) new matter x
-        → brought.put ≡ put_in s.old.journal.entries moment x
+    ensures state { (x : Effect) → IsEffect moment matter watching x (state_of s.old)
+        → brought.put ≡ put_in s.old.journal.entries moment x.matter
         → OnOk result (state_of s.new
-        ≡ with_heard moment peer heeding matter x new brought.draft (state_of s.old)) }
+        ≡ with_heard moment peer heeding matter x brought.draft (state_of s.old)) }
     ensures bytes { OnOk result
         (s.new.bytes ≡ capped (s.old.bytes + capped (sum_by entry_size brought.draft.entries))) }
     ensures held { OnOk result (length s.old.conns.items + 1 ≤ s.new.journal.room) }
@@ -317,7 +370,8 @@ fn add_heard<R: Relation>(
     make_places(s, &draft)?;
     make_room_for(&mut s.store, &put)?;
     s.fetched.make_room()?;
-    change_tables(s, moment, peer, heeding, matter, put);
+    make_room_to_watch(&mut s.watches, &watching.more)?;
+    change_tables(s, moment, peer, heeding, matter, watching, put);
     commit(s, draft, moment);
     Ok(())
 }
@@ -346,14 +400,16 @@ fn take<R: Relation>(
     ensures memory { OnErr result (seen s.new ≡ seen s.old) }
 {
     let Hearing { heeding, up } = hearing;
-    let matter = matter_of(alloc, s, moment, word, token, &peer, &heeding, up)?;
+    let notice = notice_told(&up);
+    let matter = matter_told(alloc, s, moment, word, token, &peer, &heeding, notice, up)?;
+    let watching = watching_of(alloc, s, moment, notice, &matter)?;
     let brought = draft_heard(alloc, s, moment, peer, datagram, &heeding, &matter)?;
     let taken = takes(alloc, s, &brought.draft)?;
     if !taken {
         seal(s, moment);
         return Ok(());
     }
-    add_heard(s, moment, peer, heeding, matter, brought)?;
+    add_heard(s, moment, peer, heeding, matter, watching, brought)?;
     Ok(())
 }
 

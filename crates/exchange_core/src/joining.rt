@@ -19,6 +19,7 @@ use crate::fault::AskFault;
 use crate::room;
 use crate::sealing::seal;
 use crate::state::{State, commit, make_places, start};
+use crate::watching::touch;
 use ask_model::Mapped;
 use exchange_model::{Exchange, Reader};
 use exchange_table::asked;
@@ -112,6 +113,8 @@ pub fn join<R: Relation>(
     make_places(s, &draft)?;
     s.readers.make_room()?;
     commit(s, draft, moment);
+    touch(&mut s.watches, moment, &mapped);
+    s.exchanges.read(opening, moment);
     s.readers.push_in_room(Reader { ask, conn, opening });
     Ok(Ticket {
         conn,

@@ -18,6 +18,7 @@ mod fault;
 mod hearing;
 mod joining;
 mod matter;
+mod notifying;
 mod noting;
 mod numbering;
 mod opening;
@@ -39,6 +40,7 @@ mod taking;
 mod ticking;
 mod timeouts;
 mod turns;
+mod watching;
 
 pub use answer::{Answer, Ticket};
 pub use core_state::Core;

@@ -18,6 +18,7 @@ ghost use Rattle.exchange_core.specs.States.{state_of};
 
 use crate::state::State;
 use ask_model::Cause;
+use cache_key::Key;
 use coap_codec::{Block, Bytes, Token};
 use exchange_model::Exchange;
 use exchange_progress::{Coming, Ended, Onward, comes_to};
@@ -25,6 +26,7 @@ use exchange_table::asked;
 use journal_book::Journal;
 use message_layer::{FirstSending, Heeding, LinkFault, Submission, Up};
 use reply_reading::Finding;
+use resp_cache::StoredResponse;
 use std::alloc::{AllocError, Global};
 use transformers::Relation;
 use uri_map::Peer;
@@ -46,11 +48,24 @@ pub struct Going {
     pub submission: Submission,
 }
 
-/// What a datagram is to the exchanges.
+/// A notification that counts.
+#[derive(Drop)]
+pub struct Notification {
+    /// what it is of
+    pub key: Key,
+    /// what it came under
+    pub token: Token,
+    /// what is stored by it
+    pub found: Option<StoredResponse>,
+}
+
+/// What a datagram is to the exchanges and to what is observed.
 #[derive(Drop)]
 pub enum Matter {
     /// nothing
     Nothing,
+    /// it tells of what is observed
+    Tells(Notification),
     /// by it an exchange goes on
     Goes(Going),
     /// by it this exchange ends so

@@ -25,6 +25,7 @@ use crate::state::{self, State, start};
 use crate::storing::retire_all;
 use crate::timeouts::draft_timeouts;
 use crate::turns::draft_turns;
+use crate::watching::{add_unwatched, drop_unwatched};
 use coap_codec::Token;
 use endpoint_table::Turn;
 use exchange_model::Exchange;
@@ -126,7 +127,7 @@ pub fn is_due<R: Relation>(s: &State<R>, moment: u64) -> bool
 pub struct Passing<R: Relation> {
     /// the exchanges that end
     pub over: Vec<Exchange>,
-    /// their tokens
+    /// their tokens, and those of what is observed no more
     pub gone: Vec<Token>,
     pub turns: VecDeque<Turn>,
     /// the exchanges that go on
@@ -160,7 +161,8 @@ pub fn prepare<R: Relation>(
         (tick_deeds moment (state_of s.old)) x.draft) }
 {
     let Sorted { over, mut still } = sort_at(alloc, s, moment)?;
-    let gone = tokens_of(alloc, &over)?;
+    let mut gone = tokens_of(alloc, &over)?;
+    add_unwatched(&mut gone, s.watches.as_slice(), &s.journal, &over, moment)?;
     let turns = prepare_links(s, moment, &gone)?;
     let draft = draft_tick(alloc, s, &over, &mut still, &turns, moment)?;
     Ok(Passing {
@@ -196,6 +198,7 @@ pub fn pass<R: Relation>(s: &mut State<R>, passing: Passing<R>, moment: u64)
         still,
         draft,
     } = passing;
+    drop_unwatched(&mut s.watches, &s.journal, &over, moment);
     retire_all(&mut s.store, &s.journal, &over);
     s.endpoints.tick(turns, moment, &gone);
     s.exchanges = still;

@@ -16,9 +16,9 @@ ghost use Rattle.exchange_core.specs.Values.{stepped};
 use crate::answer::{Answer, Ticket};
 use crate::draft::Draft;
 use crate::fault::AskFault;
-use crate::room;
 use crate::sealing::seal;
 use crate::state::{State, commit, make_places, start};
+use crate::{room, watching};
 use ask_model::Mapped;
 use journal_book::{Entry, Event, Numbers};
 use reply_reading::Finding;
@@ -143,6 +143,7 @@ pub fn recall<R: Relation>(
     make_places(s, &draft)?;
     commit(s, draft, moment);
     touch(&mut s.store, moment, &mapped);
+    watching::touch(&mut s.watches, moment, &mapped);
     Ok(Ticket {
         conn,
         number,

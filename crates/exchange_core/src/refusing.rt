@@ -19,6 +19,7 @@ use crate::fault::AskFault;
 use crate::room;
 use crate::sealing::seal;
 use crate::state::{State, commit, make_places, start};
+use crate::watching::touch;
 use ask_model::{Cause, Mapped};
 use journal_book::{Entry, Event};
 use reply_reading::Finding;
@@ -96,6 +97,7 @@ pub fn refuse<R: Relation>(
     }
     make_places(s, &draft)?;
     commit(s, draft, moment);
+    touch(&mut s.watches, moment, &mapped);
     Ok(Ticket {
         conn,
         number,

@@ -22,6 +22,7 @@ use exchange_table::{Exchanges, Fetched, Readers};
 use journal_book::Journal;
 use journal_copies::{Copies, copies_of};
 use limits::{MAX_COPIES, MAX_COPIES_LEN, MAX_NUMBERED};
+use observe_share::Watch;
 use resp_cache::Store;
 use std::alloc::Global;
 use std::collections::VecDeque;
@@ -109,6 +110,7 @@ fn turn<R: Relation>(
     s.exchanges = Exchanges::new(alloc);
     s.fetched = Fetched::new(alloc);
     s.readers = Readers::new(alloc);
+    s.watches = Watch::new(alloc);
     s.store = Store::new(alloc);
     s.answers.clear();
     s.sends.clear();

@@ -18,6 +18,7 @@ use crate::state::State;
 use endpoint_table::Endpoints;
 use exchange_model::Conn;
 use exchange_table::{Exchanges, Fetched, Readers};
+use observe_share::Watch;
 use resp_cache::Store;
 use std::alloc::{AllocError, Global};
 use std::collections::VecDeque;
@@ -39,6 +40,7 @@ pub struct Snapshot<R: Relation> {
     exchanges: Exchanges,
     fetched: Fetched,
     readers: Readers,
+    watches: Watch,
     store: Store,
     endpoints: Endpoints,
     answers: Vec<Answer<R>>,
@@ -66,6 +68,7 @@ impl<R: Relation> Model for Snapshot<R> {
         exchanges = s.exchanges.exchanges;
         pieces = s.fetched.pieces;
         readers = s.readers.items;
+        watches = s.watches.standing;
         store = s.store.pairs;
         links = s.endpoints.links;
       };
@@ -119,6 +122,7 @@ pub fn take_snapshot<R: Relation>(alloc: Global, s: &State<R>) -> Result<Snapsho
         exchanges: s.exchanges.copy(alloc)?,
         fetched: s.fetched.copy(alloc)?,
         readers: s.readers.copy(alloc)?,
+        watches: s.watches.copy()?,
         store: s.store.copy()?,
         endpoints: s.endpoints.copy()?,
         answers: copy_answers(alloc, &s.answers)?,
@@ -147,6 +151,7 @@ pub fn put_back<R: Relation>(s: &mut State<R>, snapshot: Snapshot<R>)
     s.exchanges = snapshot.exchanges;
     s.fetched = snapshot.fetched;
     s.readers = snapshot.readers;
+    s.watches = snapshot.watches;
     s.store = snapshot.store;
     s.endpoints.put_back(snapshot.endpoints);
     s.answers = snapshot.answers;

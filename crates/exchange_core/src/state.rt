@@ -22,6 +22,7 @@ use endpoint_table::Endpoints;
 use exchange_model::Conn;
 use exchange_table::{Exchanges, Fetched, Readers};
 use journal_book::{Entry, Journal};
+use observe_share::Watch;
 use resp_cache::Store;
 use std::alloc::{AllocError, Global};
 use std::collections::VecDeque;
@@ -46,6 +47,8 @@ pub struct State<R: Relation> {
     pub fetched: Fetched,
     /// who waits for an exchange, in the order of their asks
     pub readers: Readers,
+    /// what is observed
+    pub watches: Watch,
     /// the responses that may be served again
     pub store: Store,
     pub endpoints: Endpoints,

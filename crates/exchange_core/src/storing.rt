@@ -1,16 +1,17 @@
 //! What the end of an exchange does to the store (RFC 7252 sections 5.6 and 5.9.2).
 
-ghost use Rattle.std.specs.Prelude.{◌≡◌, ℕ, true, IfOk, IfSome, OnOk, option_map, Some, None};
+ghost use Rattle.std.specs.Prelude.{◌≡◌, ℕ, true, IfOk, IfSome, OnOk, Option, option_map, Some, None};
 ghost use Rattle.std.specs.Arc.{arc_value};
 ghost use Rattle.cache_key.specs.Keys.{key_of};
-ghost use Rattle.exchange_model.specs.Steps.{Matter as ModelMatter, Numbers, content_by, retired, settled};
+ghost use Rattle.exchange_model.specs.Steps.{Matter as ModelMatter, Numbers, is_newest, newest_content, retired, retold, settled};
 ghost use Rattle.history_laws.specs.Progress.{Ending};
+ghost use Rattle.resp_cache.specs.Stored.{Stored};
 ghost use Rattle.exchange_progress.specs.Coming.{IsEnded};
 ghost use Rattle.exchange_core.specs.Matters.{IsMatter};
-ghost use Rattle.exchange_core.specs.Storing.{content_told, key_ended, put_for, put_in, settled_with, stored_for};
+ghost use Rattle.exchange_core.specs.Storing.{content_told, if_newest, is_newest_found, key_ended, pair_of, put_for, put_in, settled_with, stored_for};
 
 use crate::ending::first_moment;
-use crate::matter::Matter;
+use crate::matter::{Matter, Notification};
 use cache_key::{Key, Reading};
 use exchange_model::Exchange;
 use exchange_progress::Ended;
@@ -48,7 +49,7 @@ fn reading_in<'a, R: Relation>(journal: &'a Journal<R>, ended: &Exchange) -> Opt
 
 /// The whole 2.05 that was found by the exchange with this opening, as it is stored: it counts from the
 /// moment of its first reply. It shares the response.
-fn stored_for<R: Relation>(
+pub fn stored_for<R: Relation>(
     alloc: Global,
     journal: &Journal<R>,
     opening: u32,
@@ -73,8 +74,18 @@ fn stored_for<R: Relation>(
     Ok(Some(StoredResponse::new(alloc, shared, opening, heard, list)?))
 }
 
+/// Whether no notification that counts has come since the first of the replies that are whole.
+fn is_newest(ended: &Exchange, finding: &Finding) -> bool
+    ensures { result ≡ is_newest_found ended.now finding.now }
+{
+    match finding.grounds() {
+        Grounds::Live(numbers) => numbers.as_slice().len() == 1 || ended.newest,
+        _ => false,
+    }
+}
+
 /// What the exchange puts into the store that ends with what was found: a whole 2.05 to a GET that no
-/// write outran.
+/// write and no notification outran.
 fn put_found<R: Relation>(
     alloc: Global,
     journal: &Journal<R>,
@@ -83,9 +94,12 @@ fn put_found<R: Relation>(
     moment: u64,
 ) -> Result<Option<Pair>, AllocError>
     ensures { IfOk result (λ o. o ≡ put_for journal.now.entries (Some ended.now)
-        (stored_for journal.now.entries moment ended.now.opening finding.now.told
-        finding.now.grounds)) }
+        (if_newest ended.now finding.now (stored_for journal.now.entries moment ended.now.opening
+        finding.now.told finding.now.grounds))) }
 {
+    if !is_newest(ended, finding) {
+        return Ok(None);
+    }
     let Some(reading) = reading_in(journal, ended) else {
         return Ok(None);
     };
@@ -108,11 +122,24 @@ fn put_ended<R: Relation>(
 ) -> Result<Option<Pair>, AllocError>
     ensures { (n : ℕ) (how : Ending) → IsEnded n ended.now how
         → IfOk result (λ o. o ≡ put_for journal.now.entries (Some exchange.now)
-        (content_by journal.now.entries moment exchange.now.opening how)) }
+        (newest_content journal.now.entries moment exchange.now how)) }
 {
     match ended {
         Ended::Found(finding) => put_found(alloc, journal, exchange, finding, moment),
         Ended::Turned => Ok(None),
+    }
+}
+
+/// What a notification puts into the store. It shares the response.
+fn put_told(told: &Notification) -> Result<Option<Pair>, AllocError>
+    ensures { IfOk result (λ o. o ≡ pair_of (Some told.now.key) told.now.found) }
+{
+    match &told.found {
+        Some(stored) => Ok(Some(Pair {
+            key: told.key.share()?,
+            stored: stored.share()?,
+        })),
+        None => Ok(None),
     }
 }
 
@@ -128,6 +155,7 @@ pub fn put_of<R: Relation>(
 {
     match matter {
         Matter::Over(exchange, ended) => put_ended(alloc, journal, exchange, ended, moment),
+        Matter::Tells(told) => put_told(told),
         _ => Ok(None),
     }
 }
@@ -181,4 +209,19 @@ pub fn settle<R: Relation>(
         return;
     }
     retire(store, journal, ended);
+}
+
+/// A notification of the key counts: what it puts is stored, for which there is room, or what is
+/// stored goes.
+pub fn retell(store: &mut Store, key: &Key, put: Option<Pair>)
+    requires { IfSome put (λ p. store.old.room ≡ true) }
+    ensures { (found : Option Stored) → put ≡ pair_of (Some key.now) found
+        → store.new.pairs ≡ retold key.now found store.old.pairs }
+{
+    match put {
+        Some(Pair { key, stored }) => {
+            store.put_in_room(key, stored);
+        }
+        None => store.take_out(key),
+    }
 }

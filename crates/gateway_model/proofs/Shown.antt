@@ -1,5 +1,5 @@
 -- What a connection is told of an answer is what the entries say of it.
-use Rattle.std.proofs.Common.{◌≡◌, ℕ, zero, suc, ◌-◌, cond, eqb, List, [], ◌∷◌, ◌++◌, length, Option, Some, refl, sym, ap, subst, ◌∙◌, append-nil}
+use Rattle.std.proofs.Common.{◌≡◌, ℕ, zero, suc, ◌-◌, cond, eqb, List, [], ◌∷◌, ◌++◌, length, Option, Some, refl, sym, ap, subst, ◌∙◌, append-nil, ◌⊎◌, inl, inr, false}
 use Rattle.std.specs.List.{AllByRecursion, flat_map, slice_get}
 use Rattle.coap_codec.specs.declared.block.Block.{Block}
 use Rattle.coap_codec.specs.Spelling.{Content, Spells}
@@ -16,7 +16,7 @@ use Rattle.history_laws.specs.Responses.{Response, whole_fetched, whole_given, w
 use Rattle.history_laws.specs.Progress.{Point, first_point, block_for, point_after}
 use Rattle.history_laws.specs.Justified.{Stands}
 use Rattle.history_laws.proofs.CallerLemmas.{some-is}
-use Rattle.history_claims.specs.Headline.{IsEntry, IsHeardFirst, IsHeardFor, AreHeardFor, IsServed, RestsOn}
+use Rattle.history_claims.specs.Headline.{IsEntry, IsHeardFirst, IsHeardFor, AreHeardFor, AreNotified, IsServed, RestsOn}
 use Rattle.history_claims.specs.Causes.{AreCaused}
 use Rattle.history_claims.proofs.CallerLemmas.{rests-on-replies, rests-on-stored}
 use Rattle.reply_reading.specs.Findings.{Told, Tells as TellsOf, Fails}
@@ -74,6 +74,21 @@ messages-same h k q point (j ∷ js) (m ∷ ms) [] a b = absurd b
 messages-same h k q point (j ∷ js) (m ∷ ms) (n ∷ ns) a b =
     ap (λ (x : Content). x ∷ ms) (message-same h k j b.0.0 q (block_for point) m n a.0 b.0.1)
     ∙ ap (λ (xs : List Content). n ∷ xs) (messages-same h j q (point_after point m) js ms ns a.1 b.1)
+
+messages-kept : (h : List Written) (k : ℕ) (q : CoapRequest) (js : List ℕ) (ms ns : List Content)
+    → AreHeardFor h k q (first_point q) js ms ⊎ AreNotified h k q js ms → AreHeard h js ns → ms ≡ ns
+messages-kept h k q js ms ns (inl a) b = messages-same h k q (first_point q) js ms ns a b
+messages-kept h k q (j ∷ []) (m ∷ []) (n ∷ []) (inr a) b =
+    let heard = a.response.heard in
+    let same : heard.bytes ≡ b.0.1.bytes =
+    hears-same a.response.moment b.0.0 q.peer b.0.1.peer heard.bytes b.0.1.bytes (sym heard.stands ∙ b.0.1.stands) in
+    ap (λ (x : Content). x ∷ []) (spells_one m n b.0.1.bytes (subst (Spells m) same heard.spelled) b.0.1.spelled)
+messages-kept h k q (j ∷ []) (m ∷ []) [] (inr a) b = absurd b
+messages-kept h k q (j ∷ []) (m ∷ []) (n ∷ o ∷ ns) (inr a) b = absurd b.1
+messages-kept h k q [] ms ns (inr a) b = absurd a
+messages-kept h k q (j ∷ []) [] ns (inr a) b = absurd a
+messages-kept h k q (j ∷ []) (m ∷ n ∷ ms) ns (inr a) b = absurd a
+messages-kept h k q (i ∷ j ∷ js) ms ns (inr a) b = absurd a
 
 -- What replies are as a whole is the same for requests that are alike.
 by-message : (q r : CoapRequest) (ms : List Content) → request_message q 0 [] ≡ request_message r 0 [] → whole_of q ms ≡ whole_of r ms
@@ -151,8 +166,8 @@ module _ (holds : Form → Form → List ℕ → List ℕ → Type 0) (takes : F
       let served : IsServed h g.moment c g.ask js = rests-on-stored h n g.moment c g.ask js stands answered in
       let one = asks-same g.moment asked c c _ _ (sym served.asked.stands ∙ ask) in
       let request : served.request ≡ q = request-same served.request q (ap (λ (a : Ask). a.sense) one ∙ sense) in
-      let messages : served.messages ≡ ms = messages-same h served.opening served.other (first_point served.other) js served.messages ms served.heard heard in
-      let message : request_message served.other 0 [] ≡ request_message q 0 [] = sym (served.same.2 0 []) ∙ ap (λ (k : CoapRequest). request_message k 0 []) request in
+      let messages : served.messages ≡ ms = messages-kept h served.opening served.other js served.messages ms served.heard heard in
+      let message : request_message served.other 0 [] ≡ request_message q 0 [] = sym (served.same.2 false 0 []) ∙ ap (λ (k : CoapRequest). request_message k 0 []) request in
       let response : served.response ≡ w =
       some-is served.response w
       (sym served.whole

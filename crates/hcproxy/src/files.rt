@@ -3,7 +3,7 @@
 ghost use Rattle.std.specs.Prelude.{IfOk};
 ghost use Rattle.proxy_settings.specs.Files.{IsOf};
 
-use command_line::{Report, asks_to_observe};
+use command_line::Report;
 use proxy_settings::{Device, FileFault, Part, Serve, Setup, read_setup};
 use std::alloc::Global;
 use std::fs;
@@ -44,16 +44,13 @@ fn read<R: Input + Files + AllocGlobal>(
     }
 }
 
-/// The settings of the gateway. What it doesn't follow of them yet is told.
-pub fn serve_at<'a, R: Input + Eprint + Files + AllocGlobal>(
+/// The settings of the gateway.
+pub fn serve_at<'a, R: Input + Files + AllocGlobal>(
     rt: &R,
     path: Option<&'a str>,
 ) -> Result<Serve, Report<'a>> {
     match setup_at(rt, Part::Serve, path)? {
-        Setup::Serve(serve) => {
-            tell_undone(rt, name_of(path), &serve);
-            Ok(serve)
-        }
+        Setup::Serve(serve) => Ok(serve),
         Setup::Origin(_) => unreachable!(),
     }
 }
@@ -76,12 +73,5 @@ pub fn setup_in(alloc: Global, part: Part, text: &str) -> Result<Setup, Report<'
     match read_setup(alloc, part, text.as_bytes()) {
         Ok(setup) => Ok(setup),
         Err(fault) => Err(Report::file("demo", fault)),
-    }
-}
-
-/// Tells of what settings ask for that the gateway doesn't do yet.
-pub fn tell_undone<R: Eprint>(rt: &R, path: &str, serve: &Serve) {
-    if asks_to_observe(serve) {
-        let _ = eprintln!(rt; "hcproxy: {path}: observe: not followed yet");
     }
 }

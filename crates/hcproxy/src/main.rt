@@ -20,10 +20,10 @@ use command_line::{Command, Hint, Report, USAGE, command_of};
 use demo::run_demo;
 use device::serve_device;
 use drawing::draw_input;
-use files::{setup_at, tell_undone};
+use files::setup_at;
 use log::Log;
 use looping::serve_loop;
-use proxy_settings::{Part, Setup};
+use proxy_settings::Part;
 use replaying::replay_input;
 use serving::serve;
 use std::net::{Net, TcpListener, TcpStream};
@@ -96,16 +96,13 @@ fn printed(outcome: io::Result<()>) -> Result<(), Report<'static>> {
 }
 
 /// Says whether a file has settings.
-fn check<'a, R: Input + Print + Eprint + Files + AllocGlobal>(
+fn check<'a, R: Input + Print + Files + AllocGlobal>(
     rt: &R,
     part: Part,
     path: &'a str,
 ) -> Result<(), Report<'a>> {
-    let setup = setup_at(rt, part, Some(path))?;
+    let _setup = setup_at(rt, part, Some(path))?;
     printed(println!(rt; "settings ok"))?;
-    if let Setup::Serve(serve) = &setup {
-        tell_undone(rt, path, serve);
-    }
     Ok(())
 }
 

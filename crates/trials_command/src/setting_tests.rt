@@ -1,6 +1,6 @@
-//! Files of settings: whether they ask for observation, and what is told of those that can't be read.
+//! Files of settings: which servers may be observed, and what is told of those that can't be read.
 
-use command_line::{Report, asks_to_observe};
+use command_line::{Report, followed};
 use proxy_settings::{FileFault, Part, Serve, Setup, read_setup};
 use std::alloc::{AllocError, Global};
 use std::io::{Error, ErrorKind};
@@ -17,18 +17,31 @@ fn serve_of(alloc: Global, text: &str) -> Option<Serve> {
     }
 }
 
-/// The settings ask for observation.
-fn is_observed(alloc: Global, text: &str) -> Option<bool> {
+/// The first server that may be observed by the settings, if any may.
+fn observed_first(alloc: Global, text: &str) -> Option<Option<String>> {
     let serve = serve_of(alloc, text)?;
-    Some(asks_to_observe(&serve))
+    let settings = followed(alloc, &serve).ok()?;
+    match settings.observed.as_slice() {
+        [first, ..] => Some(Some(String::from_str(alloc, first.as_str()).ok()?)),
+        [] => Some(None),
+    }
+}
+
+/// By the settings this server alone, or none, may be observed first.
+fn is_observed(alloc: Global, text: &str, name: Option<&str>) -> bool {
+    match (observed_first(alloc, text), name) {
+        (Some(Some(first)), Some(name)) => first.as_str() == name,
+        (Some(None), None) => true,
+        _ => false,
+    }
 }
 
 #[test]
 fn observation_is_asked_for(rt: HostRuntime) {
     let observed =
         "listen = '1.2.3.4:5'\nudp = '1.2.3.4:6'\norigin = [{host = 'a', address = '::1'}, {host = 'b', address = '::1', observe = true}]\n";
-    assert!(rt; is_observed(rt.alloc(), OTHER) == Some(false));
-    assert!(rt; is_observed(rt.alloc(), observed) == Some(true));
+    assert!(rt; is_observed(rt.alloc(), OTHER, None));
+    assert!(rt; is_observed(rt.alloc(), observed, Some("b")));
 }
 
 /// The lines and the status of a report.

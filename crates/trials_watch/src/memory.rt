@@ -1,31 +1,16 @@
 //! A call that memory was refused is made once more; until then the watches are as before. With any
 //! one allocation of a run refused, it goes as it would have gone.
 
-use crate::samples::{device, key, target, token, watched};
+use crate::samples::{reading, target, token, watched};
 use crate::telling::check;
-use cache_key::{Key, Place};
 use observe_share::{Notice, Notified, Registration, Watch, WatchFault};
 use std::alloc::Global;
+use uri_map::Target;
 
-fn one_key(alloc: Global, segment: &str) -> Option<Key> {
-    match key(alloc, segment) {
-        Ok(key) => Some(key),
-        Err(_) => key(alloc, segment).ok(),
-    }
-}
-
-fn one_place(alloc: Global, segment: &str) -> Option<Place> {
-    let target = match target(alloc, segment) {
-        Ok(target) => target,
-        Err(_) => target(alloc, segment).ok()?,
-    };
-    let place = match Place::of(device(), &target) {
-        Ok(place) => place,
-        Err(_) => Place::of(device(), &target).ok()?,
-    };
-    match place.copy() {
-        Ok(copy) => Some(copy),
-        Err(_) => place.copy().ok(),
+fn one_target(alloc: Global, segment: &str) -> Option<Target> {
+    match target(alloc, segment) {
+        Ok(target) => Some(target),
+        Err(_) => target(alloc, segment).ok(),
     }
 }
 
@@ -67,8 +52,8 @@ fn three_of_six(alloc: Global) -> Option<Watch> {
     }
     registers(&mut watch, alloc, "u", 4)?;
     registers(&mut watch, alloc, "v", 5)?;
-    watch.retire(&one_place(alloc, "u")?);
-    watch.forget(&one_key(alloc, "v")?);
+    watch.retire(&reading(&one_target(alloc, "u")?));
+    watch.forget(&reading(&one_target(alloc, "v")?));
     match watch.notified(&token(0), Notice::Other(None), 20) {
         Notified::Ended(_) => Some(watch),
         _ => None,

@@ -1,8 +1,7 @@
 //! A watch from its registration to its end.
 
-use crate::samples::{device, target, token, watched};
+use crate::samples::{reading, target, token, watched};
 use crate::telling::check;
-use cache_key::Place;
 use observe_share::{Notice, Notified, Watch};
 use std::alloc::Global;
 
@@ -90,7 +89,7 @@ fn newest(watch: &Watch) -> Option<(u32, u64)> {
 /// The resource `t` is written.
 fn write(watch: &mut Watch, alloc: Global) -> Option<()> {
     let written = target(alloc, "t").ok()?;
-    watch.retire(&Place::of(device(), &written).ok()?);
+    watch.retire(&reading(&written));
     Some(())
 }
 

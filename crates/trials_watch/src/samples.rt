@@ -1,6 +1,6 @@
 //! Resources of one device, and watches of them.
 
-use cache_key::Key;
+use cache_key::{Key, Reading};
 use coap_codec::Token;
 use observe_share::Registration;
 use std::alloc::{AllocError, Global};
@@ -25,6 +25,15 @@ pub fn target(alloc: Global, segment: &str) -> Result<Target, AllocError> {
         path,
         query: Texts::new(alloc),
     })
+}
+
+/// What a GET of that target reads, which wants no format.
+pub fn reading(target: &Target) -> Reading<'_> {
+    Reading {
+        peer: device(),
+        target,
+        accept: None,
+    }
 }
 
 /// The key of a GET of that target, which wants no format.

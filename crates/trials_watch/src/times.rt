@@ -1,8 +1,7 @@
 //! How long a watch stands, and what else ends it.
 
-use crate::samples::{device, key, target, watched};
+use crate::samples::{reading, target, watched};
 use crate::telling::check;
-use cache_key::Place;
 use observe_share::Watch;
 use std::alloc::Global;
 
@@ -21,7 +20,8 @@ fn ends(watch: &mut Watch, moment: u64, count: usize, due: Option<u64>) -> bool 
 
 /// The key of this segment was asked for at this moment.
 fn touch(watch: &mut Watch, alloc: Global, segment: &str, moment: u64) -> Option<()> {
-    watch.touched(&key(alloc, segment).ok()?, moment);
+    let target = target(alloc, segment).ok()?;
+    watch.touched(&reading(&target), moment);
     Some(())
 }
 
@@ -52,13 +52,14 @@ fn a_watch_of_the_last_moments_is_never_due(rt: HostRuntime) {
 }
 
 fn forget(watch: &mut Watch, alloc: Global, segment: &str) -> Option<()> {
-    watch.forget(&key(alloc, segment).ok()?);
+    let target = target(alloc, segment).ok()?;
+    watch.forget(&reading(&target));
     Some(())
 }
 
 fn retire(watch: &mut Watch, alloc: Global, segment: &str) -> Option<()> {
     let written = target(alloc, segment).ok()?;
-    watch.retire(&Place::of(device(), &written).ok()?);
+    watch.retire(&reading(&written));
     Some(())
 }
 

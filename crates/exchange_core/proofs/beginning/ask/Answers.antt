@@ -27,9 +27,9 @@ returns-in-Ok-clause-sound g c =
     c.requires.message.ready in
     let next = sent-next _ _ _ _ _ k c.requires.message.waiting in
     let h = c.in_ok-draft.ensures.drafts in
-    let i = entered-by c.enter.result _ _ _ _ _ _ _ _ c.in_ok-draft.draft c.args.s.now c.enter.new.s
-    (exchange-is _ _ _ _ _ _ _ _ _ asked n c.exchange_of-exchange.ensures) n c.requires.message.waiting c.enter.ensures in
-    enters-sound c.args.moment c.args.word c.args.conn (arc_value c.args.mapped) c.args.message.peer c.args.message.token c.args.message.text c.args.message.submission.sent c.in_ok-draft.draft c.args.s.now c.enter.new.s
+    let i = entered-by c.enter.result _ _ _ _ _ _ _ _ _ _ c.in_ok-draft.draft c.args.s.now c.enter.new.s
+    (ap (λ (m : Mapping). m.sense) c.deref-2.ensures) (exchange-is _ _ _ _ _ _ _ _ _ _ _ asked c.requires.observes n c.exchange_of-exchange.ensures) n c.requires.message.waiting c.enter.ensures in
+    enters-sound c.args.moment c.args.word c.args.conn (arc_value c.args.mapped) c.args.message.peer c.args.message.token c.args.message.first.text c.args.message.submission.sent c.in_ok-draft.draft c.args.s.now c.enter.new.s
     c.requires.sound c.requires.begins h next c.in_ok-draft.ensures.answers c.enter.result i
 
 pub returns-in-Err-clause-sound : goal.returns-in-Err-clause-sound
@@ -40,9 +40,9 @@ returns-in-Err-clause-sound g c =
     c.requires.message.ready in
     let next = sent-next _ _ _ _ _ k c.requires.message.waiting in
     let h = c.in_ok-draft.ensures.drafts in
-    let i = entered-by c.enter.result _ _ _ _ _ _ _ _ c.in_ok-draft.draft c.args.s.now c.enter.new.s
-    (exchange-is _ _ _ _ _ _ _ _ _ asked n c.exchange_of-exchange.ensures) n c.requires.message.waiting c.enter.ensures in
-    enters-sound c.args.moment c.args.word c.args.conn (arc_value c.args.mapped) c.args.message.peer c.args.message.token c.args.message.text c.args.message.submission.sent c.in_ok-draft.draft c.args.s.now c.enter.new.s
+    let i = entered-by c.enter.result _ _ _ _ _ _ _ _ _ _ c.in_ok-draft.draft c.args.s.now c.enter.new.s
+    (ap (λ (m : Mapping). m.sense) c.deref-2.ensures) (exchange-is _ _ _ _ _ _ _ _ _ _ _ asked c.requires.observes n c.exchange_of-exchange.ensures) n c.requires.message.waiting c.enter.ensures in
+    enters-sound c.args.moment c.args.word c.args.conn (arc_value c.args.mapped) c.args.message.peer c.args.message.token c.args.message.first.text c.args.message.submission.sent c.in_ok-draft.draft c.args.s.now c.enter.new.s
     c.requires.sound c.requires.begins h next c.in_ok-draft.ensures.answers c.enter.result i
 
 pub returns-in-Ok-clause-ok : goal.returns-in-Ok-clause-ok
@@ -53,10 +53,10 @@ returns-in-Ok-clause-ok g c =
     c.requires.message.ready in
     let next = sent-next _ _ _ _ _ k c.requires.message.waiting in
     let h = c.in_ok-draft.ensures.drafts in
-    let i = entered-by c.enter.result _ _ _ _ _ _ _ _ c.in_ok-draft.draft c.args.s.now c.enter.new.s
-    (exchange-is _ _ _ _ _ _ _ _ _ asked n c.exchange_of-exchange.ensures) n c.requires.message.waiting c.enter.ensures in
+    let i = entered-by c.enter.result _ _ _ _ _ _ _ _ _ _ c.in_ok-draft.draft c.args.s.now c.enter.new.s
+    (ap (λ (m : Mapping). m.sense) c.deref-2.ensures) (exchange-is _ _ _ _ _ _ _ _ _ _ _ asked c.requires.observes n c.exchange_of-exchange.ensures) n c.requires.message.waiting c.enter.ensures in
     let b =
-    enters-ok c.args.moment c.args.word c.args.conn (arc_value c.args.mapped) c.args.message.peer c.args.message.token c.args.message.text c.args.message.submission.sent c.in_ok-draft.draft c.args.s.now c.enter.new.s
+    enters-ok c.args.moment c.args.word c.args.conn (arc_value c.args.mapped) c.args.message.peer c.args.message.token c.args.message.first.text c.args.message.submission.sent c.in_ok-draft.draft c.args.s.now c.enter.new.s
     c.requires.sound c.requires.begins h next c.in_ok-draft.ensures.answers c.in-Ok.field-0 (rw (c.in-Ok.is) at i) in
     (refl, refl, (n, b.1, b.2))
 
@@ -68,9 +68,9 @@ returns-in-Err-clause-err g c =
     c.requires.message.ready in
     let next = sent-next _ _ _ _ _ k c.requires.message.waiting in
     let h = c.in_ok-draft.ensures.drafts in
-    let i = entered-by c.enter.result _ _ _ _ _ _ _ _ c.in_ok-draft.draft c.args.s.now c.enter.new.s
-    (exchange-is _ _ _ _ _ _ _ _ _ asked n c.exchange_of-exchange.ensures) n c.requires.message.waiting c.enter.ensures in
-    enters-err c.args.moment c.args.word c.args.conn (arc_value c.args.mapped) c.args.message.peer c.args.message.token c.args.message.text c.args.message.submission.sent c.in_ok-draft.draft c.args.s.now c.enter.new.s
+    let i = entered-by c.enter.result _ _ _ _ _ _ _ _ _ _ c.in_ok-draft.draft c.args.s.now c.enter.new.s
+    (ap (λ (m : Mapping). m.sense) c.deref-2.ensures) (exchange-is _ _ _ _ _ _ _ _ _ _ _ asked c.requires.observes n c.exchange_of-exchange.ensures) n c.requires.message.waiting c.enter.ensures in
+    enters-err c.args.moment c.args.word c.args.conn (arc_value c.args.mapped) c.args.message.peer c.args.message.token c.args.message.first.text c.args.message.submission.sent c.in_ok-draft.draft c.args.s.now c.enter.new.s
     c.requires.sound c.requires.begins h next c.in_ok-draft.ensures.answers (Unit {0}) c.in-Err.fault (rw (c.in-Err.is) at i)
 
 pub enter-requires-clause-latest : goal.enter-requires-clause-latest

@@ -6,20 +6,33 @@ use Rattle.exchange_model.proofs.CallerLemmas.{all-asked-for, restarts-few}
 use Rattle.exchange_core.proofs.BeginSound.{issued-below}
 use Rattle.exchange_core.proofs.Ordered.{conns-ordered, ordered}
 use Rattle.exchange_core.proofs.Heard.{next-timed}
-use Rattle.exchange_core.proofs.Heeds.{bytes-small}
+use Rattle.coap_codec.specs.Reading.{message_at}
+use Rattle.message_layer.specs.Values.{told}
+use Rattle.exchange_core.specs.Hearing.{watches_after}
+use Rattle.exchange_core.proofs.HeardNotes.{first-so, reads-in, under-told, watched-as}
+use Rattle.exchange_core.proofs.Heeds.{bytes-small, effect}
 use Rattle.exchange_core.proofs.HeardSteps.{newest-in, sound-sealed, seen-sealed, sound-heard, seen-heard, tells-so}
 use Rattle.exchange_core.proofs.Readers.{few-readers}
 use Rattle.exchange_core.proofs.Sounding.{few-for}
 use Rattle.exchange_core.proofs.hearing.take.Goals as goal
 
-pub matter_of-requires-clause-few : goal.matter_of-requires-clause-few
-matter_of-requires-clause-few g c = restarts-few (state_of c.args.s.now) c.requires.sound.kept.kept
+pub matter_told-requires-clause-few : goal.matter_told-requires-clause-few
+matter_told-requires-clause-few g c = restarts-few (state_of c.args.s.now) c.requires.sound.kept.kept
 
-pub matter_of-requires-clause-asked : goal.matter_of-requires-clause-asked
-matter_of-requires-clause-asked g c = all-asked-for (state_of c.args.s.now) c.requires.sound.kept.kept
+pub matter_told-requires-clause-asked : goal.matter_told-requires-clause-asked
+matter_told-requires-clause-asked g c = all-asked-for (state_of c.args.s.now) c.requires.sound.kept.kept
 
-pub matter_of-requires-clause-known : goal.matter_of-requires-clause-known
-matter_of-requires-clause-known g c = c.requires.hears.known
+pub matter_told-requires-clause-known : goal.matter_told-requires-clause-known
+matter_told-requires-clause-known g c = c.requires.hears.known
+
+pub matter_told-requires-clause-under : goal.matter_told-requires-clause-under
+matter_told-requires-clause-under g c =
+    under-told c.args.moment c.args.datagram.now _ c.args.hearing (message_at c.args.datagram.now) c.requires.hears.is
+
+pub watching_of-requires : goal.watching_of-requires
+watching_of-requires g c =
+    let made = c.in_ok-matter.ensures in
+    reads-in c.args.moment c.args.peer c.args.hearing.heeding (told c.args.hearing.up) (state_of c.args.s.now) _ made.numbers c.in_ok-matter.matter c.requires.sound.kept.kept made.is
 
 pub draft_heard-requires-clause-readers : goal.draft_heard-requires-clause-readers
 draft_heard-requires-clause-readers g c = few-readers (state_of c.args.s.now) c.requires.sound.kept
@@ -69,7 +82,8 @@ returns-then-not-taken-clause-sound g c =
     c.requires.sound c.requires.unsealed c.requires.later c.requires.early
     (bytes-small c.args.datagram.now (λ i. omega (arith, c.type_inv.datagram i)))
     c.requires.hears refl c.in_ok-matter.matter made
-    c.in_ok-brought.brought.draft (c.in_ok-brought.ensures.drafted made.numbers _ made.is) _ _ _ _
+    c.in_ok-brought.brought.draft (c.in_ok-brought.ensures.drafted made.numbers _ made.is) _ _ (watched-as c.args.moment c.args.word c.args.peer c.args.datagram.now (state_of c.args.s.now) (link_at c.args.s.now.endpoints c.args.peer) c.args.hearing
+    c.in_ok-matter.matter c.requires.hears refl made c.in_ok-watching.watching c.notice_told-notice.result c.notice_told-notice.ensures c.in_ok-watching.ensures.is) _ _ _ _
     (sym (c.in_ok-taken.ensures c.args.moment) ∙ c.if-not-taken.true) e.state e.bytes e.room e.answers
 
 pub returns-then-not-taken-clause-heard : goal.returns-then-not-taken-clause-heard
@@ -80,7 +94,8 @@ returns-then-not-taken-clause-heard g c =
     c.requires.sound c.requires.unsealed c.requires.later c.requires.early
     (bytes-small c.args.datagram.now (λ i. omega (arith, c.type_inv.datagram i)))
     c.requires.hears refl c.in_ok-matter.matter made
-    c.in_ok-brought.brought.draft (c.in_ok-brought.ensures.drafted made.numbers _ made.is) _ _ _ _
+    c.in_ok-brought.brought.draft (c.in_ok-brought.ensures.drafted made.numbers _ made.is) _ _ (watched-as c.args.moment c.args.word c.args.peer c.args.datagram.now (state_of c.args.s.now) (link_at c.args.s.now.endpoints c.args.peer) c.args.hearing
+    c.in_ok-matter.matter c.requires.hears refl made c.in_ok-watching.watching c.notice_told-notice.result c.notice_told-notice.ensures c.in_ok-watching.ensures.is) _ _ _ _
     (sym (c.in_ok-taken.ensures c.args.moment) ∙ c.if-not-taken.true) e.state e.answers e.sends
 
 pub returns-clause-sound : goal.returns-clause-sound
@@ -91,9 +106,12 @@ returns-clause-sound g c =
     c.requires.sound c.requires.unsealed c.requires.later c.requires.early
     (bytes-small c.args.datagram.now (λ i. omega (arith, c.type_inv.datagram i)))
     c.requires.hears refl c.in_ok-matter.matter made
-    c.in_ok-brought.brought.draft (c.in_ok-brought.ensures.drafted made.numbers _ made.is) _ _ _ _
+    c.in_ok-brought.brought.draft (c.in_ok-brought.ensures.drafted made.numbers _ made.is) _ _ (watched-as c.args.moment c.args.word c.args.peer c.args.datagram.now (state_of c.args.s.now) (link_at c.args.s.now.endpoints c.args.peer) c.args.hearing
+    c.in_ok-matter.matter c.requires.hears refl made c.in_ok-watching.watching c.notice_told-notice.result c.notice_told-notice.ensures c.in_ok-watching.ensures.is) _ _ _ _
     (sym (c.in_ok-taken.ensures c.args.moment) ∙ c.if-not-taken.false)
-    (e.state made.numbers _ made.is (c.in_ok-brought.ensures.put made.numbers _ made.is)) e.bytes e.held e.answers
+    (e.state (effect c.args.moment c.args.word c.args.peer c.args.datagram.now (state_of c.args.s.now) (link_at c.args.s.now.endpoints c.args.peer) c.args.hearing
+    c.in_ok-matter.matter c.requires.hears refl made (watches_after c.args.moment c.args.s.now.journal.entries c.in_ok-watching.watching.notice c.in_ok-matter.matter
+    c.in_ok-watching.watching.more c.args.s.now.watches.standing) c.in_ok-watching.watching.gone.items) (record { matter = made.is; first = first-so c.args.moment c.args.peer c.args.hearing.heeding (told c.args.hearing.up) (state_of c.args.s.now) _ made.numbers c.in_ok-matter.matter c.requires.sound.kept.kept made.is; watches = refl; gone = refl }) (c.in_ok-brought.ensures.put made.numbers _ made.is)) e.bytes e.held e.answers
 
 pub returns-clause-heard : goal.returns-clause-heard
 returns-clause-heard g c =
@@ -103,6 +121,9 @@ returns-clause-heard g c =
     c.requires.sound c.requires.unsealed c.requires.later c.requires.early
     (bytes-small c.args.datagram.now (λ i. omega (arith, c.type_inv.datagram i)))
     c.requires.hears refl c.in_ok-matter.matter made
-    c.in_ok-brought.brought.draft (c.in_ok-brought.ensures.drafted made.numbers _ made.is) _ _ _ _
+    c.in_ok-brought.brought.draft (c.in_ok-brought.ensures.drafted made.numbers _ made.is) _ _ (watched-as c.args.moment c.args.word c.args.peer c.args.datagram.now (state_of c.args.s.now) (link_at c.args.s.now.endpoints c.args.peer) c.args.hearing
+    c.in_ok-matter.matter c.requires.hears refl made c.in_ok-watching.watching c.notice_told-notice.result c.notice_told-notice.ensures c.in_ok-watching.ensures.is) _ _ _ _
     (sym (c.in_ok-taken.ensures c.args.moment) ∙ c.if-not-taken.false)
-    (e.state made.numbers _ made.is (c.in_ok-brought.ensures.put made.numbers _ made.is)) e.answers e.sends
+    (e.state (effect c.args.moment c.args.word c.args.peer c.args.datagram.now (state_of c.args.s.now) (link_at c.args.s.now.endpoints c.args.peer) c.args.hearing
+    c.in_ok-matter.matter c.requires.hears refl made (watches_after c.args.moment c.args.s.now.journal.entries c.in_ok-watching.watching.notice c.in_ok-matter.matter
+    c.in_ok-watching.watching.more c.args.s.now.watches.standing) c.in_ok-watching.watching.gone.items) (record { matter = made.is; first = first-so c.args.moment c.args.peer c.args.hearing.heeding (told c.args.hearing.up) (state_of c.args.s.now) _ made.numbers c.in_ok-matter.matter c.requires.sound.kept.kept made.is; watches = refl; gone = refl }) (c.in_ok-brought.ensures.put made.numbers _ made.is)) e.answers e.sends

@@ -1,9 +1,15 @@
-use Rattle.std.proofs.Common.{◌≡◌, ℕ, ◌+◌, ◌++◌, ◌∷◌, [], List, length, sym, ap, subst, ◌∙◌, arith}
+use Rattle.std.proofs.Common.{◌≡◌, ℕ, ◌+◌, ◌++◌, ◌∷◌, [], List, length, map, sym, ap, subst, ◌∙◌, arith}
 use Rattle.std.specs.Prelude.{sum_by}
+use Rattle.std.specs.Arc.{arc_value}
+use Rattle.observe_share.specs.declared.registration.Registration.{Registration}
 use Rattle.ask_model.specs.Sizes.{capped}
+use Rattle.ask_model.specs.Views.{Mapping}
 use Rattle.journal_book.specs.Entries.{entry_size}
 use Rattle.exchange_model.specs.declared.kept.Reader.{Reader}
+use Rattle.exchange_model.specs.declared.kept.Exchange.{Exchange}
 use Rattle.exchange_model.specs.State.{State}
+use Rattle.exchange_model.specs.Steps.{read_at}
+use Rattle.exchange_model.specs.Watching.{touched}
 use Rattle.exchange_core.specs.Answering.{Given}
 use Rattle.exchange_core.specs.Places.{IsOrdered}
 use Rattle.exchange_core.specs.States.{state_of, given_in, outgoing, with_draft}
@@ -44,11 +50,17 @@ placed : (S S1 : State) (rs : List Reader) → S1 ≡ S → rs ≡ S1.readers �
 placed S S1 rs is same = rw (same) is
 
 -- ... and once the ask and the reader came
-after : (S S1 V : State) (rs : List Reader) (c o k : ℕ) → S1 ≡ V → rs ≡ S1.readers ++ record { ask = k; conn = c; opening = o } ∷ [] → k ≡ length S.entries
-    → record S1 { readers = rs } ≡ with_reader (reader_of (length S.entries) c o) V
-after S S1 V rs c o k is more at =
-    ap (λ (xs : List Reader). record S1 { readers = xs }) (more ∙ ap (λ (j : ℕ). S1.readers ++ reader_of j c o ∷ []) at)
-    ∙ ap (with_reader (reader_of (length S.entries) c o)) is
+after : (t : ℕ) (m n : Mapping) (S S1 V : State) (es : List Exchange) (rs : List Reader) (ws : List Registration) (c o k : ℕ) → S1 ≡ V
+    → es ≡ map (read_at t o) S1.exchanges → rs ≡ S1.readers ++ record { ask = k; conn = c; opening = o } ∷ [] → ws ≡ touched t n.sense S1.watches
+    → n ≡ m → k ≡ length S.entries
+    → record S1 { exchanges = es; readers = rs; watches = ws } ≡ with_reader t m.sense (reader_of (length S.entries) c o) V
+after t m n S S1 V es rs ws c o k is read more noted same at =
+    ap (λ (xs : List Exchange). record S1 { exchanges = xs; readers = rs; watches = ws }) read
+    ∙ ap (λ (xs : List Reader). record S1 { exchanges = map (read_at t o) S1.exchanges; readers = xs; watches = ws })
+    (more ∙ ap (λ (j : ℕ). S1.readers ++ reader_of j c o ∷ []) at)
+    ∙ ap (λ (xs : List Registration). record S1 { exchanges = map (read_at t o) S1.exchanges; readers = S1.readers ++ reader_of (length S.entries) c o ∷ []; watches = xs })
+    (noted ∙ ap (λ (x : Mapping). touched t x.sense S1.watches) same)
+    ∙ ap (with_reader t m.sense (reader_of (length S.entries) c o)) is
 
 pub commit-requires-clause-ordered : goal.commit-requires-clause-ordered
 commit-requires-clause-ordered g c =
@@ -64,8 +76,9 @@ returns-clause-sound g c =
     let d = c.in_ok-draft.draft in
     let fit = sym (c.in_ok-taken.ensures t) ∙ c.if-not-taken.false in
     let made = placed S (state_of c.make_places.new.s) c.make_room.new.self.items m.state c.make_room.ensures.same in
-    let new = after S (state_of c.commit.new.s) (with_draft t d S) c.push_in_room.new.self.items c.args.conn c.args.opening c.len-ask.result
-    (e.state ∙ ap (λ (V : State). with_draft t d V) made) c.push_in_room.ensures c.len-ask.ensures in
+    let new = after t (arc_value c.args.mapped) _ S (state_of c.commit.new.s) (with_draft t d S) c.read.new.self.exchanges c.push_in_room.new.self.items
+    c.touch.new.watches.standing c.args.conn c.args.opening c.len-ask.result
+    (e.state ∙ ap (λ (V : State). with_draft t d V) made) c.read.ensures.exchanges c.push_in_room.ensures c.touch.ensures c.deref.ensures c.len-ask.ensures in
     join-sound t c.args.conn c.args.opening _ S d c.in_ok-draft.ensures.drafts
     _ _ _ (outgoing c.args.s.now) c.requires.sound c.requires.unsealed c.requires.joins c.in_ok-draft.ensures.answers
     _ _ _ _ c.requires.early fit new
@@ -81,8 +94,9 @@ returns-clause-is g c = λ ne n.
     let d = c.in_ok-draft.draft in
     let fit = sym (c.in_ok-taken.ensures t) ∙ c.if-not-taken.false in
     let made = placed S (state_of c.make_places.new.s) c.make_room.new.self.items m.state c.make_room.ensures.same in
-    let new = after S (state_of c.commit.new.s) (with_draft t d S) c.push_in_room.new.self.items c.args.conn c.args.opening c.len-ask.result
-    (e.state ∙ ap (λ (V : State). with_draft t d V) made) c.push_in_room.ensures c.len-ask.ensures in
+    let new = after t (arc_value c.args.mapped) _ S (state_of c.commit.new.s) (with_draft t d S) c.read.new.self.exchanges c.push_in_room.new.self.items
+    c.touch.new.watches.standing c.args.conn c.args.opening c.len-ask.result
+    (e.state ∙ ap (λ (V : State). with_draft t d V) made) c.read.ensures.exchanges c.push_in_room.ensures c.touch.ensures c.deref.ensures c.len-ask.ensures in
     join-steps t c.args.conn c.args.opening _ S d c.in_ok-draft.ensures.drafts
     _ _ _ (outgoing c.args.s.now) c.requires.sound c.requires.unsealed c.requires.joins c.in_ok-draft.ensures.answers
     _ _ _ n fit new

@@ -53,8 +53,8 @@ returns-clause-sound g c =
     let S : State = state_of c.args.s.now in
     let d = c.in_ok-draft.draft in
     let fit = sym (c.in_ok-taken.ensures t) ∙ c.if-not-taken.false in
-    let new = used-after (state_of c.commit.new.s) (with_draft t d S) _ (arc_value c.args.mapped) t c.touch.new.store.pairs
-    (e.state ∙ ap (λ (V : State). with_draft t d V) m.state) c.touch.ensures c.deref.ensures in
+    let new = used-after (state_of c.commit.new.s) (with_draft t d S) _ _ (arc_value c.args.mapped) t c.touch.new.store.pairs c.touch-2.new.watches.standing
+    (e.state ∙ ap (λ (V : State). with_draft t d V) m.state) c.touch.ensures c.deref.ensures c.touch-2.ensures c.deref-2.ensures in
     recall-sound t c.args.conn (arc_value c.args.mapped) c.args.stored S d c.in_ok-draft.ensures.drafts
     c.requires.recalls c.in_ok-draft.ensures.answers
     _ _ _ (outgoing c.args.s.now) c.requires.sound c.requires.unsealed
@@ -70,8 +70,8 @@ returns-clause-is g c = λ ne n.
     let S : State = state_of c.args.s.now in
     let d = c.in_ok-draft.draft in
     let fit = sym (c.in_ok-taken.ensures t) ∙ c.if-not-taken.false in
-    let new = used-after (state_of c.commit.new.s) (with_draft t d S) _ (arc_value c.args.mapped) t c.touch.new.store.pairs
-    (e.state ∙ ap (λ (V : State). with_draft t d V) m.state) c.touch.ensures c.deref.ensures in
+    let new = used-after (state_of c.commit.new.s) (with_draft t d S) _ _ (arc_value c.args.mapped) t c.touch.new.store.pairs c.touch-2.new.watches.standing
+    (e.state ∙ ap (λ (V : State). with_draft t d V) m.state) c.touch.ensures c.deref.ensures c.touch-2.ensures c.deref-2.ensures in
     recall-steps t c.args.conn (arc_value c.args.mapped) c.args.stored S d c.in_ok-draft.ensures.drafts
     c.requires.recalls c.in_ok-draft.ensures.answers
     _ _ _ (outgoing c.args.s.now) c.requires.sound c.requires.unsealed

@@ -10,11 +10,12 @@ use Rattle.exchange_model.specs.Entering.{refusal_deeds, entered_all}
 use Rattle.exchange_model.specs.Room.{fits}
 use Rattle.exchange_core.specs.Answering.{Given}
 use Rattle.exchange_core.specs.Places.{IsOrdered}
+use Rattle.exchange_core.specs.Refusing.{refused}
 use Rattle.exchange_core.specs.Sound.{SoundState}
 use Rattle.exchange_core.specs.States.{state_of, given_in, outgoing, with_draft, core_of}
 use Rattle.exchange_core.specs.Values.{Outgoing, stepped}
 use Rattle.exchange_core.proofs.Ordered.{conns-ordered, ordered}
-use Rattle.exchange_core.proofs.Refusals.{asks-entered, asks-sealed, refusal-so}
+use Rattle.exchange_core.proofs.Refusals.{asks-entered, asks-sealed, refusal-so, touched-after}
 use Rattle.exchange_core.proofs.Sounding.{sound-drafted, few-for, sound-seal, first-of, second-of}
 use Rattle.exchange_core.proofs.Stepping.{committed, stepped-seal, with-draft, same-core}
 use Rattle.exchange_core.proofs.refusing.refuse.Goals as goal
@@ -24,7 +25,7 @@ returns-then-not-taken-clause-sound g c =
     let e = c.seal.ensures in
     let t = c.args.moment in
     let S : State = state_of c.args.s.now in
-    let U : State = entered_all t (refusal_deeds c.args.conn (ask_of (arc_value c.args.mapped)) c.args.cause S) S in
+    let U : State = refused t c.args.conn (ask_of (arc_value c.args.mapped)) c.args.cause S in
     let is = with-draft t S _ _ c.in_ok-draft.draft c.in_ok-draft.ensures.drafts in
     let fit = sym (ap fits is) ∙ sym (c.in_ok-taken.ensures t) ∙ c.if-not-taken.true in
     sound-seal t S _ _ _ _ _ _ _ c.requires.sound c.requires.unsealed (second-of (fits U) U (seals t S) fit c.requires.refused.kept)
@@ -35,7 +36,7 @@ returns-then-not-taken-clause-is g c = λ ne n.
     let e = c.seal.ensures in
     let t = c.args.moment in
     let S : State = state_of c.args.s.now in
-    let U : State = entered_all t (refusal_deeds c.args.conn (ask_of (arc_value c.args.mapped)) c.args.cause S) S in
+    let U : State = refused t c.args.conn (ask_of (arc_value c.args.mapped)) c.args.cause S in
     let is = with-draft t S _ _ c.in_ok-draft.draft c.in_ok-draft.ensures.drafts in
     let fit = sym (ap fits is) ∙ sym (c.in_ok-taken.ensures t) ∙ c.if-not-taken.true in
     same-core _ (seals t S) _ (given_in c.args.s.now) _ (outgoing c.args.s.now) e.state e.answers e.sends
@@ -64,10 +65,11 @@ returns-clause-sound g c =
     let t = c.args.moment in
     let S : State = state_of c.args.s.now in
     let d = c.in_ok-draft.draft in
-    let U : State = entered_all t (refusal_deeds c.args.conn (ask_of (arc_value c.args.mapped)) c.args.cause S) S in
+    let U : State = refused t c.args.conn (ask_of (arc_value c.args.mapped)) c.args.cause S in
     let is = with-draft t S _ _ d c.in_ok-draft.ensures.drafts in
     let fit = sym (ap fits is) ∙ sym (c.in_ok-taken.ensures t) ∙ c.if-not-taken.false in
-    let new = e.state ∙ ap (λ (V : State). with_draft t d V) m.state ∙ is in
+    let new = touched-after (state_of c.commit.new.s) (entered_all t (refusal_deeds c.args.conn (ask_of (arc_value c.args.mapped)) c.args.cause S) S) _ (arc_value c.args.mapped) t
+    c.touch.new.watches.standing (e.state ∙ ap (λ (V : State). with_draft t d V) m.state ∙ is) c.touch.ensures c.deref.ensures in
     let drained = c.requires.sound.drained in
     subst (λ (V : State). SoundState V c.commit.new.s.bytes c.commit.new.s.journal.room (given_in c.commit.new.s)) (sym new)
     (sound-drafted t S U _ _ _ _ _ _ _ d c.requires.sound
@@ -86,10 +88,11 @@ returns-clause-is g c = λ ne n.
     let d = c.in_ok-draft.draft in
     let gs : List Given = given_in c.args.s.now in
     let os : List Outgoing = outgoing c.args.s.now in
-    let U : State = entered_all t (refusal_deeds c.args.conn (ask_of (arc_value c.args.mapped)) c.args.cause S) S in
+    let U : State = refused t c.args.conn (ask_of (arc_value c.args.mapped)) c.args.cause S in
     let is = with-draft t S _ _ d c.in_ok-draft.ensures.drafts in
     let fit = sym (ap fits is) ∙ sym (c.in_ok-taken.ensures t) ∙ c.if-not-taken.false in
-    let new = e.state ∙ ap (λ (V : State). with_draft t d V) m.state ∙ is in
+    let new = touched-after (state_of c.commit.new.s) (entered_all t (refusal_deeds c.args.conn (ask_of (arc_value c.args.mapped)) c.args.cause S) S) _ (arc_value c.args.mapped) t
+    c.touch.new.watches.standing (e.state ∙ ap (λ (V : State). with_draft t d V) m.state ∙ is) c.touch.ensures c.deref.ensures in
     same-core _ U _ (given_in c.commit.new.s) _ (outgoing c.commit.new.s) new refl refl
     ∙ committed t S U _ d gs _ os _ c.in_ok-draft.ensures.drafts (ap (λ (V : State). V.entries) (sym is))
     (e.answers ∙ ap (λ (xs : List Given). xs ++ d.answers) m.answers) (e.sends ∙ ap (λ (xs : List Outgoing). xs ++ d.sends) m.sends)

@@ -1,0 +1,14 @@
+use Rattle.std.proofs.Common.{ℕ, ◌<◌, length, arith}
+use Rattle.exchange_core.proofs.Watched.{unwatched-all, written-next}
+use Rattle.exchange_core.proofs.watching.drop_unwatched.Goals as goal
+
+pub each-preserved : goal.each-preserved
+each-preserved g c =
+    written-next c.args.journal.now.entries c.args.over.now c.each.ended-index c.ended-item.result c.args.watches.now.standing c.each.watches.standing
+    c.retire.new.watches.standing c.each-test.true c.ended-item.is c.each.invariant c.retire.ensures
+
+pub returns : goal.returns
+returns g c =
+    let end = c.each-test.false in
+    unwatched-all c.args.moment c.args.journal.now.entries c.args.over.now c.each.ended-index c.args.watches.now.standing c.each.watches.standing
+    c.idle-count.new.self.standing (λ lt. omega (arith, lt, end)) c.each.invariant c.idle-count.ensures.watches

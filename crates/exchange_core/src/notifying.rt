@@ -1,0 +1,301 @@
+//! Messages under the tokens of what is observed (RFC 7641).
+
+ghost use Rattle.std.specs.Prelude.{◌≡◌, ◌≤◌, ◌<◌, ◌++◌, true, is_some, ◌&&◌, IfOk, IfSome, OnOk, length, nat_lt, option_to_list};
+ghost use Rattle.std.specs.List.{AllByRecursion};
+ghost use Rattle.limits.specs.declared.TheConstants.{LAST_MOMENT, MAX_ENTRIES};
+ghost use Rattle.coap_codec.specs.Spelling.{Content, content};
+ghost use Rattle.message_layer.specs.Values.{told};
+ghost use Rattle.message_layer.specs.Prepared.{MayHeed};
+ghost use Rattle.message_layer.specs.declared.verdict.News.{News};
+ghost use Rattle.history_laws.specs.Hearing.{is_such};
+ghost use Rattle.history_laws.specs.Observing.{as_first, notice_in};
+ghost use Rattle.endpoint_table.specs.Tables.{link_at};
+ghost use Rattle.exchange_model.specs.State.{State as CoreState, link_of};
+ghost use Rattle.exchange_model.specs.Steps.{Matter as ModelMatter, Numbers, found_in, told_alone};
+ghost use Rattle.exchange_core.specs.Matters.{IsAskedFor, IsFewTimes, IsMatter, IsNextToken, IsPrepared};
+ghost use Rattle.exchange_core.specs.Notifying.{IsReadBy, IsNotedIn, IsUnder, IsWatchedBy, ReadsIn, is_alone, matter_told, notice_told, registered_by, unless_more};
+ghost use Rattle.exchange_core.specs.States.{state_of};
+
+use crate::matter::{Matter, Notification, matter_of};
+use crate::state::State;
+use crate::storing::stored_for;
+use crate::watching::add_written;
+use cache_key::Key;
+use coap_codec::{Message, MsgType, Token};
+use exchange_model::Exchange;
+use exchange_progress::{Coming, Ended, comes_first, notice_of};
+use exchange_table::asked;
+use journal_book::Journal;
+use message_layer::{Heeding, Up};
+use observe_share::{Notice, Registration, Watch};
+use resp_cache::StoredResponse;
+use std::alloc::{AllocError, Global};
+use transformers::Relation;
+use uri_map::Peer;
+
+/// What a message is to the watch under its token.
+pub fn notice_told(up: &Up) -> Notice
+    ensures { result ≡ notice_told (told up.now) }
+{
+    match up {
+        Up::Response(message) => notice_of(message),
+        _ => Notice::Other(None),
+    }
+}
+
+/// Whether it is a response under a token that no exchange has.
+fn is_alone<R: Relation>(s: &State<R>, token: &Token, up: &Up) -> bool
+    ensures { result ≡ is_alone (told up.now) token.now s.now.exchanges.exchanges }
+{
+    match up {
+        Up::Response(_) => s.exchanges.find(token).is_none(),
+        _ => false,
+    }
+}
+
+/// Whether it may be a notification: a CON or NON.
+fn is_such(message: &Message) -> bool
+    ensures { result ≡ is_such message.now.kind }
+{
+    match message.kind {
+        MsgType::Con | MsgType::Non => true,
+        _ => false,
+    }
+}
+
+/// What is stored by a notification that counts, in the entry with this number, for what the exchange
+/// with this opening registered.
+fn found_in<R: Relation>(
+    alloc: Global,
+    journal: &Journal<R>,
+    moment: u64,
+    notice: Notice,
+    opening: u32,
+    number: u32,
+    message: Message,
+) -> Result<Option<StoredResponse>, AllocError>
+    ensures { (S : CoreState) → S.entries ≡ journal.now.entries
+        → IfOk result (λ o. o
+        ≡ found_in moment S notice opening (as_first number 0 (content message))) }
+{
+    let Notice::Update(_) = notice else {
+        return Ok(None);
+    };
+    match comes_first(alloc, number, message)? {
+        Coming::Ends(Ended::Found(finding)) => {
+            stored_for(alloc, journal, opening, &finding, moment)
+        }
+        _ => Ok(None),
+    }
+}
+
+/// What a response is that no exchange awaits: a notification, where it counts for a watch.
+fn tells<R: Relation>(
+    alloc: Global,
+    s: &State<R>,
+    moment: u64,
+    notice: Notice,
+    message: Message,
+) -> Result<Matter, AllocError>
+    requires few { length s.now.journal.entries ≤ MAX_ENTRIES }
+    requires notice { notice ≡ notice_in (content message) }
+    ensures { (new : Numbers) → IfOk result (λ k. IsMatter (length s.now.journal.entries) new k
+        (told_alone moment News.Response (content message) (state_of s.now))) }
+{
+    if !is_such(&message) {
+        return Ok(Matter::Nothing);
+    }
+    let Some(watch) = s.watches.counting(&message.token, notice, moment) else {
+        return Ok(Matter::Nothing);
+    };
+    let number = s.journal.len() as u32;
+    let key = watch.key.share()?;
+    let token = watch.token;
+    let opening = watch.opening;
+    let found = found_in(alloc, &s.journal, moment, notice, opening, number, message)?;
+    Ok(Matter::Tells(Notification { key, token, found }))
+}
+
+/// What the datagram is to the exchanges and to what is observed, by what its link tells of it. A
+/// next message goes under this token.
+pub fn matter_told<R: Relation>(
+    alloc: Global,
+    s: &State<R>,
+    moment: u64,
+    word: u64,
+    token: &Token,
+    peer: &Peer,
+    heeding: &Heeding,
+    notice: Notice,
+    up: Up,
+) -> Result<Matter, AllocError>
+    requires entries { length s.now.journal.entries ≤ MAX_ENTRIES }
+    requires few { AllByRecursion IsFewTimes s.now.exchanges.exchanges }
+    requires asked { AllByRecursion (IsAskedFor s.now.journal.entries) s.now.exchanges.exchanges }
+    requires early { moment ≤ LAST_MOMENT }
+    requires ready { MayHeed moment (link_at s.now.endpoints peer.now) heeding.now }
+    requires known { is_some (link_of s.now.endpoints.links peer.now).last_mid ≡ true }
+    requires token { IsNextToken word token.now (state_of s.now) }
+    requires notice { notice ≡ notice_told (told up) }
+    requires under { IsUnder heeding.now.token (told up) }
+    ensures { IfOk result (λ k. IsPrepared moment word (link_at s.now.endpoints peer.now)
+        heeding.now (state_of s.now) k
+        (matter_told moment peer.now heeding.now (told up) (state_of s.now))) }
+{
+    if !is_alone(s, &heeding.token, &up) {
+        return matter_of(alloc, s, moment, word, token, peer, heeding, up);
+    }
+    let Up::Response(message) = up else {
+        unreachable!()
+    };
+    tells(alloc, s, moment, notice, message)
+}
+
+/// What becomes of what is observed.
+#[derive(Drop)]
+pub struct Watching {
+    /// what the message is to the watch under its token
+    pub notice: Notice,
+    /// what is registered
+    pub more: Option<Registration>,
+    /// the tokens under which nothing is awaited any more
+    pub gone: Vec<Token>,
+}
+
+/// Whether an update in reply to the exchange registers it.
+fn may_register(watches: &Watch, exchange: &Exchange) -> bool
+    ensures { result ≡ exchange.now.observes
+        && (exchange.now.current && nat_lt (length watches.now.standing) 64) }
+{
+    exchange.observes && exchange.current && !watches.is_full()
+}
+
+/// What the reply to the exchange registers, if it does that.
+fn registration_of<R: Relation>(
+    alloc: Global,
+    s: &State<R>,
+    moment: u64,
+    notice: Notice,
+    exchange: &Exchange,
+) -> Result<Option<Registration>, AllocError>
+    requires { exchange.now.observes ≡ true → IsReadBy s.now.journal.entries exchange.now.opening }
+    ensures is { IfOk result (λ o. option_to_list o
+        ≡ registered_by moment notice exchange.now s.now.journal.entries s.now.watches.standing) }
+    ensures few { IfOk result (λ o. IfSome o (λ r. length s.now.watches.standing < 64)) }
+{
+    let Notice::Update(version) = notice else {
+        return Ok(None);
+    };
+    if !may_register(&s.watches, exchange) {
+        return Ok(None);
+    }
+    let Some(mapped) = asked(&s.journal, exchange.opening) else {
+        return Ok(None);
+    };
+    let Some(reading) = mapped.reading() else {
+        return Ok(None);
+    };
+    Ok(Some(Registration {
+        key: Key::of(alloc, reading.peer, reading.target, reading.accept)?,
+        token: exchange.token,
+        opening: exchange.opening,
+        version,
+        moment,
+        asked: exchange.asked,
+    }))
+}
+
+/// What a reply registers, and its token where it doesn't.
+fn watching_by<R: Relation>(
+    alloc: Global,
+    s: &State<R>,
+    moment: u64,
+    notice: Notice,
+    exchange: &Exchange,
+) -> Result<Watching, AllocError>
+    requires { exchange.now.observes ≡ true → IsReadBy s.now.journal.entries exchange.now.opening }
+    ensures more { IfOk result (λ w. option_to_list w.more
+        ≡ registered_by moment notice exchange.now s.now.journal.entries s.now.watches.standing) }
+    ensures gone { IfOk result (λ w. w.gone.items
+        ≡ unless_more w.more exchange.now) }
+    ensures notice { IfOk result (λ w. w.notice ≡ notice) }
+    ensures few { IfOk result (λ w. IfSome w.more (λ r. length s.now.watches.standing < 64)) }
+{
+    let mut gone = Vec::new(alloc);
+    let more = registration_of(alloc, s, moment, notice, exchange)?;
+    if more.is_none() {
+        gone.push(exchange.token)?;
+    }
+    Ok(Watching { notice, more, gone })
+}
+
+/// What becomes of what is observed.
+pub fn watching_of<R: Relation>(
+    alloc: Global,
+    s: &State<R>,
+    moment: u64,
+    notice: Notice,
+    matter: &Matter,
+) -> Result<Watching, AllocError>
+    requires { ReadsIn s.now.journal.entries matter.now }
+    ensures is { (m : Content) (new : Numbers) (x : ModelMatter)
+        → IsMatter (length s.now.journal.entries) new matter.now x
+        → IsNotedIn notice m matter.now
+        → IfOk result (λ w. IsWatchedBy moment m matter.now w x (state_of s.now)) }
+    ensures few { IfOk result (λ w. IfSome w.more (λ r. length s.now.watches.standing < 64)) }
+{
+    match matter {
+        Matter::Nothing => Ok(Watching {
+            notice,
+            more: None,
+            gone: Vec::new(alloc),
+        }),
+        Matter::Tells(told) => {
+            let mut gone = Vec::new(alloc);
+            if let Notice::Other(_) = notice {
+                gone.push(told.token)?;
+            }
+            Ok(Watching {
+                notice,
+                more: None,
+                gone,
+            })
+        }
+        Matter::Goes(going) => watching_by(alloc, s, moment, notice, &going.exchange),
+        Matter::Over(exchange, _) => {
+            let mut watching = watching_by(alloc, s, moment, notice, exchange)?;
+            add_written(
+                &mut watching.gone,
+                s.watches.as_slice(),
+                &s.journal,
+                exchange,
+            )?;
+            Ok(watching)
+        }
+    }
+}
+
+/// Makes room for what is registered, if anything is.
+pub fn make_room_to_watch(
+    watches: &mut Watch,
+    more: &Option<Registration>,
+) -> Result<(), AllocError>
+    ensures watches { watches.new.standing ≡ watches.old.standing }
+    ensures room { OnOk result (IfSome more.now (λ r. watches.new.room ≡ true)) }
+{
+    if more.is_some() {
+        watches.make_room()?;
+    }
+    Ok(())
+}
+
+/// What is registered is observed, for which there is room.
+pub fn register(watches: &mut Watch, more: Option<Registration>)
+    requires room { IfSome more (λ r. watches.old.room ≡ true) }
+    requires few { IfSome more (λ r. length watches.old.standing < 64) }
+    ensures { watches.new.standing ≡ watches.old.standing ++ option_to_list more }
+{
+    if let Some(registration) = more {
+        watches.register_in_room(registration);
+    }
+}
