@@ -6,3 +6,4 @@ pub mod Replying
 pub mod Posting
 pub mod Showing
 pub mod Ordering
+pub mod Quiet

@@ -7,7 +7,7 @@ use Rattle.coap_codec.specs.declared.block.Block.{Block}
 use Rattle.coap_codec.proofs.Unique.{spells_one}
 use Rattle.uri_map.specs.declared.peer.Peer.{Peer}
 use Rattle.blockwise.specs.Uploads.{begun}
-use Rattle.ask_model.specs.Requests.{CoapRequest, block_message}
+use Rattle.ask_model.specs.Requests.{CoapRequest, asking}
 use Rattle.journal_book.specs.Entries.{Deed, Sends, Hears, Live, Answers, Written}
 use Rattle.history_laws.specs.Justified.{Follows, Legal, Stands}
 use Rattle.history_laws.specs.Laws.{IsFirst}
@@ -82,9 +82,10 @@ heard-write h k q js ms changes a =
     let other = not-get q.method changes in
     subst (λ (b : Bool). AreHeardFor h k q (cond b (Fetched no_pieces) (Given (begun (length q.body) 6))) js ms) other a
 
-pub code-of : (q : CoapRequest) (b : Option Block) (mid : ℕ) (token : List ℕ) → (block_message q b mid token).code ≡ q.method
-code-of q None mid token = refl
-code-of q (Some b) mid token = refl
+pub code-of : (f : Bool) (q : CoapRequest) (b : Option Block) (mid : ℕ) (token : List ℕ) → (asking f q b mid token).code ≡ q.method
+code-of true q None mid token = refl
+code-of false q None mid token = refl
+code-of f q (Some b) mid token = refl
 
 -- ---- a write that was answered by success
 
@@ -115,7 +116,7 @@ module _ (R : Relation) (h : List Written) (device proxy : Peer) (block : ℕ) (
       let first = first-sent s.reading h last.heard.sending for_it.moment q.peer sent s.legal s.entries_are for_it.first in
       answered-executed R s.reading device proxy block resources cs for_it.moment first.0 last.heard.sending q.peer sent last.message
       last.heard.response.heard.bytes net g first.1
-      (λ get. changes (sym (ap (λ (m : Content). m.code) for_it.asks ∙ code-of q last.block sent.mid sent.token) ∙ get))
+      (λ get. changes (sym (ap (λ (m : Content). m.code) for_it.asks.1 ∙ code-of for_it.asks.0 q last.block sent.mid sent.token) ∙ get))
       last.heard.response.heard.spelled last.heard.response.token (subst (λ (c : ℕ). c / 32 ≡ 2) last.is class) last.ends
 
   pub done-by : (count : ℕ) → IsAnsweredBy proxy last.heard.sent cs count

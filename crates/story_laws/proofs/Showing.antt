@@ -8,7 +8,7 @@ use Rattle.coap_codec.specs.Values.{values}
 use Rattle.coap_codec.specs.declared.block.Block.{Block}
 use Rattle.coap_codec.proofs.Unique.{spells_one}
 use Rattle.uri_map.specs.declared.peer.Peer.{Peer}
-use Rattle.ask_model.specs.Requests.{CoapRequest, block_message}
+use Rattle.ask_model.specs.Requests.{CoapRequest}
 use Rattle.journal_book.specs.Entries.{Hears, Written}
 use Rattle.history_laws.specs.Justified.{Stands}
 use Rattle.history_laws.specs.Laws.{IsFirst}
@@ -181,7 +181,7 @@ replies-show R h device proxy block resources cs k q b j m s net given x get to 
     let l = s.reading in
     let for_it = x.sent_for in
     let first = first-sent l h x.sending for_it.moment q.peer x.sent s.legal s.entries_are for_it.first in
-    let code : x.sent.code ≡ 1 = ap (λ (m : Content). m.code) for_it.asks ∙ (code-of q b x.sent.mid x.sent.token ∙ get) in
+    let code : x.sent.code ≡ 1 = ap (λ (m : Content). m.code) for_it.asks.1 ∙ (code-of for_it.asks.0 q b x.sent.mid x.sent.token ∙ get) in
     let heard = x.response.heard in
     let entry = noted-at l h j x.response.moment _ s.entries_are heard.stands in
     let g = given j x.response.moment heard.bytes entry.note

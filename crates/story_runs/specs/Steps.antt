@@ -15,18 +15,20 @@ use Rattle.gateway_model.specs.declared.input.Happening.TheVariants as H
 use Rattle.gateway_model.specs.declared.input.Input.{Input}
 use Rattle.media_map.specs.declared.form.Form.{Form}
 use Rattle.three_parties.specs.Flights.{device_at}
+use Rattle.three_parties.specs.Reads.{ObservesNothing}
 use Rattle.three_parties.specs.Scenes.{Scene, TakesTurn}
 use Rattle.three_parties.specs.Stories.{opening}
 use Rattle.three_parties.specs.declared.turn.Turn.TheVariants as T
 use Rattle.story_runs.specs.declared.book.Book.{Book}
 use Rattle.story_runs.specs.declared.book.Step.{Step}
 
--- The gateway of a story: what begins with /hc/ is mapped, the name is that of the device, and no
--- body is transformed.
+-- The gateway of a story: what begins with /hc/ is mapped, the name is that of the device, nothing
+-- is observed, and no body is transformed.
 pub record AreStoryRules (r : Rules) : Type 0 where
   pub base : r.base ≡ codes "/hc/"
   pub names : r.directory.lines
       ≡ record { name = str_to_ascii_lowercase (codes "s.example.com"); address = device_at.address } ∷ []
+  pub quiet : ObservesNothing r
   pub routes : r.routes ≡ []
 
 -- What happens to the gateway is what the line says, with the bytes that it gives.

@@ -9,7 +9,7 @@ pub mod Orders
 pub mod Ordering
 pub mod Knowing
 pub mod Telling
-pub mod Quiet
+pub mod Mapped
 pub mod Executing
 pub mod Reading
 pub mod Sending

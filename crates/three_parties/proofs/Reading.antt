@@ -1,5 +1,5 @@
 -- An answer to a GET shows what the resource held, and no less than what was confirmed before.
-use Rattle.std.proofs.Common.{◌≡◌, ◌≢◌, ℕ, zero, suc, ◌+◌, ◌<◌, ◌≤◌, inl, inr, List, [], ◌∷◌, ◌++◌, append_assoc, length, length-append, map, take, drop, Option, Some, refl, sym, ap, subst, ◌∙◌, arith}
+use Rattle.std.proofs.Common.{◌≡◌, ◌≢◌, ◌⊎◌, false, ℕ, zero, suc, ◌+◌, ◌<◌, ◌≤◌, inl, inr, List, [], ◌∷◌, ◌++◌, append_assoc, length, length-append, map, take, drop, Option, Some, refl, sym, ap, subst, ◌∙◌, arith}
 use Rattle.std.specs.Prelude.{slice_get}
 use Rattle.std.proofs.lemmas.Bool.Decides.{leb_tells}
 use Rattle.coap_codec.specs.Spelling.{Content}
@@ -14,7 +14,7 @@ use Rattle.ask_model.specs.declared.cause.Cause.TheVariants as C
 use Rattle.history_laws.specs.Justified.{Stands}
 use Rattle.history_laws.specs.Progress.{Point, block_for, first_point}
 use Rattle.history_laws.proofs.CallerLemmas.{none-some, some-is}
-use Rattle.history_claims.specs.Headline.{AreHeardFor, IsEntry, IsHeardFor, IsWriteAnswer, RestsOn}
+use Rattle.history_claims.specs.Headline.{AreHeardFor, AreNotified, IsEntry, IsHeardFor, IsWriteAnswer, RestsOn}
 use Rattle.demo_origin.specs.Calls.{Call}
 use Rattle.demo_origin.specs.Done.{left_with, told_by, told_in}
 use Rattle.demo_origin.specs.Once.{Event, heard}
@@ -26,9 +26,10 @@ use Rattle.story_laws.specs.Lateness.{ArePunctual}
 use Rattle.story_laws.specs.Networks.{AreTimed, moment_after}
 use Rattle.story_laws.specs.Orders.{AreDoneBefore, WritesShow as Law}
 use Rattle.story_laws.specs.Reads.{ShowsHeld as ShowsSo}
+use Rattle.story_laws.proofs.Quiet.{NoneObserved, none-notified, sent-quietly}
 use Rattle.gateway_model.specs.Emissions.{Emission}
 use Rattle.three_parties.specs.Flights.{Going, device_at, proxy_at}
-use Rattle.three_parties.specs.Reads.{AreDone, GetsShow, GetsShowInTime, IsHeldAt, KeptShow, ShowsHeld}
+use Rattle.three_parties.specs.Reads.{AreDone, GetsShow, GetsShowInTime, IsHeldAt, KeptShow, ObservesNothing, ShowsHeld}
 use Rattle.three_parties.specs.Scenes.{Scene}
 use Rattle.three_parties.specs.Stories.{IsStory}
 use Rattle.three_parties.specs.declared.story.Execution.{Execution}
@@ -36,9 +37,9 @@ use Rattle.three_parties.specs.declared.turn.Turn.{Turn}
 use Rattle.three_parties.proofs.Executing.{at_end, calls_before, done-at, known-then, networks, ordered}
 use Rattle.three_parties.proofs.Knowing.{Known}
 use Rattle.three_parties.proofs.Lists.{take-front}
+use Rattle.three_parties.proofs.Mapped.{none-observed}
 use Rattle.three_parties.proofs.Ordering.{told-both}
 use Rattle.three_parties.proofs.Orders.{taken_of}
-use Rattle.three_parties.proofs.Quiet.{asks-quietly}
 use Rattle.three_parties.proofs.Tales.{IsDoneBy}
 
 -- ---- calls in time
@@ -140,7 +141,7 @@ told-before cs a ys e =
 -- ---- a reply
 
 module _ (R : Relation) (law : Law R) (block : ℕ) (resources : List Held) (s : Scene) (known : Known R (fresh block resources) s)
-    (stands : Stands s.world.core.state.entries) (punctual : ArePunctual stands.reading) where
+    (stands : Stands s.world.core.state.entries) (punctual : ArePunctual stands.reading) (none : NoneObserved s.world.core.state.entries) where
   abbrev h : List Written
   h = s.world.core.state.entries
 
@@ -223,7 +224,7 @@ module _ (R : Relation) (law : Law R) (block : ℕ) (resources : List Held) (s :
       it =
           law h device_at proxy_at block resources calls (calls_before R (fresh block resources) s known stands punctual) o r b j m stands
           (networks R (fresh block resources) s known stands punctual) (ordered R (fresh block resources) s known stands punctual) x get to content whole
-          (asks-quietly r b x.sent x.sent_for.asks)
+          (sent-quietly h none stands o r b x.sending x.sent x.sent_for)
 
       done : AreDone h s.flights s.taken k q (count it.0.place)
       done n t c w js answered y changes peer path class lt =
@@ -267,12 +268,12 @@ write-answer h q n t c w js answered y changes peer path = record {
     not-fault e = cc
 
 module _ (R : Relation) (law : Law R) (block : ℕ) (resources : List Held) (s : Scene) (known : Known R (fresh block resources) s)
-    (stands : Stands s.world.core.state.entries) (punctual : ArePunctual stands.reading) where
+    (stands : Stands s.world.core.state.entries) (punctual : ArePunctual stands.reading) (none : NoneObserved s.world.core.state.entries) where
   gets-show : GetsShow resources s.world.core.state.entries s.flights s.taken
   gets-show n t c k js m answered r one get to content whole =
       let h = s.world.core.state.entries in
       let x = one-heard h r.opening r.request (first_point r.request) js r.messages m one r.heard in
-      shows R law block resources s known stands punctual k r.opening r.request r.request (block_for (first_point r.request)) x.0 m x.1 get to to content whole back
+      shows R law block resources s known stands punctual none k r.opening r.request r.request (block_for (first_point r.request)) x.0 m x.1 get to to content whole back
     where
       back : (n t c w : ℕ) (js : List ℕ) → IsEntry s.world.core.state.entries n t (Answers c w (Live js)) → (y : RestsOn s.world.core.state.entries n c w js)
           → y.request.method ≢ 1 → y.request.peer ≡ r.request.peer → y.request.target.path ≡ r.request.target.path → n < k → n ≤ r.opening
@@ -287,11 +288,18 @@ module _ (R : Relation) (law : Law R) (block : ℕ) (resources : List Held) (s :
   kept-show : KeptShow resources s.world.core.state.entries s.flights s.taken
   kept-show n t c k js m answered r one to content whole =
       let h = s.world.core.state.entries in
-      let x = one-heard h r.opening r.other (first_point r.other) js r.messages m one r.heard in
-      shows R law block resources s known stands punctual k r.opening r.request r.other (block_for (first_point r.other)) x.0 m x.1
-      (sym (ap (λ (m : Content). m.code) (r.same.2 0 [])) ∙ r.same.0) (sym r.same.1 ∙ to) to content whole
+      let x = one-heard h r.opening r.other (first_point r.other) js r.messages m one (replied r.heard) in
+      shows R law block resources s known stands punctual none k r.opening r.request r.other (block_for (first_point r.other)) x.0 m x.1
+      (sym (ap (λ (m : Content). m.code) (r.same.2 false 0 [])) ∙ r.same.0) (sym r.same.1 ∙ to) to content whole
       (λ n t c w js answered y changes peer path lt.
       let before = r.current n (write-answer h r.request n t c w js answered y changes peer path) lt in omega (arith, before))
+    where
+      -- It was heard as a reply: nothing is notified.
+      replied : AreHeardFor s.world.core.state.entries r.opening r.other (first_point r.other) js r.messages
+          ⊎ AreNotified s.world.core.state.entries r.opening r.other js r.messages
+          → AreHeardFor s.world.core.state.entries r.opening r.other (first_point r.other) js r.messages
+      replied (inl x) = x
+      replied (inr x) = absurd (none-notified s.world.core.state.entries none r.opening r.other js r.messages x)
 
   pub both-show : GetsShow resources s.world.core.state.entries s.flights s.taken × KeptShow resources s.world.core.state.entries s.flights s.taken
   both-show = (gets-show, kept-show)
@@ -300,8 +308,9 @@ module _ (R : Relation) (law : Law R) (block : ℕ) (resources : List Held) (s :
 pub reads-of : (R : Relation) → Law R → (holds : Form → Form → List ℕ → List ℕ → Type 0) (takes : Form → Form → List ℕ → Type 0)
     (rules : Rules) (first : Device) (turns : List Turn) (out : List Emission) (flights : List Going) (h : List Written) (last : Device)
     (taken : List Execution) → IsStory holds takes R rules first turns out flights h last taken
-    → (block : ℕ) (resources : List Held) → first ≡ fresh block resources → GetsShowInTime turns resources h flights taken
-reads-of R law holds takes rules first turns out flights h last taken story block resources e keeps =
+    → (block : ℕ) (resources : List Held) → first ≡ fresh block resources → ObservesNothing rules
+    → GetsShowInTime turns resources h flights taken
+reads-of R law holds takes rules first turns out flights h last taken story block resources e nothing keeps =
     subst (λ (w : List Written). (stands : Stands w) → ArePunctual stands.reading → GetsShow resources w flights taken × KeptShow resources w flights taken)
     (sym new.journal) shown
   where
@@ -313,3 +322,5 @@ reads-of R law holds takes rules first turns out flights h last taken story bloc
     shown stands punctual =
         both-show R law block resources (at_end holds takes R rules block resources turns out flights h last taken new keeps)
         (known-then holds takes R rules block resources turns out flights h last taken new keeps) stands punctual
+        (none-observed holds takes R rules (fresh block resources) turns
+        (at_end holds takes R rules block resources turns out flights h last taken new keeps) new.is nothing)

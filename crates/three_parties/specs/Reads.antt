@@ -5,6 +5,7 @@ use Rattle.coap_codec.specs.Spelling.{Content}
 use Rattle.coap_codec.specs.Values.{values}
 use Rattle.coap_codec.specs.declared.block.Block.{Block}
 use Rattle.ask_model.specs.Requests.{CoapRequest}
+use Rattle.ask_model.specs.Views.{Rules}
 use Rattle.journal_book.specs.Entries.{Live, Kept, Answers, Written}
 use Rattle.history_laws.specs.Justified.{Stands}
 use Rattle.history_claims.specs.Headline.{IsEntry, IsSentFor, IsServed, RestsOn}
@@ -67,6 +68,10 @@ KeptShow resources h flights taken =
     → (s : IsServed h t c k js) → s.messages ≡ m ∷ []
     → s.request.peer ≡ device_at → m.code ≡ 69 → values 23 m.options ≡ []
     → ShowsHeld h k s.opening s.request s.other resources flights taken m.payload
+
+-- The rules name no host whose resources may be observed (RFC 7641 section 1.2).
+abbrev pub ObservesNothing : Rules → Type 0
+ObservesNothing rules = rules.observed ≡ []
 
 -- So it is where one journal has all entries, and copies go out a second after they are due at the
 -- latest.

@@ -8,7 +8,7 @@ ghost use Rattle.gateway_model.specs.Emissions.{emissions};
 ghost use Rattle.transformers.specs.Suits.{Suits};
 ghost use Rattle.three_parties.specs.Flights.{going};
 ghost use Rattle.three_parties.specs.Promises.{PostsOnceInTime};
-ghost use Rattle.three_parties.specs.Reads.{GetsShowInTime};
+ghost use Rattle.three_parties.specs.Reads.{GetsShowInTime, ObservesNothing};
 ghost use Rattle.three_parties.specs.Scenes.{TakesTurns};
 ghost use Rattle.three_parties.specs.Stories.{IsRefused, IsStory, opening, scene};
 
@@ -26,9 +26,9 @@ use transformers::{Bank, Relation};
 /// 192.0.2.1:5683, and sees the proxy at 198.51.100.1:5683.
 ///
 /// The story is that of all its turns (`is`). Where the device is a new one, each POST to it that
-/// was answered by success was executed exactly once (`posts`), and each answer to a GET that rests
-/// on one reply shows a state that the resource held, and no less than what was confirmed before it
-/// was asked for (`reads`).
+/// was answered by success was executed exactly once (`posts`), and, where the settings observe
+/// nothing, each answer to a GET that rests on one reply shows a state that the resource held, and
+/// no less than what was confirmed before it was asked for (`reads`).
 pub fn three_run<R: Relation, H: Behaviour>(
     alloc: Global,
     settings: Settings,
@@ -48,8 +48,9 @@ pub fn three_run<R: Relation, H: Behaviour>(
         → device origin ≡ fresh block resources → PostsOnceInTime turns.now s.journal.entries
         (map going s.flights.items) s.taken.items) }
     ensures reads { IfOk result (λ s. (block : ℕ) (resources : List Held)
-        → device origin ≡ fresh block resources → GetsShowInTime turns.now resources
-        s.journal.entries (map going s.flights.items) s.taken.items) }
+        → device origin ≡ fresh block resources → ObservesNothing (rules_of settings)
+        → GetsShowInTime turns.now resources s.journal.entries (map going s.flights.items)
+        s.taken.items) }
 {
     // Their contracts say what answers mean for a device, whatever a network does.
     posts_once::<H>();

@@ -6,7 +6,7 @@ use Rattle.demo_origin.specs.declared.state.Held.{Held}
 use Rattle.gateway_model.specs.Emissions.{emissions}
 use Rattle.three_parties.specs.Flights.{going}
 use Rattle.three_parties.specs.Promises.{PostsOnceInTime}
-use Rattle.three_parties.specs.Reads.{GetsShowInTime}
+use Rattle.three_parties.specs.Reads.{GetsShowInTime, ObservesNothing}
 use Rattle.three_parties.specs.Stories.{IsStory}
 use Rattle.three_parties.proofs.Executing.{if-ok, posts-of}
 use Rattle.three_parties.proofs.Reading.{reads-of}
@@ -26,7 +26,7 @@ pub returns-clause-reads : goal.returns-clause-reads
 returns-clause-reads g c =
     if-ok (λ s. IsStory g.R.Relation.holds g.R.Relation.takes g.H.Behaviour.relation (rules_of c.args.settings) (device c.args.origin)
     c.args.turns.now (emissions s.outputs.items) (map going s.flights.items) s.journal.entries (device s.origin) s.taken.items)
-    (λ s. (block : ℕ) (resources : List Held) → device c.args.origin ≡ fresh block resources
+    (λ s. (block : ℕ) (resources : List Held) → device c.args.origin ≡ fresh block resources → ObservesNothing (rules_of c.args.settings)
     → GetsShowInTime c.args.turns.now resources s.journal.entries (map going s.flights.items) s.taken.items)
     (λ s is. reads-of g.H.Behaviour.relation c.writes_show.ensures g.R.Relation.holds g.R.Relation.takes (rules_of c.args.settings) (device c.args.origin)
     c.args.turns.now (emissions s.outputs.items) (map going s.flights.items) s.journal.entries (device s.origin) s.taken.items is)
