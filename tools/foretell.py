@@ -3,11 +3,12 @@
 
 usage: tools/foretell.py [--journal] < SCRIPT
 
-It is written from RFC 7252, RFC 7959, RFC 8075 and RFC 9112 and reads nothing of the program, so that a rule which both
-should keep is written twice, in two ways. tools/random-scripts compares the two. It has no transformers and no full journals: a
-script that needs them is Unknown, which ends it with status 4.
+It is written from RFC 7252, RFC 7641, RFC 7959, RFC 8075 and RFC 9112 and reads nothing of the program, so that a rule which
+both should keep is written twice, in two ways. tools/random-scripts compares the two. It has no transformers, and no journals
+that are full by their bytes: a script that needs them is Unknown, which ends it with status 4.
 """
 import collections
+import copy
 import re
 import sys
 
@@ -17,6 +18,13 @@ CONNECTIONS, EXCHANGES, WAITING, REMEMBERED, STORED, BODY = 256, 256, 64, 1_024,
 # For how many seconds a response is fresh that doesn't say so (section 5.10.5), how often a representation may change while it
 # is fetched, and how much of a body fits into one message.
 FRESH, CHANGES, ONE_MESSAGE = 60, 3, 1_024
+# Of which devices resources are observed (RFC 7641), how many at a time, and for how many milliseconds after the last ask. After
+# how many a notification is newer than the one before it, whatever their numbers are (section 3.4).
+OBSERVED, WATCHES, IDLE, RENEWED = {"o.example.com"}, 64, 120_000, 128_000
+# Whether the rest of an update that comes in pieces is fetched at once. Where it isn't, the next GET asks for all of it.
+FETCHES = False
+# How many entries a journal takes, how many a step adds at most, and for how many milliseconds message IDs aren't used again.
+ENTRIES, A_STEP, APART = 65_536, 600, 494_000
 LAST_MOMENT = 2**62
 CON, NON, ACK, RST = range(4)
 GET, POST, PUT, DELETE = range(1, 5)
@@ -48,6 +56,8 @@ PHRASES |= {503: "Service Unavailable", 504: "Gateway Timeout"}
 WAYS = ["live", "kept", "bad-http", "no-map", "method", "media", "not-understood", "reset", "timeout", "joined", "apart", "outrun"]
 WAYS += ["waits", "never sent", "sent again", "all copies", "repeat", "stale", "written", "pushed out", "changed", "fourth change"]
 WAYS += ["download", "download kept", "upload", "smaller blocks"]
+WAYS += ["watched", "watched anew", "no more watches", "update", "update kept", "update not fetched", "older", "out of date"]
+WAYS += ["told no state", "told and rejected", "watch outrun", "idle"] + ["update fetched", "fetched and joined"] * FETCHES
 
 
 class Unknown(Exception):
@@ -457,6 +467,14 @@ class Sending:
         self.exchange, self.token, self.options, self.payload, self.word = exchange, token, options, payload, word
         self.raw, self.mid, self.copies, self.timeout, self.due, self.number = None, None, 0, 0, 0, None
 
+    def last_due(self):
+        """When its last timeout is over, if ticks come in time."""
+        return self.due + sum(self.timeout << n for n in range(1, COPIES - self.copies + 1))
+
+    def observes(self):
+        """Whether it asks to be told of changes (RFC 7641, section 2)."""
+        return any(number == OBSERVE for number, _ in self.options)
+
 
 class Link:
     """What is between the gateway and a device: one message is outstanding, others wait (section 4.7)."""
@@ -474,12 +492,15 @@ class Exchange:
     def __init__(self, opening, since, meaning):
         self.opening, self.since, self.meaning = opening, since, meaning
         self.readers, self.sending, self.awaits, self.is_over = [], None, False, False
-        # whether equal GETs still join it, and what it comes to is stored
-        self.current = True
+        # whether equal GETs still join it, and what it comes to is stored; whether it asks to be told of changes
+        self.current, self.observes = True, False
         # of a GET: its pieces, each the number of its entry and what it says, since when, and how often it began anew
         self.pieces, self.begun, self.changes = [], 0, 0
         # of a write: how much of the body was answered, in which size it goes, and the answers
         self.given, self.szx, self.answers = 0, 6, []
+
+    def is_new(self):
+        return self.sending is None
 
     # Each of the next two says how it goes on: the Block option of the next message, None for none; or it is a Fault or a Response.
 
@@ -550,13 +571,39 @@ class Exchange:
 
 # A response that is stored: under which key and place, and for how many milliseconds it is fresh.
 Pair = collections.namedtuple("Pair", "key place response lifetime")
+# An entry of which the next journal may have a copy.
+Past = collections.namedtuple("Past", "number moment what peer raw")
+
+
+# Observation (RFC 7641)
+
+class Watch:
+    """What a device tells the gateway of, and under which token; the number and the moment of what counted last."""
+
+    def __init__(self, meaning, token, number, moment):
+        self.meaning, self.token, self.number, self.moment = meaning, token, number, moment
+        self.key, self.place = key_of(meaning), place_of(meaning)
+
+    def is_older(self, number, moment):
+        """Whether what comes is no newer than what counted last. Numbers go round (section 3.4)."""
+        ahead = (number - self.number) % 2**24
+        return not 0 < ahead < 2**23 and moment - self.moment <= RENEWED
+
+
+def tells_state(reply):
+    """Whether it tells a state, after which more are told: what has no number is the last (sections 3.2 and 4.2)."""
+    return reply.code == CONTENT and reply.number(OBSERVE) is not None and not reply.rejected
 
 
 class Gateway:
     def __init__(self):
         self.moment, self.word, self.outputs, self.entries = 0, 0, [], []
-        self.conns, self.readers, self.pending, self.is_ending = [], {}, {}, {}
+        self.opened, self.readers, self.pending, self.is_sealed, self.size = 0, {}, {}, False, 0
         self.links, self.exchanges, self.issued, self.store = {}, [], 0, []
+        # what is observed; of each key when it was asked for last, and which notification counted last
+        self.watches, self.asked, self.counted = [], {}, {}
+        # what the next journal may have copies of: first sendings, and CONs and NONs that were heard first
+        self.past = []
         # what this step tells, and in which of WAYS it went
         self.told, self.ways = [], set()
 
@@ -570,6 +617,8 @@ class Gateway:
         return len(self.entries) - 1
 
     def send(self, peer, raw):
+        if self.is_sealed:
+            return None
         self.put_out(f"datagram {peer} {raw.hex()}")
         return self.enter(f"sent {peer} {raw.hex()}")
 
@@ -580,29 +629,89 @@ class Gateway:
         moment, word, event, *rest = line.split(" ")
         self.moment, self.word = min(max(self.moment, int(moment)), LAST_MOMENT), int(word)
         first = len(self.outputs)
-        if len(self.entries) > 60_000:
-            raise Unknown("a journal that may be full")
+        self.size += len(line)
+        if self.size > 2**25:
+            raise Unknown("a journal that may be full by its bytes")
         if event == "open":
-            self.open()
+            if len(self.readers) >= CONNECTIONS or not self.step(self.open):
+                self.put_out("turned")
         elif event == "bytes":
             self.bytes(int(rest[0]), bytes.fromhex(rest[1]))
         elif event == "datagram":
-            self.heard(rest[0], bytes.fromhex(rest[1]))
+            self.step(self.heard, rest[0], bytes.fromhex(rest[1]))
         elif event == "tick":
-            self.tick()
+            if not self.step(self.tick):
+                self.tick_sealed()
         elif event == "close":
             self.close(int(rest[0]))
+        elif event == "rotate":
+            self.rotate()
         else:
             raise Unknown(event)
         return self.outputs[first:]
 
-    def open(self):
-        if len(self.readers) >= CONNECTIONS:
-            self.put_out("turned")
+    # Steps, and the end of a journal
+
+    def step(self, does, *words):
+        """Does a step, if the journal isn't sealed and has room for it, and says so. Else it is sealed, and nothing is done."""
+        if self.is_sealed:
+            return False
+        before = None
+        if len(self.entries) + self.held_free() + A_STEP > ENTRIES:
+            before = copy.deepcopy({name: it for name, it in vars(self).items() if name not in ("entries", "outputs")})
+            lengths = len(self.entries), len(self.outputs)
+        does(*words)
+        self.enter_answers()
+        if before and len(self.entries) + self.held_free() > ENTRIES:
+            vars(self).update(before)
+            del self.entries[lengths[0] :], self.outputs[lengths[1] :]
+            self.enter("sealed")
+            self.is_sealed = True
+            for link in self.links.values():
+                link.waiting = []
+            return False
+        self.tell()
+        return True
+
+    def held_free(self):
+        """For so many entries room is held free: closings, answers, and the seal."""
+        return len(self.readers) + len(self.pending) + 1
+
+    def tick_sealed(self):
+        """From the seal on only deadlines are looked at, and nothing goes out."""
+        for it in [it for it in self.exchanges if self.moment - it.since >= WAIT]:
+            self.end(it, Fault("timeout", 504, None))
+        self.enter_answers()
+        self.tell()
+
+    def rotate(self):
+        """The sealed journal is given out, and another begun, where nothing is under way that ticks would leave open."""
+        ends = [it.since + WAIT for it in self.exchanges]
+        ends += [it.outstanding.last_due() for it in self.links.values() if it.outstanding]
+        refusal = 1 if not self.is_sealed else 2 if self.readers else 3 if any(self.moment < it for it in ends) else None
+        if refusal:
+            self.put_out(f"unrotated {refusal}")
             return
-        self.readers[len(self.conns)] = Reader()
-        self.enter(f"opened {len(self.conns)}")
-        self.conns.append(len(self.conns))
+        past = [it for it in self.past if self.moment - it.moment < (APART if it.what == "sent" else LIFETIME)]
+        self.past = [it._replace(number=number) for number, it in enumerate(past)]
+        self.entries = [f"{at} {it.moment} carried {it.number} past {it.what} {it.peer} {it.raw}" for at, it in enumerate(past)]
+        self.begin_anew({it.peer for it in past})
+        self.put_out(f"rotated {len(past)}")
+
+    def begin_anew(self, peers):
+        """Of all that isn't copied nothing is known any more: what is stored, what is observed, and other devices."""
+        self.links = {peer: it for peer, it in self.links.items() if peer in peers}
+        for link in self.links.values():
+            link.outstanding, link.waiting = None, []
+        self.exchanges, self.store, self.watches, self.asked, self.counted = [], [], [], {}, {}
+        self.is_sealed = False
+
+    # Connections
+
+    def open(self):
+        self.readers[self.opened] = Reader()
+        self.enter(f"opened {self.opened}")
+        self.opened += 1
 
     def close(self, conn):
         if self.readers.pop(conn, None):
@@ -622,7 +731,9 @@ class Gateway:
                 if self.readers[conn].must_tell():
                     self.put_out(f"bytes {conn} {b'HTTP/1.1 100 Continue'.hex()}0d0a0d0a")
                 return
-            self.ask(conn, request)
+            if not self.step(self.ask, conn, request):
+                self.put_out(f"closed {conn}")
+                self.close(conn)
 
     def ask(self, conn, request):
         if isinstance(request, Bad):
@@ -636,17 +747,18 @@ class Gateway:
                 self.mean(ask, meaning_of(request))
             except Refused as refused:
                 self.answer(ask, Fault(*refused.args, number))
-        self.end_step()
 
     def mean(self, ask, meaning):
         """An ask is answered from the store, joins an exchange, or opens one."""
         if meaning.code == GET:
+            self.note(key_of(meaning))
             pair = self.fresh(key_of(meaning))
             if pair:
+                self.ways |= {"update kept"} if pair.response.numbers[0] == self.counted.get(pair.key) else set()
                 return self.answer(ask, pair.response, "kept")
             for it in self.exchanges:
                 if it.current and it.meaning.code == GET and key_of(it.meaning) == key_of(meaning):
-                    self.ways.add("joined")
+                    self.ways.add("fetched and joined" if it.opening == self.counted.get(key_of(meaning)) else "joined")
                     it.readers.append(ask)
                     self.pending[ask.conn] = ask
                     return None
@@ -658,8 +770,29 @@ class Gateway:
         exchange.readers.append(ask)
         self.pending[ask.conn] = ask
         self.exchanges.append(exchange)
+        exchange.observes = meaning.code == GET and self.is_to_be_watched(meaning)
         self.submit(exchange, exchange.piece()[1])
         return None
+
+    def note(self, key):
+        """That a key was asked for, however that is answered."""
+        self.asked[key] = self.moment
+
+    def is_to_be_watched(self, meaning):
+        """Whether a GET asks to be told of changes. If its resource is observed already, that is forgotten first."""
+        self.ways |= {"watched anew"} if any(it.key == key_of(meaning) for it in self.watches) else set()
+        self.unwatch_key(key_of(meaning))
+        is_observed = meaning.host in OBSERVED
+        self.ways |= {"no more watches"} if is_observed and len(self.watches) >= WATCHES else set()
+        return is_observed and len(self.watches) < WATCHES
+
+    def unwatch_key(self, key):
+        self.unwatch(lambda it: it.key == key)
+
+    def unwatch(self, is_over):
+        """Forgets watches, under whose tokens nothing is awaited any more. Whether there are any."""
+        before, self.watches = len(self.watches), [it for it in self.watches if not is_over(it)]
+        return len(self.watches) < before
 
     def has_room(self, peer):
         link = self.links.get(peer)
@@ -671,6 +804,7 @@ class Gateway:
         """The next message of the exchange waits for its turn."""
         it = exchange.meaning
         options = uri_options(it.host, it.path, it.query)
+        options += [(OBSERVE, b"")] if exchange.observes and exchange.is_new() else []
         options += [(FORMAT, uint(it.format))] if it.format is not None else []
         options += [(ACCEPT, uint(it.accept))] if it.accept is not None else []
         options += [(BLOCK2 if it.code == GET else BLOCK1, block_value(block))] if block else []
@@ -694,6 +828,7 @@ class Gateway:
         it.timeout = 2000 + (it.word & 0xFFFFFFFF) % 1001
         it.due = self.moment + it.timeout
         it.number = self.send(peer, it.raw)
+        self.past.append(Past(it.number, self.moment, "sent", peer, it.raw.hex()))
         it.exchange.sending, it.exchange.awaits = it, True
 
     def heard(self, peer, raw):
@@ -715,13 +850,13 @@ class Gateway:
             if not before and len(live) >= REMEMBERED:
                 return
             number = self.enter(f"heard {peer} {raw.hex()}")
+            self.past += [] if before else [Past(number, self.moment, "heard", peer, raw.hex())]
             if before:
                 self.ways.add("repeat")
                 if message.kind == CON:
                     self.send(peer, encode(before[0][2], 0, message.mid))
                 return
             self.spoken(peer, link, message, number)
-        self.end_step()
 
     def confirmed(self, peer, link, message, number):
         """An ACK or an RST. A response in an ACK bears the ID and the token of what it answers."""
@@ -750,14 +885,56 @@ class Gateway:
 
     def spoken(self, peer, link, message, number):
         """A CON or a NON, which is no repeat: a response, or what is rejected (section 4.2)."""
-        exchange = self.awaiting(peer, message.token) if message.code >= 0x20 else None
+        is_response = message.code >= 0x20
+        exchange = self.awaiting(peer, message.token) if is_response else None
+        watch = self.watching(peer, message.token) if is_response else None
         reply = Reply(message)
-        kind = ACK if exchange and not reply.rejected else RST
+        kind = ACK if (exchange or watch) and not reply.rejected else RST
         link.heard.append((message.mid, self.moment, kind))
         if message.kind == CON or kind == RST and message.code:
             self.send(peer, encode(kind, 0, message.mid))
         if exchange:
             self.reply(peer, link, exchange, reply, number)
+        elif watch:
+            self.notified(watch, reply, number)
+
+    def watching(self, peer, token):
+        """The watch under the token."""
+        return next((it for it in self.watches if it.meaning.peer == peer and it.token == token), None)
+
+    def notified(self, watch, reply, number):
+        """What a device tells of what it is observed for (RFC 7641, section 3)."""
+        version = reply.number(OBSERVE)
+        if version is not None and watch.is_older(version, self.moment):
+            self.ways.add("older")
+            return
+        self.counted[watch.key] = number
+        self.take_out(watch.key)
+        # a whole representation, or the first piece of one, as if a GET had been asked for it
+        update = Exchange(number, self.moment, watch.meaning)
+        next_ = update.fetched(number, reply, self.moment) if tells_state(reply) else None
+        if not isinstance(next_, (Block, Response)):
+            self.ways.add("told and rejected" if reply.rejected else "told no state")
+            self.end_watch(watch)
+            return
+        watch.number, watch.moment = version, self.moment
+        if isinstance(next_, Response):
+            self.ways.add("update")
+            self.keep(watch.meaning, next_)
+        elif self.may_fetch(update):
+            self.ways.add("update fetched")
+            self.exchanges.append(update)
+            self.submit(update, next_)
+        else:
+            self.ways.add("update not fetched")
+
+    def end_watch(self, watch):
+        self.watches.remove(watch)
+
+    def may_fetch(self, update):
+        """Whether the rest of it is fetched, for nobody as yet: not where its key is asked for already."""
+        is_open = any(key_of(it.meaning) == key_of(update.meaning) for it in self.exchanges if it.meaning.code == GET)
+        return FETCHES and not is_open and self.has_room(update.meaning.peer)
 
     def reply(self, peer, link, exchange, reply, number):
         """A response to the latest message of the exchange."""
@@ -767,6 +944,10 @@ class Gateway:
         take = exchange.fetched if exchange.meaning.code == GET else exchange.given_on
         before, changes = exchange.szx, exchange.changes
         next_ = Fault("not-understood", 502, number) if reply.rejected else take(number, reply, self.moment)
+        if tells_state(reply) and not isinstance(next_, Fault) and self.may_watch(exchange):
+            self.ways.add("watched")
+            watch = Watch(exchange.meaning, exchange.sending.token, reply.number(OBSERVE), self.moment)
+            self.watches.append(watch)
         self.ways |= {"smaller blocks"} if exchange.szx < before else set()
         self.ways |= {"changed" if exchange.changes <= CHANGES else "fourth change"} if exchange.changes > changes else set()
         if isinstance(next_, (Fault, Response)):
@@ -778,6 +959,10 @@ class Gateway:
             self.end(exchange, Fault("busy", 503, None))
         else:
             self.submit(exchange, next_)
+
+    def may_watch(self, exchange):
+        """Whether a reply that tells a state makes a watch (RFC 7641, section 4.1), where the message has asked for that."""
+        return exchange.sending.observes() and exchange.current and len(self.watches) < WATCHES
 
     def tick(self):
         before, is_due = len(self.entries), False
@@ -801,9 +986,11 @@ class Gateway:
             if not it.exchange.is_over and it.exchange.sending is it:
                 self.end(it.exchange, Fault("timeout", 504, None))
             self.send_next(peer)
+        if self.unwatch(lambda it: self.moment >= self.asked[it.key] + IDLE):
+            self.ways.add("idle")
+            is_due = True
         if not is_due:
             del self.entries[before:]
-        self.end_step()
 
     # Ends
 
@@ -824,7 +1011,7 @@ class Gateway:
         elif not exchange.current:
             self.ways.add("outrun")
         elif isinstance(outcome, Response) and outcome.code == CONTENT:
-            self.keep(exchange.meaning, outcome)
+            self.keep_newest(exchange.meaning, outcome)
 
     def forget(self, exchange):
         """What waits of it is never sent."""
@@ -836,13 +1023,28 @@ class Gateway:
         """What was read at the place before may have changed."""
         self.ways |= {"written"} if any(it.place == place for it in self.store) else set()
         self.store = [it for it in self.store if it.place != place]
+        self.unwatch_place(place)
         for it in self.exchanges:
             it.current = it.current and (it.meaning.code != GET or place_of(it.meaning) != place)
+
+    def unwatch_place(self, place):
+        self.ways |= {"watch outrun"} if self.unwatch(lambda it: it.place == place) else set()
+
+    def keep_newest(self, meaning, response):
+        """Stores what a GET came to, unless a notification counted after its first piece."""
+        if self.counted.get(key_of(meaning), 0) > response.numbers[0]:
+            self.ways.add("out of date")
+        else:
+            self.keep(meaning, response)
+
+    def take_out(self, key):
+        """What is stored under the key is out of date."""
+        self.store = [it for it in self.store if it.key != key]
 
     def keep(self, meaning, response):
         """Stores a response, in place of what is stored under its key (section 5.6)."""
         key, lifetime = key_of(meaning), 1000 * (FRESH if response.age is None else response.age)
-        self.store = [it for it in self.store if it.key != key]
+        self.take_out(key)
         if lifetime:
             self.ways |= {"pushed out"} if len(self.store) == STORED else set()
             self.store = [Pair(key, place_of(meaning), response, lifetime), *self.store][:STORED]
@@ -865,16 +1067,20 @@ class Gateway:
             self.ways.add("upload" if is_upload else "download" if grounds == "live" else "download kept")
         self.told.append((ask, outcome, grounds))
 
-    def end_step(self):
-        """The answers of a step, in the order of their asks, each followed by what its connection asks next."""
-        told, self.told = in_turn(self.told), []
-        for ask, outcome, grounds in told:
+    def enter_answers(self):
+        """The answers of a step, in the order of their asks."""
+        self.told = in_turn(self.told)
+        for ask, outcome, grounds in self.told:
             self.pending.pop(ask.conn, None)
             if isinstance(outcome, Fault):
                 how = f"fault {outcome.kind} {outcome.number}"
             else:
                 how = f"{grounds} {','.join(map(str, outcome.numbers))}"
             self.enter(f"answered {ask.conn} {ask.number} {how}")
+
+    def tell(self):
+        """The answers go out, each followed by what its connection asks next."""
+        told, self.told = self.told, []
         for ask, outcome, _ in told:
             self.put_out(f"bytes {ask.conn} {self.rendered(ask, outcome).hex()}")
             if ask.request.closes:
