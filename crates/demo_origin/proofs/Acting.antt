@@ -8,10 +8,11 @@ use Rattle.coap_codec.specs.declared.block.Block.{Block}
 use Rattle.coap_codec.specs.declared.fault.CodecFault.{CodecFault}
 use Rattle.message_layer.specs.Hearing.{reset_for}
 use Rattle.demo_origin.specs.Values.{Device, Relation}
-use Rattle.demo_origin.specs.Answers.{Reads, ReadsPart}
+use Rattle.demo_origin.specs.Answers.{Reads, ReadsBy, ReadsPart}
 use Rattle.demo_origin.specs.Arrivals.{arrival}
 use Rattle.demo_origin.specs.Blocks.{named_by, part_of}
 use Rattle.demo_origin.specs.Requests.{judged}
+use Rattle.demo_origin.specs.Tags.{is_valid}
 use Rattle.demo_origin.specs.Observing.{wish_of}
 use Rattle.demo_origin.specs.Hearing.{asker, piece_after, undecoded, Executes, TakesPiece, Asks, Processes, Takes, HearsRead, HearsBy, Hears}
 use Rattle.demo_origin.specs.LastPiece.{IsLast, LastPieceExecutes}
@@ -43,11 +44,19 @@ parts to i wish held (Piece b) old new h =
 parts to i wish held Past old new h =
     ap (λ (d : Device). d.resources) h.is ∙ ap (λ (d : Device). d.resources) h.answers.is
 
-reads : (to : Asker) (i : ℕ) (wish : Wish) (named : Option Block) (o : Option Held)
-    (old new : Device) → Reads to i wish named o old new → new.resources ≡ old.resources
-reads to i wish named None old new h = absurd h
-reads to i wish named (Some held) old new h =
+by_tag : (b : Bool) (to : Asker) (i : ℕ) (wish : Wish) (named : Option Block) (held : Held)
+    (old new : Device) → ReadsBy b to i wish named held old new → new.resources ≡ old.resources
+by_tag true to i wish named held old new h =
+    ap (λ (d : Device). d.resources) h.is ∙ ap (λ (d : Device). d.resources) h.answers.is
+by_tag false to i wish named held old new h =
     parts to i wish held (part_of named old.block (length held.state)) old new h
+
+reads : (to : Asker) (i : ℕ) (wish : Wish) (tags : List (List ℕ)) (named : Option Block)
+    (o : Option Held) (old new : Device) → Reads to i wish tags named o old new
+    → new.resources ≡ old.resources
+reads to i wish tags named None old new h = absurd h
+reads to i wish tags named (Some held) old new h =
+    by_tag (is_valid tags named held.version) to i wish named held old new h
 
 resets : (p : Peer) (o : Option ℕ) (old new : Device)
     → new ≡ undecoded p o old → new.resources ≡ old.resources
@@ -149,7 +158,7 @@ module _ (R : Relation) (t : ℕ) (p : Peer) (d : List ℕ) (old : Device) where
     processes (Read i) new taken right h =
         inl (
           h.1,
-          reads (asker t p m) i (wish_of (values 6 m.options))
+          reads (asker t p m) i (wish_of (values 6 m.options)) (values 4 m.options)
               (named_by (values 23 m.options)) (slice_get old.resources i) old new h.0,
         )
     processes (Asked i method) new taken right h =

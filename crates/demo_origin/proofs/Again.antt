@@ -15,9 +15,10 @@ use Rattle.coap_codec.specs.declared.message.MsgType.TheVariants.{Con}
 use Rattle.demo_origin.specs.Values.{Device, Relation}
 use Rattle.uri_map.specs.Peers.{same_peer}
 use Rattle.demo_origin.specs.Arrivals.{is_live, is_repeat, is_full, is_request, heard_again, heard_first, arrived, arrival_by, arrival}
-use Rattle.demo_origin.specs.Answers.{Reads, ReadsPart, sent, memory_of}
+use Rattle.demo_origin.specs.Answers.{Reads, ReadsBy, ReadsPart, sent, memory_of}
 use Rattle.demo_origin.specs.Blocks.{named_by, part_of}
 use Rattle.demo_origin.specs.Requests.{judged}
+use Rattle.demo_origin.specs.Tags.{is_valid}
 use Rattle.demo_origin.specs.Observing.{wish_of}
 use Rattle.demo_origin.specs.declared.observers.Wish.{Wish}
 use Rattle.demo_origin.specs.Hearing.{asker, rst, piece_after, TakesPiece, Asks, Processes, Takes, HearsRead, HearsBy, Hears}
@@ -38,7 +39,7 @@ use Rattle.demo_origin.specs.declared.blocks.Part.{Part}
 use Rattle.demo_origin.specs.declared.blocks.Part.TheVariants.{Whole, Piece, Past}
 use Rattle.demo_origin.specs.declared.uploads.Joined.{Joined}
 use Rattle.demo_origin.specs.declared.uploads.Joined.TheVariants.{Gap, TooLarge, Next, Last}
-use Rattle.demo_origin.proofs.First.{answers_add, declines_add, shows_add, executes_adds, finishes_add, repeats, Adds}
+use Rattle.demo_origin.proofs.First.{answers_add, declines_add, gets_add, executes_adds, finishes_add, repeats, Adds}
 use Rattle.demo_origin.proofs.Repeats.{Keeps, hears, live_before}
 
 -- ---- look-ups
@@ -178,16 +179,22 @@ AddsOrNot to old new = Adds to old new ⊎ (new.out ≡ old.out)
 
 parts : (to : Asker) (i : ℕ) (wish : Wish) (held : Held) (part : Part) (old new : Device)
     → ReadsPart to i wish held part old new → Adds to old new
-parts to i wish held Whole old new h = shows_add to i wish held None old new h
-parts to i wish held (Piece b) old new h = shows_add to i wish held (Some b) old new h
+parts to i wish held Whole old new h = gets_add to i wish _ _ _ _ old new h
+parts to i wish held (Piece b) old new h = gets_add to i wish _ _ _ _ old new h
 parts to i wish held Past old new h = declines_add to i wish 128 old new h
 
-reads : (to : Asker) (i : ℕ) (wish : Wish) (named : Option Block) (o : Option Held)
-    (old new : Device)
-    → Reads to i wish named o old new → Adds to old new
-reads to i wish named None old new h = absurd h
-reads to i wish named (Some held) old new h =
+by_tag : (b : Bool) (to : Asker) (i : ℕ) (wish : Wish) (named : Option Block) (held : Held)
+    (old new : Device) → ReadsBy b to i wish named held old new → Adds to old new
+by_tag true to i wish named held old new h = gets_add to i wish _ _ _ _ old new h
+by_tag false to i wish named held old new h =
     parts to i wish held (part_of named old.block (length held.state)) old new h
+
+reads : (to : Asker) (i : ℕ) (wish : Wish) (tags : List (List ℕ)) (named : Option Block)
+    (o : Option Held) (old new : Device) → Reads to i wish tags named o old new
+    → Adds to old new
+reads to i wish tags named None old new h = absurd h
+reads to i wish tags named (Some held) old new h =
+    by_tag (is_valid tags named held.version) to i wish named held old new h
 
 pieces : (R : Relation) (to : Asker) (m : Content) (i : ℕ) (method : Method) (b : Block)
     (j : Joined) (old new : Device) (taken : Option Taken)
@@ -230,7 +237,8 @@ processes R to m (Refused code) old new taken h =
 processes R to m (NotAcceptable i) old new taken h =
     inl (declines_add to i (wish_of (values 6 m.options)) 134 old new h.0)
 processes R to m (Read i) old new taken h =
-    inl (reads to i (wish_of (values 6 m.options)) (named_by (values 23 m.options))
+    inl (reads to i (wish_of (values 6 m.options)) (values 4 m.options)
+    (named_by (values 23 m.options))
     (slice_get old.resources i) old new h.0)
 processes R to m (Asked i method) old new taken h =
     inl (asks R to m i method (named_by (values 27 m.options)) old new taken h)

@@ -2,14 +2,14 @@
 use Rattle.std.proofs.Common.{◌≡◌, ℕ, zero, suc, List, [], ◌∷◌, ◌++◌, append_assoc, append-nil, length, take, slice_get, Option, Some, None, Result, Ok, Err, Bool, true, false, nat_lt, refl, sym, ap, subst, ◌∙◌}
 use Rattle.std.specs.List.{AllByRecursion, list_any}
 use Rattle.uri_map.specs.declared.peer.Peer.{Peer}
-use Rattle.coap_codec.specs.Spelling.{Content}
+use Rattle.coap_codec.specs.Spelling.{Content, Entry}
 use Rattle.coap_codec.specs.Reading.{message_at}
 use Rattle.coap_codec.specs.Values.{values}
 use Rattle.coap_codec.specs.declared.block.Block.{Block}
 use Rattle.coap_codec.specs.declared.fault.CodecFault.{CodecFault}
 use Rattle.message_layer.specs.Hearing.{reset_for}
 use Rattle.demo_origin.specs.Values.{Device, Relation}
-use Rattle.demo_origin.specs.Answers.{Shows, Declines, Reads, ReadsPart}
+use Rattle.demo_origin.specs.Answers.{AnswersGet, Declines, Reads, ReadsBy, ReadsPart}
 use Rattle.demo_origin.specs.Arrivals.{arrival}
 use Rattle.demo_origin.specs.Asked.{IsAskedIn, IsAskedFor, RegistrationsAreAsked}
 use Rattle.demo_origin.specs.Blocks.{named_by, part_of}
@@ -20,6 +20,7 @@ use Rattle.demo_origin.specs.Observing.{wish_of, enlisted, left_by, newcomer, is
 use Rattle.demo_origin.specs.Once.{Event, heard, looked, gave, Steps}
 use Rattle.demo_origin.specs.Origins.{fresh, sent_by, Ticks}
 use Rattle.demo_origin.specs.Requests.{IsAt, judged}
+use Rattle.demo_origin.specs.Tags.{is_valid}
 use Rattle.demo_origin.specs.Uploads.{with_piece, with_body}
 use Rattle.demo_origin.specs.declared.execution.Taken.{Taken}
 use Rattle.demo_origin.specs.declared.request.Method.{Method}
@@ -132,11 +133,13 @@ module _ (P : Observer → Type 0)
       → IsAt (values 11 m.options) old.resources i h → (version : ℕ)
       → P (newcomer p i m.token version)) where
     module _ (m : Content) (e : message_at d ≡ Ok m) where
-      shows : (i : ℕ) (held : Held) (b : Option Block) (new : Device) → m.code ≡ 1
+      gets : (i : ℕ) (held : Held) (code : ℕ) (describes_as : Bool → List Entry → Type 0)
+          (payload : List ℕ) (new : Device) → m.code ≡ 1
           → IsAt (values 11 m.options) old.resources i held
-          → Shows (asker t p m) i (wish_of (values 6 m.options)) held b old new
+          → AnswersGet (asker t p m) i (wish_of (values 6 m.options)) held.version code
+          describes_as payload old new
           → AllByRecursion P old.observers → AllByRecursion P new.observers
-      shows i held b new get at s h =
+      gets i held code describes_as payload new get at s h =
           let Q : List Observer → Type 0 = λ os. AllByRecursion P os in
           subst Q (sym (ap (λ (x : Device). x.observers) s.is))
           (enlists (wish_of (values 6 m.options)) p i m.token held.version s.middle.observers
@@ -156,21 +159,30 @@ module _ (P : Observer → Type 0)
           → IsAt (values 11 m.options) old.resources i held
           → ReadsPart (asker t p m) i (wish_of (values 6 m.options)) held part old new
           → AllByRecursion P old.observers → AllByRecursion P new.observers
-      parts i held Whole new get at s h = shows i held None new get at s h
-      parts i held (Piece b) new get at s h = shows i held (Some b) new get at s h
+      parts i held Whole new get at s h = gets i held _ _ _ new get at s h
+      parts i held (Piece b) new get at s h = gets i held _ _ _ new get at s h
       parts i held Past new get at s h =
           declines i (wish_of (values 6 m.options)) 128 new s h
 
+      by_tag : (b : Bool) (i : ℕ) (held : Held) (new : Device) → m.code ≡ 1
+          → IsAt (values 11 m.options) old.resources i held
+          → ReadsBy b (asker t p m) i (wish_of (values 6 m.options))
+          (named_by (values 23 m.options)) held old new
+          → AllByRecursion P old.observers → AllByRecursion P new.observers
+      by_tag true i held new get at s h = gets i held _ _ _ new get at s h
+      by_tag false i held new get at s h =
+          parts i held
+          (part_of (named_by (values 23 m.options)) old.block (length held.state)) new get at s h
+
       reads : (i : ℕ) (o : Option Held) (new : Device) → slice_get old.resources i ≡ o
           → IsRight m old.resources (Read i)
-          → Reads (asker t p m) i (wish_of (values 6 m.options))
+          → Reads (asker t p m) i (wish_of (values 6 m.options)) (values 4 m.options)
           (named_by (values 23 m.options)) o old new
           → AllByRecursion P old.observers → AllByRecursion P new.observers
       reads i None new at right s h = absurd s
       reads i (Some held) new at right s h =
-          parts i held
-          (part_of (named_by (values 23 m.options)) old.block (length held.state)) new
-          right.get (record { first = right.stands.first; stands = at }) s h
+          by_tag (is_valid (values 4 m.options) (named_by (values 23 m.options)) held.version) i
+          held new right.get (record { first = right.stands.first; stands = at }) s h
 
       executes : (body : List ℕ) (i : ℕ) (method : Method) (new : Device) (done : Taken)
           → Executes R (asker t p m) (with_body body m) i method old new done

@@ -5,7 +5,7 @@ use Rattle.std.proofs.lemmas.Bool.{and_from, lt-ltb}
 use Rattle.std.proofs.lemmas.Bool.Decides.{Decides-eqb}
 use Rattle.std.proofs.lemmas.List.Elements.{Contains-push}
 use Rattle.uri_map.specs.declared.peer.Peer.{Peer}
-use Rattle.coap_codec.specs.Spelling.{Content}
+use Rattle.coap_codec.specs.Spelling.{Content, Entry}
 use Rattle.coap_codec.specs.Reading.{message_at}
 use Rattle.coap_codec.specs.declared.fault.CodecFault.{CodecFault}
 use Rattle.coap_codec.specs.declared.message.MsgType.{MsgType}
@@ -13,7 +13,7 @@ use Rattle.coap_codec.specs.declared.message.MsgType.TheVariants.{Con, Non, Ack,
 use Rattle.demo_origin.specs.Values.{Device, Relation}
 use Rattle.uri_map.proofs.CallerLemmas.{same_peer-itself}
 use Rattle.demo_origin.specs.Arrivals.{is_live, is_repeat, is_full, heard_again, arrived, arrival_of, is_heeded, arrival_by, arrival}
-use Rattle.demo_origin.specs.Answers.{memory_of, shown_part, Answers, Declines, Shows}
+use Rattle.demo_origin.specs.Answers.{memory_of, Answers, AnswersGet, Declines}
 use Rattle.demo_origin.specs.Requests.{judged}
 use Rattle.coap_codec.specs.Values.{values}
 use Rattle.coap_codec.specs.declared.block.Block.{Block}
@@ -28,7 +28,6 @@ use Rattle.demo_origin.specs.declared.answer.Asker.{Asker}
 use Rattle.demo_origin.specs.Notifying.{talk_of}
 use Rattle.demo_origin.specs.declared.observers.Wish.{Wish}
 use Rattle.demo_origin.specs.declared.state.Datagram.{Datagram}
-use Rattle.demo_origin.specs.declared.state.Held.{Held}
 use Rattle.demo_origin.specs.declared.state.Remembered.{Remembered}
 use Rattle.demo_origin.proofs.Growing.{all_grow}
 use Rattle.demo_origin.specs.declared.fault.Memory.{Memory}
@@ -148,10 +147,11 @@ answers_add to code options payload old new h =
       out = ap (λ (d : Device). d.out) h.is;
     }
 
-pub shows_add : (to : Asker) (i : ℕ) (wish : Wish) (held : Held) (b : Option Block)
-    (old new : Device) → Shows to i wish held b old new → Adds to old new
-shows_add to i wish held b old new h =
-    let a = answers_add to 69 h.options (shown_part b held.state) old h.middle h.answers in
+pub gets_add : (to : Asker) (i : ℕ) (wish : Wish) (version code : ℕ)
+    (describes_as : Bool → List Entry → Type 0) (payload : List ℕ) (old new : Device)
+    → AnswersGet to i wish version code describes_as payload old new → Adds to old new
+gets_add to i wish version code describes_as payload old new h =
+    let a = answers_add to code h.options payload old h.middle h.answers in
     record {
       bytes = a.bytes;
       is = ap (λ (d : Device). d.remembered) h.is ∙ a.is;

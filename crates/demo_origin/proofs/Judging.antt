@@ -1,5 +1,5 @@
 -- What a request is judged to be, read backwards.
-use Rattle.std.proofs.Common.{◌≡◌, ◌⊎◌, inl, inr, ℕ, ◌/◌, List, slice_get, Option, Some, None, Bool, true, false, cond, ◌==◌, position, refl, sym, ◌∙◌}
+use Rattle.std.proofs.Common.{◌≡◌, ◌⊎◌, inl, inr, ℕ, ◌/◌, List, slice_get, Option, Some, None, Bool, true, false, cond, ◌==◌, position, refl, sym, subst, ◌∙◌}
 use Rattle.std.proofs.lemmas.Bool.Decides.{Decides-eqb}
 use Rattle.coap_codec.specs.Spelling.{Content}
 use Rattle.coap_codec.specs.Values.{values}
@@ -26,6 +26,7 @@ pub record AsksFor (m : Content) (rs : List Held) (i : ℕ) (method : Method) : 
   pub code : method_code method ≡ m.code
   pub held : Held
   pub stands : IsAt (values 11 m.options) rs i held
+  pub left : (held.version == 18446744073709551615) ≡ false
 
 abbrev pub IsRight : Content → List Held → Judged → Type 0
 IsRight m rs Dropped = Unit {0}
@@ -34,22 +35,30 @@ IsRight m rs (NotAcceptable i) = Unit {0}
 IsRight m rs (Read i) = Gets m rs i
 IsRight m rs (Asked i method) = AsksFor m rs i method
 
-changes : (m : Content) (rs : List Held) (i version : ℕ) (method : Method)
-    → AsksFor m rs i method → IsRight m rs (asked_for i version method)
-changes m rs i version method asks =
-    either_way (IsRight m rs) (version == 18446744073709551615) (Refused 160) (Asked i method)
-    (λ e. inr refl) (λ e. asks)
+-- it has a version left
+pub is_left : (m : Content) (rs : List Held) (i : ℕ) (method : Method) (h : Held)
+    → AsksFor m rs i method → slice_get rs i ≡ Some h
+    → (h.version == 18446744073709551615) ≡ false
+is_left m rs i method h asks at =
+    let same : Some asks.held ≡ Some h = sym asks.stands.stands ∙ at in
+    let is : asks.held ≡ h = cc in
+    subst (λ (x : Held). (x.version == 18446744073709551615) ≡ false) is asks.left
+
+changes : (m : Content) (rs : List Held) (i : ℕ) (h : Held) (method : Method)
+    → method_code method ≡ m.code → IsAt (values 11 m.options) rs i h
+    → IsRight m rs (asked_for i h.version method)
+changes m rs i h method code at =
+    either_way (IsRight m rs) (h.version == 18446744073709551615) (Refused 160)
+    (Asked i method) (λ e. inr refl)
+    (λ e. record { code = code; held = h; stands = at; left = e })
 
 methods : (m : Content) (rs : List Held) (i : ℕ) (h : Held) → IsAt (values 11 m.options) rs i h
     → IsRight m rs (judged_method m.code i h.version)
 methods m rs i h at =
     let by_code : (n : ℕ) (method : Method) → method_code method ≡ n → (m.code == n) ≡ true
     → IsRight m rs (asked_for i h.version method) =
-    λ n method code e. changes m rs i h.version method (record {
-      code = code ∙ sym ((Decides-eqb m.code n).0 e);
-      held = h;
-      stands = at;
-    }) in
+    λ n method code e.
+    changes m rs i h method (code ∙ sym ((Decides-eqb m.code n).0 e)) at in
     either_way (IsRight m rs) (m.code == 1) (Read i) _
     (λ e. record { get = (Decides-eqb m.code 1).0 e; held = h; stands = at })
     (λ e. either_way (IsRight m rs) (m.code == 2) (asked_for i h.version Post) _

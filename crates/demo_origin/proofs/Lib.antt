@@ -15,6 +15,7 @@ pub mod Ending
 pub mod Versioning
 pub mod Alls
 pub mod Judging
+pub mod Tagging
 pub mod Talking
 pub mod Keeping
 pub mod Responding

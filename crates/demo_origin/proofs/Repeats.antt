@@ -11,7 +11,7 @@ use Rattle.message_layer.specs.Hearing.{reset_for}
 use Rattle.demo_origin.specs.Values.{Device, Relation}
 use Rattle.uri_map.specs.Peers.{same_peer}
 use Rattle.demo_origin.specs.Arrivals.{is_live, is_repeat, arrival}
-use Rattle.demo_origin.specs.Answers.{Reads, ReadsPart, memory_of}
+use Rattle.demo_origin.specs.Answers.{Reads, ReadsBy, ReadsPart, memory_of}
 use Rattle.demo_origin.specs.Observing.{wish_of}
 use Rattle.demo_origin.specs.declared.observers.Wish.{Wish}
 use Rattle.coap_codec.specs.Values.{values}
@@ -19,6 +19,7 @@ use Rattle.demo_origin.specs.Blocks.{named_by, part_of}
 use Rattle.demo_origin.specs.declared.blocks.Part.{Part}
 use Rattle.demo_origin.specs.declared.blocks.Part.TheVariants.{Whole, Piece, Past}
 use Rattle.demo_origin.specs.Requests.{judged}
+use Rattle.demo_origin.specs.Tags.{is_valid}
 use Rattle.coap_codec.specs.declared.block.Block.{Block}
 use Rattle.demo_origin.specs.Pieces.{holding, KeepsPiece, GivesUp}
 use Rattle.demo_origin.specs.declared.uploads.Joined.{Joined}
@@ -36,7 +37,7 @@ use Rattle.demo_origin.specs.declared.arrival.Arrival.{Arrival}
 use Rattle.demo_origin.specs.declared.arrival.Arrival.TheVariants.{Ignored, Empty, Rejected, Repeated, Fresh, Acknowledged, Reset}
 use Rattle.demo_origin.specs.declared.judge.Judged.{Judged}
 use Rattle.demo_origin.specs.declared.judge.Judged.TheVariants.{Dropped, Refused, NotAcceptable, Read, Asked}
-use Rattle.demo_origin.proofs.First.{stays, answers_add, declines_add, shows_add, executes_adds, finishes_add, Adds, hears_first}
+use Rattle.demo_origin.proofs.First.{stays, answers_add, declines_add, gets_add, executes_adds, finishes_add, Adds, hears_first}
 
 -- What is remembered stays, or only what is too old goes and something is added.
 abbrev pub Keeps : ℕ → Device → Device → Type 0
@@ -53,17 +54,22 @@ adds to old new h = inr (memory_of to (Some h.bytes) ∷ [], h.is)
 
 parts : (to : Asker) (i : ℕ) (wish : Wish) (held : Held) (part : Part) (old new : Device)
     → ReadsPart to i wish held part old new → Keeps to.moment old new
-parts to i wish held Whole old new h = adds to old new (shows_add to i wish held None old new h)
-parts to i wish held (Piece b) old new h =
-    adds to old new (shows_add to i wish held (Some b) old new h)
+parts to i wish held Whole old new h = adds to old new (gets_add to i wish _ _ _ _ old new h)
+parts to i wish held (Piece b) old new h = adds to old new (gets_add to i wish _ _ _ _ old new h)
 parts to i wish held Past old new h = adds to old new (declines_add to i wish 128 old new h)
 
-reads : (to : Asker) (i : ℕ) (wish : Wish) (named : Option Block) (o : Option Held)
-    (old new : Device)
-    → Reads to i wish named o old new → Keeps to.moment old new
-reads to i wish named None old new h = absurd h
-reads to i wish named (Some held) old new h =
+by_tag : (b : Bool) (to : Asker) (i : ℕ) (wish : Wish) (named : Option Block) (held : Held)
+    (old new : Device) → ReadsBy b to i wish named held old new → Keeps to.moment old new
+by_tag true to i wish named held old new h = adds to old new (gets_add to i wish _ _ _ _ old new h)
+by_tag false to i wish named held old new h =
     parts to i wish held (part_of named old.block (length held.state)) old new h
+
+reads : (to : Asker) (i : ℕ) (wish : Wish) (tags : List (List ℕ)) (named : Option Block)
+    (o : Option Held) (old new : Device) → Reads to i wish tags named o old new
+    → Keeps to.moment old new
+reads to i wish tags named None old new h = absurd h
+reads to i wish tags named (Some held) old new h =
+    by_tag (is_valid tags named held.version) to i wish named held old new h
 
 gives_up : (to : Asker) (i code : ℕ) (old new : Device)
     → GivesUp to i code old new → Keeps to.moment old new
@@ -103,7 +109,8 @@ processes R to m (Refused code) old new taken h =
 processes R to m (NotAcceptable i) old new taken h =
     adds to old new (declines_add to i (wish_of (values 6 m.options)) 134 old new h.0)
 processes R to m (Read i) old new taken h =
-    reads to i (wish_of (values 6 m.options)) (named_by (values 23 m.options))
+    reads to i (wish_of (values 6 m.options)) (values 4 m.options)
+    (named_by (values 23 m.options))
     (slice_get old.resources i) old new h.0
 processes R to m (Asked i method) old new taken h =
     asks R to m i method (named_by (values 27 m.options)) old new taken h

@@ -1,5 +1,5 @@
 -- What a message makes the device give out was made by it.
-use Rattle.std.proofs.Common.{◌≡◌, ◌⊎◌, inl, inr, ℕ, ◌/◌, List, [], length, slice_get, Option, Some, None, refl, sym, ap, subst}
+use Rattle.std.proofs.Common.{◌≡◌, ◌⊎◌, inl, inr, ℕ, ◌/◌, List, [], length, slice_get, Option, Some, None, Bool, true, false, refl, sym, ap, subst}
 use Rattle.std.specs.List.{AllByRecursion}
 use Rattle.uri_map.specs.declared.peer.Peer.{Peer}
 use Rattle.coap_codec.specs.Spelling.{Content, Entry, Spells}
@@ -7,13 +7,14 @@ use Rattle.coap_codec.specs.Values.{values}
 use Rattle.coap_codec.specs.declared.block.Block.{Block}
 use Rattle.demo_origin.specs.Values.{Device, Relation}
 use Rattle.demo_origin.specs.Peers.{own_mid}
-use Rattle.demo_origin.specs.Answers.{answer_to, noted, shown_part, Answers, Declines, Reads, ReadsPart, Shows}
+use Rattle.demo_origin.specs.Answers.{answer_to, noted, shown_part, Answers, AnswersGet, Declines, Reads, ReadsBy, ReadsPart, Shows, Validates}
 use Rattle.demo_origin.specs.Blocks.{named_by, part_of}
 use Rattle.demo_origin.specs.Hearing.{stated, is_change, with_resource, asker, piece_after, Comes, Executes, TakesPiece, Asks, Processes}
 use Rattle.demo_origin.specs.Made.{Says}
 use Rattle.demo_origin.specs.Observing.{wish_of, is_granted, enlisted, left_by as left_over}
 use Rattle.demo_origin.specs.Pieces.{holding, GivesUp}
 use Rattle.demo_origin.specs.Requests.{IsAt, asked}
+use Rattle.demo_origin.specs.Tags.{is_valid}
 use Rattle.demo_origin.specs.Uploads.{upload_of, body_at, before_piece, with_piece, with_body, without as dropped}
 use Rattle.demo_origin.specs.declared.execution.Taken.{Taken}
 use Rattle.demo_origin.specs.declared.request.Method.{Method}
@@ -30,6 +31,7 @@ use Rattle.demo_origin.specs.declared.uploads.Joined.TheVariants.{Gap, TooLarge,
 use Rattle.demo_origin.proofs.Ending.{is_next}
 use Rattle.demo_origin.proofs.Judging.{Gets, AsksFor, IsRight}
 use Rattle.demo_origin.proofs.Talking.{Stems, stems_itself, Announced}
+use Rattle.demo_origin.proofs.Tagging.{tag_among}
 use Rattle.demo_origin.proofs.Keeping.{AllMade, same_made, notes, answers, enlists, leaves, settles}
 
 module _ (R : Relation) (M : Datagram → Type 0) (t : ℕ) (p : Peer) (m : Content) (start : Device)
@@ -42,7 +44,7 @@ module _ (R : Relation) (M : Datagram → Type 0) (t : ℕ) (p : Peer) (m : Cont
   refuses code old new class a g =
       answers M (asker t p m) code [] [] old new a
       (responds (own_mid p old.clients) code [] [] a.bytes a.spelled
-      (inr (inr (inr (record { class = class; options_are = refl; empty = refl })))))
+      (inr (inr (inr (inr (record { class = class; options_are = refl; empty = refl }))))))
       g
 
   declines : (i : ℕ) (wish : Wish) (code : ℕ) (old new : Device)
@@ -58,11 +60,30 @@ module _ (R : Relation) (M : Datagram → Type 0) (t : ℕ) (p : Peer) (m : Cont
         told = leaves M wish p i m.token d.middle.observers mid.told;
       })
 
+  gets : (i : ℕ) (wish : Wish) (version code : ℕ) (describes_as : Bool → List Entry → Type 0)
+      (payload : List ℕ) (new : Device)
+      → (s : AnswersGet (asker t p m) i wish version code describes_as payload start new)
+      → Says R start m taken code s.options payload → AllMade M start → AllMade M new
+  gets i wish version code describes_as payload new s says g =
+      let mid = answers M (asker t p m) code s.options payload start s.middle s.answers
+      (responds (own_mid p start.clients) code s.options payload s.answers.bytes
+      s.answers.spelled says)
+      g in
+      same_made M
+      (record s.middle { observers = enlisted wish p i m.token version s.middle.observers })
+      new s.is
+      (record {
+        out = mid.out;
+        kept = mid.kept;
+        told = enlists M wish p i m.token version s.middle.observers mid.told;
+      })
+
   shows : (i : ℕ) (wish : Wish) (held : Held) (b : Option Block) (new : Device)
       → m.code ≡ 1 → IsAt (values 11 m.options) start.resources i held
       → Shows (asker t p m) i wish held b start new → AllMade M start → AllMade M new
   shows i wish held b new get at s g =
-      let says : Says R start m taken 69 s.options (shown_part b held.state) = inl (record {
+      gets i wish held.version 69 _ (shown_part b held.state) new s
+      (inl (record {
         get = get;
         content = refl;
         place = i;
@@ -72,22 +93,27 @@ module _ (R : Relation) (M : Datagram → Type 0) (t : ℕ) (p : Peer) (m : Cont
         part = b;
         describes = s.describes;
         shown = refl;
-      }) in
-      let mid = answers M (asker t p m) 69 s.options (shown_part b held.state) start s.middle
-      s.answers
-      (responds (own_mid p start.clients) 69 s.options (shown_part b held.state)
-      s.answers.bytes s.answers.spelled says)
-      g in
-      same_made M
-      (record s.middle {
-        observers = enlisted wish p i m.token held.version s.middle.observers;
-      })
-      new s.is
-      (record {
-        out = mid.out;
-        kept = mid.kept;
-        told = enlists M wish p i m.token held.version s.middle.observers mid.told;
-      })
+      }))
+      g
+
+  validates : (i : ℕ) (wish : Wish) (named : Option Block) (held : Held) (new : Device)
+      → m.code ≡ 1 → IsAt (values 11 m.options) start.resources i held
+      → is_valid (values 4 m.options) named held.version ≡ true
+      → Validates (asker t p m) i wish held start new → AllMade M start → AllMade M new
+  validates i wish named held new get at valid s g =
+      gets i wish held.version 67 _ [] new s
+      (inr (inl (record {
+        get = get;
+        valid = refl;
+        place = i;
+        held = held;
+        stands = at;
+        named = tag_among (values 4 m.options) named held.version valid;
+        observed = is_granted wish p i m.token start.observers;
+        renews = s.describes;
+        empty = refl;
+      })))
+      g
 
   parts : (i : ℕ) (wish : Wish) (held : Held) (part : Part) (new : Device)
       → m.code ≡ 1 → IsAt (values 11 m.options) start.resources i held
@@ -97,12 +123,22 @@ module _ (R : Relation) (M : Datagram → Type 0) (t : ℕ) (p : Peer) (m : Cont
   parts i wish held Past new get at h g =
       declines i wish 128 start new (inl refl) h g
 
+  by_tag : (b : Bool) (i : ℕ) (wish : Wish) (named : Option Block) (held : Held) (new : Device)
+      → is_valid (values 4 m.options) named held.version ≡ b → m.code ≡ 1
+      → IsAt (values 11 m.options) start.resources i held
+      → ReadsBy b (asker t p m) i wish named held start new → AllMade M start → AllMade M new
+  by_tag true i wish named held new valid get at h g =
+      validates i wish named held new get at valid h g
+  by_tag false i wish named held new valid get at h g =
+      parts i wish held (part_of named start.block (length held.state)) new get at h g
+
   reads : (i : ℕ) (wish : Wish) (named : Option Block) (o : Option Held) (new : Device)
       → slice_get start.resources i ≡ o → Gets m start.resources i
-      → Reads (asker t p m) i wish named o start new → AllMade M start → AllMade M new
+      → Reads (asker t p m) i wish (values 4 m.options) named o start new
+      → AllMade M start → AllMade M new
   reads i wish named None new at gets h g = absurd h
   reads i wish named (Some held) new at gets h g =
-      parts i wish held (part_of named start.block (length held.state)) new gets.get
+      by_tag (is_valid (values 4 m.options) named held.version) i wish named held new refl gets.get
       (record { first = gets.stands.first; stands = at }) h g
 
   executes : (body : List ℕ) (i : ℕ) (method : Method) (new : Device) (done : Taken)
@@ -117,7 +153,7 @@ module _ (R : Relation) (M : Datagram → Type 0) (t : ℕ) (p : Peer) (m : Cont
       let C : List ℕ → Type 0 = λ xs.
       Comes R h.held.state
       (asked method (with_body body m)) xs h.reply in
-      let says : Says R start m taken h.reply.code [] h.reply.payload = inr (inl (record {
+      let says : Says R start m taken h.reply.code [] h.reply.payload = inr (inr (inl (record {
         done = done;
         executed = is;
         place = i;
@@ -131,7 +167,7 @@ module _ (R : Relation) (M : Datagram → Type 0) (t : ℕ) (p : Peer) (m : Cont
         code_is = refl;
         options_are = refl;
         shown = refl;
-      })) in
+      }))) in
       let mid = answers M (asker t p m) h.reply.code [] h.reply.payload changed x.middle x.answers
       (responds (own_mid p start.clients) h.reply.code [] h.reply.payload x.answers.bytes
       x.answers.spelled says)
@@ -158,7 +194,7 @@ module _ (R : Relation) (M : Datagram → Type 0) (t : ℕ) (p : Peer) (m : Cont
   pieces i method b TooLarge new named e right h a g = gives_up i 141 new (inl refl) h.0 g
   pieces i method b Next new named e right h a g =
       let k = h.0 in
-      let says : Says R start m taken 95 k.options [] = inr (inr (inl (record {
+      let says : Says R start m taken 95 k.options [] = inr (inr (inr (inl (record {
         continue = refl;
         piece = b;
         named = named;
@@ -167,7 +203,7 @@ module _ (R : Relation) (M : Datagram → Type 0) (t : ℕ) (p : Peer) (m : Cont
             (length m.payload) e;
         asks = k.asks;
         empty = refl;
-      }))) in
+      })))) in
       answers M (asker t p m) 95 k.options [] (holding (asker t p m) i b m.payload start) new
       k.answers
       (responds (own_mid p start.clients) 95 k.options [] k.answers.bytes k.answers.spelled says)

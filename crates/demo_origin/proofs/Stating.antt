@@ -21,6 +21,7 @@ use Rattle.demo_origin.specs.declared.state.Held.{Held}
 use Rattle.demo_origin.proofs.Acting.{Did, Acts, acts, nothing}
 use Rattle.demo_origin.proofs.Alls.{get_or_of}
 use Rattle.demo_origin.proofs.Saying.{same_or_not}
+use Rattle.demo_origin.proofs.Judging.{is_left}
 use Rattle.demo_origin.proofs.Versioning.{itself, later_on, kept_state, stated_later, gives}
 use Rattle.demo_origin.proofs.Watching.{get_set, get_other}
 
@@ -139,6 +140,7 @@ module _ (R : Relation) (t : ℕ) (p : Peer) (d : List ℕ) (old new : Device)
       let h = did.executes in
       stated_later h.held (is_change h.held.state h.after h.reply) h.after
       (kept_state h.held.state h.after h.reply)
+      (is_left did.message old.resources did.place did.method h.held did.right h.there)
 
   -- the resource that was executed
   of_itself : (path : List (List ℕ)) (g : Held) → IsAt path old.resources did.place g

@@ -1,6 +1,9 @@
 -- Versions don't fall, and tell states apart.
-use Rattle.std.proofs.Common.{◌≡◌, inl, inr, ℕ, List, [], ◌∷◌, set, slice_get, Option, Some, Bool, true, false, not, ◌||◌, refl, sym, ap, subst, ◌∙◌, arith}
+use Rattle.std.proofs.Common.{◌≡◌, inl, inr, ℕ, ◌<◌, ◌^◌, ◌==◌, List, [], ◌∷◌, set, slice_get, Option, Some, Bool, true, false, not, ◌||◌, refl, sym, ap, subst, ◌∙◌, arith}
 use Rattle.std.specs.Str.{bytes_eq}
+use Rattle.std.specs.Int.{from_be_bytes, to_be_bytes, w64}
+use Rattle.std.proofs.lemmas.Bool.{eqb-false}
+use Rattle.std.proofs.lemmas.Nat.{from_be_bytes-to_be_bytes_8}
 use Rattle.std.proofs.lemmas.Slice.Eq.{bytes_eq-Decides}
 use Rattle.uri_map.specs.declared.peer.Peer.{Peer}
 use Rattle.coap_codec.specs.Spelling.{Content}
@@ -9,13 +12,14 @@ use Rattle.demo_origin.specs.Hearing.{is_change, stated, asker, Executes}
 use Rattle.demo_origin.specs.Uploads.{with_body}
 use Rattle.demo_origin.specs.Origins.{sent_by}
 use Rattle.demo_origin.specs.Once.{Event, heard, looked, gave, Steps, Runs}
-use Rattle.demo_origin.specs.Versions.{IsLater, StandsLater, VersionsTell}
+use Rattle.demo_origin.specs.Versions.{IsLater, StandsLater, TagsTell, VersionsTell}
 use Rattle.demo_origin.specs.declared.answer.Asker.{Asker}
 use Rattle.demo_origin.specs.declared.state.Held.{Held}
 use Rattle.demo_origin.specs.declared.state.Datagram.{Datagram}
 use Rattle.demo_origin.specs.declared.execution.Taken.{Taken}
 use Rattle.demo_origin.specs.declared.request.Method.{Method}
 use Rattle.demo_origin.proofs.Acting.{Acts, acts}
+use Rattle.demo_origin.proofs.Judging.{is_left}
 use Rattle.demo_origin.proofs.Watching.{get_set, get_other}
 use Rattle.demo_origin.proofs.Saying.{same_or_not}
 
@@ -27,6 +31,7 @@ itself h = record {
   format = refl;
   max_age = refl;
   version = omega arith;
+  eight_bytes = λ lt. lt;
   state = λ e. refl;
 }
 
@@ -36,6 +41,7 @@ later_on a b c x y = record {
   format = y.format ∙ x.format;
   max_age = y.max_age ∙ x.max_age;
   version = omega (arith, x.version, y.version);
+  eight_bytes = λ lt. y.eight_bytes (x.eight_bytes lt);
   state = λ e. y.state (omega (arith, e, x.version, y.version))
       ∙ x.state (omega (arith, e, x.version, y.version));
 }
@@ -53,19 +59,22 @@ kept_state before after reply e =
     (same_state reply.changed (bytes_eq before after) e))
 
 pub stated_later : (h : Held) (changed : Bool) (after : List ℕ)
-    → (changed ≡ false → after ≡ h.state) → IsLater h (stated h changed after)
-stated_later h true after same = record {
+    → (changed ≡ false → after ≡ h.state) → (h.version == 18446744073709551615) ≡ false
+    → IsLater h (stated h changed after)
+stated_later h true after same left = record {
   path = refl;
   format = refl;
   max_age = refl;
   version = omega arith;
+  eight_bytes = λ lt. omega (arith, lt, eqb-false h.version 18446744073709551615 left);
   state = λ e. absurd (omega (arith, e));
 }
-stated_later h false after same = record {
+stated_later h false after same left = record {
   path = refl;
   format = refl;
   max_age = refl;
   version = omega arith;
+  eight_bytes = λ lt. lt;
   state = λ e. same refl;
 }
 
@@ -107,8 +116,10 @@ same old new e = unchanged old.resources new.resources e
 
 executes : (R : Relation) (to : Asker) (m : Content) (i : ℕ) (method : Method) (old new : Device)
     (taken : Taken) → Executes R to m i method old new taken
+    → ((g : Held) → slice_get old.resources i ≡ Some g
+    → (g.version == 18446744073709551615) ≡ false)
     → Later old.resources new.resources
-executes R to m i method old new taken h =
+executes R to m i method old new taken h left =
     let x = h.changes in
     let now = stated h.held (is_change h.held.state h.after h.reply) h.after in
     let is : new.resources ≡ set old.resources i now =
@@ -118,7 +129,7 @@ executes R to m i method old new taken h =
     subst P (sym is)
     (one_changed old.resources i h.held now h.there
     (stated_later h.held (is_change h.held.state h.after h.reply) h.after
-    (kept_state h.held.state h.after h.reply)))
+    (kept_state h.held.state h.after h.reply) (left h.held h.there)))
 
 hears : (R : Relation) (t : ℕ) (p : Peer) (d : List ℕ) (old new : Device) (taken : Option Taken)
     → Acts R t p d old new taken → Later old.resources new.resources
@@ -128,7 +139,8 @@ hears R t p d old new taken a =
       | inl none ↦ same old new none.1
       | inr did ↦ subst P (sym did.left)
           (executes R (asker t p did.message) (with_body did.body did.message) did.place
-          did.method old did.middle did.done did.executes)
+          did.method old did.middle did.done did.executes
+          (λ g at. is_left did.message old.resources did.place did.method g did.right at))
     ]
 
 pub gives : (ds : List Datagram) (s : Device) → (sent_by s ds).0.resources ≡ s.resources
@@ -152,3 +164,19 @@ runs R (e ∷ es) old new h =
 
 pub versions_tell : (R : Relation) → VersionsTell R
 versions_tell R es old new i held h at = runs R es old new h i held at
+
+-- ---- ETags
+
+same_version : (a b : ℕ) → a < 2 ^ 64 → b < 2 ^ 64 → to_be_bytes w64 a ≡ to_be_bytes w64 b → a ≡ b
+same_version a b small fits e =
+    sym (from_be_bytes-to_be_bytes_8 a small)
+    ∙ ap (λ (bytes : List ℕ). from_be_bytes w64 bytes) e
+    ∙ from_be_bytes-to_be_bytes_8 b fits
+
+pub tags_tell : (R : Relation) → TagsTell R
+tags_tell R es old new i held now h at then fits e =
+    let later = runs R es old new h i held at in
+    let same : Some later.held ≡ Some now = sym later.stands ∙ then in
+    let is : later.held ≡ now = cc in
+    let after : IsLater held now = subst (λ (x : Held). IsLater held x) is later.later in
+    after.state (same_version now.version held.version (after.eight_bytes fits) fits e)

@@ -13,6 +13,7 @@ use Rattle.demo_origin.specs.Peers.{own_mid, known_after}
 use Rattle.demo_origin.specs.Arrivals.{is_live}
 use Rattle.demo_origin.specs.Blocks.{part_of, piece_of, IsBlockOption}
 use Rattle.demo_origin.specs.Observing.{is_granted, enlisted, left_by}
+use Rattle.demo_origin.specs.Tags.{is_valid}
 use Rattle.demo_origin.specs.declared.blocks.Part.{Part}
 use Rattle.demo_origin.specs.declared.blocks.Part.TheVariants.{Whole, Piece, Past}
 use Rattle.demo_origin.specs.declared.answer.Asker.{Asker}
@@ -106,6 +107,18 @@ pub record Describes (r : Held) (observed : Bool) (b : Option Block) (options : 
       ∷ with_observe observed observe
       (record { number = 12; value = format } ∷ record { number = 14; value = max_age } ∷ block)
 
+-- the options of a 2.03, with which no state comes: ETag, Observe for an observer, and Max-Age
+-- (RFC 7252, section 5.9.1.3; RFC 7641, section 3.2)
+pub record Renews (r : Held) (observed : Bool) (options : List Entry) : Type 0 where
+  pub observe : List ℕ
+  pub max_age : List ℕ
+  pub observe_is : IsSequence observed r.version observe
+  pub max_age_is : (uint max_age ≡ r.max_age) × IsShortest max_age
+  pub options_are :
+      options
+      ≡ record { number = 4; value = to_be_bytes w64 r.version }
+      ∷ with_observe observed observe (record { number = 14; value = max_age } ∷ [])
+
 -- room for an answer, and for what is remembered of it
 pub record HasRoom (s : State) : Type 0 where
   pub clients : vec_len s.clients < vec_capacity s.clients
@@ -122,15 +135,29 @@ abbrev pub enlisting : Asker → ℕ → Wish → ℕ → Device → Device
 enlisting to i wish version s =
     record s { observers = enlisted wish to.peer i to.token version s.observers }
 
--- The state is answered as it stands, with an Observe where it is registered for.
-pub record Shows (to : Asker) (i : ℕ) (wish : Wish) (held : Held) (b : Option Block)
-    (old new : Device) : Type 0 where
-  pub options : List Entry
-  pub describes :
-      Describes held (is_granted wish to.peer i to.token old.observers) b options
-  pub middle : Device
-  pub answers : Answers to 69 options (shown_part b held.state) old middle
-  pub is : new ≡ enlisting to i wish held.version middle
+-- A GET is answered by that code and payload, with options of the state as it stands, and with an
+-- Observe where it is registered for.
+pub record AnswersGet (to : Asker) (i : ℕ) (wish : Wish) (version : ℕ) (code : ℕ)
+    (describes_as : Bool → List Entry → Type 0) (payload : List ℕ) (old new : Device) : Type 0
+  where
+    pub options : List Entry
+    pub describes :
+        describes_as (is_granted wish to.peer i to.token old.observers) options
+    pub middle : Device
+    pub answers : Answers to code options payload old middle
+    pub is : new ≡ enlisting to i wish version middle
+
+-- 2.05 with the state, or a piece of it
+abbrev pub Shows : Asker → ℕ → Wish → Held → Option Block → Device → Device → Type 0
+Shows to i wish held b old new =
+    AnswersGet to i wish held.version 69 (λ observed options. Describes held observed b options)
+    (shown_part b held.state) old new
+
+-- 2.03 alone: the state is the one that the client has (RFC 7252, section 5.10.6.2)
+abbrev pub Validates : Asker → ℕ → Wish → Held → Device → Device → Type 0
+Validates to i wish held old new =
+    AnswersGet to i wish held.version 67 (λ observed options. Renews held observed options) []
+    old new
 
 -- A GET is answered by that code alone: it registers nobody, and Observe 1 ends its registration.
 pub record Declines (to : Asker) (i : ℕ) (wish : Wish) (code : ℕ) (old new : Device) : Type 0
@@ -148,7 +175,14 @@ ReadsPart to i wish held Whole old new = Shows to i wish held None old new
 ReadsPart to i wish held (Piece b) old new = Shows to i wish held (Some b) old new
 ReadsPart to i wish held Past old new = Declines to i wish 128 old new
 
-abbrev pub Reads : Asker → ℕ → Wish → Option Block → Option Held → Device → Device → Type 0
-Reads to i wish named None old new = ⊥
-Reads to i wish named (Some held) old new =
+abbrev pub ReadsBy : Bool → Asker → ℕ → Wish → Option Block → Held → Device → Device → Type 0
+ReadsBy true to i wish named held old new = Validates to i wish held old new
+ReadsBy false to i wish named held old new =
     ReadsPart to i wish held (part_of named old.block (length held.state)) old new
+
+-- A GET with the ETag of the state is answered by 2.03, unless it asks for a later piece.
+abbrev pub Reads : Asker → ℕ → Wish → List (List ℕ) → Option Block → Option Held
+    → Device → Device → Type 0
+Reads to i wish tags named None old new = ⊥
+Reads to i wish tags named (Some held) old new =
+    ReadsBy (is_valid tags named held.version) to i wish named held old new

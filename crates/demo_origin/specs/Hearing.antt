@@ -135,8 +135,8 @@ Processes R to m (Refused code) old new taken =
 Processes R to m (NotAcceptable i) old new taken =
     Declines to i (wish_of (values 6 m.options)) 134 old new × (taken ≡ None)
 Processes R to m (Read i) old new taken =
-    Reads to i (wish_of (values 6 m.options)) (named_by (values 23 m.options))
-    (slice_get old.resources i) old new
+    Reads to i (wish_of (values 6 m.options)) (values 4 m.options)
+    (named_by (values 23 m.options)) (slice_get old.resources i) old new
     × (taken ≡ None)
 Processes R to m (Asked i method) old new taken =
     Asks R to m i method (named_by (values 27 m.options)) old new taken

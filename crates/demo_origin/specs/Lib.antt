@@ -6,6 +6,7 @@ pub mod Blocks
 pub mod Requests
 pub mod Keeps
 pub mod Uploads
+pub mod Tags
 pub mod Answers
 pub mod Notifying
 pub mod Pieces

@@ -1,6 +1,7 @@
 -- Where what a device gives out comes from: each datagram was first made by a call, of the state as
 -- it stood at that moment.
 use Rattle.std.specs.Prelude.{◌≡◌, ◌⊎◌, ℕ, ◌/◌, List, [], slice_get, Contains, Option, Some, Bool, true, Ok}
+use Rattle.std.specs.Int.{to_be_bytes, w64}
 use Rattle.std.specs.List.{AllByRecursion}
 use Rattle.coap_codec.specs.Spelling.{Content, Entry, Spells}
 use Rattle.coap_codec.specs.Reading.{message_at}
@@ -9,7 +10,7 @@ use Rattle.coap_codec.specs.declared.block.Block.{Block}
 use Rattle.message_layer.specs.Hearing.{reset_for}
 use Rattle.demo_origin.specs.Values.{Device, Relation, Replied}
 use Rattle.demo_origin.specs.Arrivals.{is_request}
-use Rattle.demo_origin.specs.Answers.{answer_to, Describes, shown_part}
+use Rattle.demo_origin.specs.Answers.{answer_to, Describes, Renews, shown_part}
 use Rattle.demo_origin.specs.Blocks.{named_by}
 use Rattle.demo_origin.specs.Calls.{Call, Follow, left_by}
 use Rattle.demo_origin.specs.Hearing.{asker, rst, Comes}
@@ -38,6 +39,19 @@ pub record ShowsState (before : Device) (m : Content) (code : ℕ) (options : Li
   pub part : Option Block
   pub describes : Describes held observed part options
   pub shown : payload ≡ shown_part part held.state
+
+-- that the state of the resource that a GET asks for, as it stood, is the one of an ETag of the GET
+pub record ShowsValid (before : Device) (m : Content) (code : ℕ) (options : List Entry)
+    (payload : List ℕ) : Type 0 where
+  pub get : m.code ≡ 1
+  pub valid : code ≡ 67
+  pub place : ℕ
+  pub held : Held
+  pub stands : IsAt (values 11 m.options) before.resources place held
+  pub named : Contains (values 4 m.options) (to_be_bytes w64 held.version)
+  pub observed : Bool
+  pub renews : Renews held observed options
+  pub empty : payload ≡ []
 
 -- what came of a request that was executed, on the state of its resource as it stood
 pub record ShowsReply (R : Relation) (before : Device) (m : Content) (taken : Option Taken)
@@ -75,9 +89,10 @@ pub record Declined (code : ℕ) (options : List Entry) (payload : List ℕ) : T
 abbrev pub Says : Relation → Device → Content → Option Taken → ℕ → List Entry → List ℕ → Type 0
 Says R before m taken code options payload =
     ShowsState before m code options payload
+    ⊎ (ShowsValid before m code options payload
     ⊎ (ShowsReply R before m taken code options payload
     ⊎ (WantsMore before m code options payload
-    ⊎ Declined code options payload))
+    ⊎ Declined code options payload)))
 
 -- ---- what a call makes
 

@@ -1,27 +1,33 @@
 //! What a request does to a resource.
 
 ghost use Rattle.std.specs.Prelude.{◌≡◌, ◌≢◌, ◌<◌, length, slice_get, IfOk, IfSome, OnOk, OnErr, []};
-ghost use Rattle.coap_codec.specs.Spelling.{content};
+ghost use Rattle.coap_codec.specs.Spelling.{content, entries};
+ghost use Rattle.coap_codec.specs.Values.{values};
 ghost use Rattle.demo_origin.specs.Values.{seen};
 ghost use Rattle.demo_origin.specs.Requests.{CanChange, asked};
-ghost use Rattle.demo_origin.specs.Answers.{Answers, Declines, Reads, Shows, shown_part};
-ghost use Rattle.demo_origin.specs.Blocks.{BeginsIn, IsSized};
+ghost use Rattle.demo_origin.specs.Answers.{Answers, Declines, Reads, ReadsPart, Shows, Validates, shown_part};
+ghost use Rattle.demo_origin.specs.Blocks.{BeginsIn, IsSized, named_by, part_of};
 ghost use Rattle.demo_origin.specs.Hearing.{is_change, reply_of, stated, taken_from, Changes};
+ghost use Rattle.demo_origin.specs.Observing.{wish_of};
 
 use crate::answer::{Asker, answer};
-use crate::blocks::{Part, part_of, piece_of};
+use crate::blocks::{Part, named_in, part_of, piece_of};
 use crate::fault::Memory;
 use crate::judge::number_in;
-use crate::observers::{Wish, enlist, is_granted, leave};
-use crate::reading::described;
+use crate::observers::{Wish, enlist, is_granted, leave, wish_in};
+use crate::reading::{described, renewed};
 use crate::request::{CoapRequest, Method};
 use crate::segments::Segments;
 use crate::state::{Held, State};
+use crate::tags::is_valid;
 use crate::telling::answer_and_tell;
 use coap_codec::{Block, Message, number};
 use message_layer::Bytes;
 use std::alloc::Global;
 use std::mem::replace;
+
+/// The code 2.03.
+const VALID: u8 = 67;
 
 /// The code 2.05.
 const CONTENT: u8 = 69;
@@ -134,7 +140,7 @@ fn show(
 }
 
 /// Answers a GET by what its Block2 asks for of the resource of that number.
-pub(crate) fn read(
+fn show_part(
     alloc: Global,
     s: &mut State,
     to: Asker,
@@ -144,14 +150,57 @@ pub(crate) fn read(
 ) -> Result<(), Memory>
     requires place { place < length s.old.resources.items }
     requires sized { IsSized named }
-    ensures ok { OnOk result (Reads to place wish named
-        (slice_get s.old.resources.items place) (seen s.old) (seen s.new)) }
+    ensures ok { OnOk result (IfSome (slice_get s.old.resources.items place)
+        (λ h. ReadsPart to place wish h (part_of named s.old.block.szx (length h.state))
+        (seen s.old) (seen s.new))) }
     ensures err { OnErr result (seen s.new ≡ seen s.old) }
 {
     match part_of(named, s.block, s.resources[place].state.as_slice().len()) {
         Part::Whole => show(alloc, s, to, place, wish, None),
         Part::Piece(b) => show(alloc, s, to, place, wish, Some(b)),
         Part::Past => decline(alloc, s, to, place, wish, BAD_REQUEST),
+    }
+}
+
+/// Answers a GET by 2.03: the state of the resource of that number is the one that its client has.
+fn validate(alloc: Global, s: &mut State, to: Asker, place: usize, wish: Wish) -> Result<(), Memory>
+    requires { place < length s.old.resources.items }
+    ensures ok { OnOk result (IfSome (slice_get s.old.resources.items place)
+        (λ h. Validates to place wish h (seen s.old) (seen s.new))) }
+    ensures err { OnErr result (seen s.new ≡ seen s.old) }
+{
+    s.observers.reserve(1)?;
+    let held = &s.resources[place];
+    let version = held.version;
+    let observed = is_granted(wish, &s.observers, &to.peer, place, &to.token);
+    let options = renewed(alloc, held, observed)?;
+    answer(alloc, s, to, VALID, options, Vec::new(alloc))?;
+    enlist(&mut s.observers, wish, to.peer, place, to.token, version);
+    Ok(())
+}
+
+/// Answers a GET of the resource of that number: by 2.03 where one of its ETags is that of the
+/// state, and else by what its Block2 asks for.
+pub(crate) fn read(
+    alloc: Global,
+    s: &mut State,
+    to: Asker,
+    place: usize,
+    m: &Message,
+) -> Result<(), Memory>
+    requires { place < length s.old.resources.items }
+    ensures ok { OnOk result (let options = entries m.now.options.items in
+        Reads to place (wish_of (values 6 options)) (values 4 options)
+        (named_by (values 23 options)) (slice_get s.old.resources.items place)
+        (seen s.old) (seen s.new)) }
+    ensures err { OnErr result (seen s.new ≡ seen s.old) }
+{
+    let named = named_in(m, number::BLOCK2);
+    let wish = wish_in(m);
+    if is_valid(m, named, s.resources[place].version) {
+        validate(alloc, s, to, place, wish)
+    } else {
+        show_part(alloc, s, to, place, wish, named)
     }
 }
 

@@ -5,7 +5,7 @@ ghost use Rattle.demo_origin.specs.Asked.{RegistrationsAreAsked};
 ghost use Rattle.demo_origin.specs.Done.{ExecutionsTell, StatesAreTold};
 ghost use Rattle.demo_origin.specs.LastPiece.{LastPieceExecutes};
 ghost use Rattle.demo_origin.specs.Made.{AnswersAreMade};
-ghost use Rattle.demo_origin.specs.Versions.{VersionsTell};
+ghost use Rattle.demo_origin.specs.Versions.{TagsTell, VersionsTell};
 ghost use Rattle.demo_origin.specs.Told.{ObserversTold, OnlyObserversTold};
 
 use crate::behaviour::Behaviour;
@@ -42,6 +42,12 @@ pub fn last_piece_executes<H: Behaviour>()
 /// that responses bear as ETags tell its states apart.
 pub fn versions_tell<H: Behaviour>()
     ensures { VersionsTell H.relation }
+{}
+
+/// A resource that has the ETag that it had before has the state that it had. So a 2.03 says that
+/// the state is the one that was shown under its ETag.
+pub fn tags_tell<H: Behaviour>()
+    ensures { TagsTell H.relation }
 {}
 
 /// Whatever a device gives out, once it heard nothing before, was made by a call: an RST for what

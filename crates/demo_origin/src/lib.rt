@@ -3,7 +3,7 @@
 //! The one contract: while a message is remembered it is executed at most once, and a repeated one
 //! gets the same answer again; what a handler made of a state keeps the relation that it stands
 //! beside, and 5.00 takes its place only where it needn't take the request; a GET is answered with
-//! the state as it stands. Want of memory executes nothing.
+//! the state as it stands, or told that it names it by an ETag. Want of memory executes nothing.
 //! Whoever wants a device to try a proxy with, or the other end of its promise, stands on it.
 #![tactic(auto)]
 
@@ -29,6 +29,7 @@ mod request;
 mod resource;
 mod segments;
 mod state;
+mod tags;
 mod telling;
 mod uploads;
 
@@ -44,7 +45,8 @@ pub use judge::Judged;
 pub use kinds::{cell, counter};
 pub use laws::{
     answered_alike, answers_are_made, executed_once, executions_tell, last_piece_executes,
-    observers_told, only_observers_told, registrations_are_asked, states_are_told, versions_tell,
+    observers_told, only_observers_told, registrations_are_asked, states_are_told, tags_tell,
+    versions_tell,
 };
 pub use observers::Wish;
 pub use origin::Origin;

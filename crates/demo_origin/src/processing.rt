@@ -103,9 +103,7 @@ impl<H: Behaviour> Origin<H> {
                 Ok(None)
             }
             Judged::Read(place) => {
-                let named = named_in(m, number::BLOCK2);
-                let wish = wish_in(m);
-                read(self.alloc, &mut self.state, to, place, wish, named)?;
+                read(self.alloc, &mut self.state, to, place, m)?;
                 Ok(None)
             }
             Judged::Asked(place, method) => {

@@ -5,7 +5,7 @@ ghost use Rattle.coap_codec.specs.Spelling.{entries, entry};
 ghost use Rattle.coap_codec.specs.Values.{uint, IsBlock, IsShortest};
 ghost use Rattle.coap_codec.specs.Writing.{IsInOrder, IsShort};
 ghost use Rattle.std.specs.List.{AllByRecursion};
-ghost use Rattle.demo_origin.specs.Answers.{Describes};
+ghost use Rattle.demo_origin.specs.Answers.{Describes, Renews};
 
 use crate::fault::{Memory, out_of_memory};
 use crate::state::Held;
@@ -141,5 +141,43 @@ pub(crate) fn described(
         (false, Some(b)) => described_piece(alloc, held, b),
         (true, None) => told_whole(alloc, held),
         (true, Some(b)) => told_piece(alloc, held, b),
+    }
+}
+
+/// The options of a 2.03.
+fn renewed_alone(alloc: Global, held: &Held) -> Result<Vec<Opt>, Memory>
+    ensures renews { IfOk result (λ v. Renews held.now false (entries v.items)) }
+    ensures in_order { IfOk result (λ v. IsInOrder 0 (entries v.items)) }
+    ensures short { IfOk result (λ v. AllByRecursion IsShort (entries v.items)) }
+{
+    let etag = Opt::new(alloc, number::ETAG, &held.version.to_be_bytes()).map_err(out_of_memory)?;
+    let max_age = max_age_of(alloc, held)?;
+    let options = Vec::from_array(alloc, [etag, max_age])?;
+    Ok(options)
+}
+
+/// The options of a 2.03 to an observer.
+fn renewed_told(alloc: Global, held: &Held) -> Result<Vec<Opt>, Memory>
+    ensures renews { IfOk result (λ v. Renews held.now true (entries v.items)) }
+    ensures in_order { IfOk result (λ v. IsInOrder 0 (entries v.items)) }
+    ensures short { IfOk result (λ v. AllByRecursion IsShort (entries v.items)) }
+{
+    let etag = Opt::new(alloc, number::ETAG, &held.version.to_be_bytes()).map_err(out_of_memory)?;
+    let observe = observe_of(alloc, held)?;
+    let max_age = max_age_of(alloc, held)?;
+    let options = Vec::from_array(alloc, [etag, observe, max_age])?;
+    Ok(options)
+}
+
+/// The options that say that a state is valid still: ETag, Observe for an observer, and Max-Age.
+pub(crate) fn renewed(alloc: Global, held: &Held, observed: bool) -> Result<Vec<Opt>, Memory>
+    ensures renews { IfOk result (λ v. Renews held.now observed (entries v.items)) }
+    ensures in_order { IfOk result (λ v. IsInOrder 0 (entries v.items)) }
+    ensures short { IfOk result (λ v. AllByRecursion IsShort (entries v.items)) }
+{
+    if observed {
+        renewed_told(alloc, held)
+    } else {
+        renewed_alone(alloc, held)
     }
 }

@@ -18,7 +18,7 @@ use Rattle.demo_origin.specs.Arrivals.{is_request}
 use Rattle.demo_origin.specs.Asked.{IsAskedFor}
 use Rattle.demo_origin.specs.Calls.{Call, Follow, left_by}
 use Rattle.demo_origin.specs.Hearing.{asker, rst}
-use Rattle.demo_origin.specs.Made.{Says as Tells, ShowsState, ShowsReply, WantsMore, Declined, Resets, Responds, Announces, Makes, IsMade}
+use Rattle.demo_origin.specs.Made.{Says as Tells, ShowsState, ShowsValid, ShowsReply, WantsMore, Declined, Resets, Responds, Announces, Makes, IsMade}
 use Rattle.demo_origin.specs.Once.{Event, heard}
 use Rattle.demo_origin.specs.Origins.{fresh}
 use Rattle.demo_origin.specs.Values.{Device, Relation}
@@ -166,9 +166,10 @@ heard-it l device proxy cs a t o i u p m n c d k legal brought f e comes reads a
 said : (R : Relation) (before : Device) (m : Content) (taken : Option Taken) (code : ℕ) (options : List Entry) (payload : List ℕ)
     → (m.code ≡ 1 → ⊥) → code / 32 ≡ 2 → (code ≡ 95 → ⊥) → Tells R before m taken code options payload → (done : Taken) × (taken ≡ Some done)
 said R before m taken code options payload changes class more (inl s) = absurd (changes s.get)
-said R before m taken code options payload changes class more (inr (inl s)) = (s.done, s.executed)
-said R before m taken code options payload changes class more (inr (inr (inl s))) = absurd (more s.continue)
-said R before m taken code options payload changes class more (inr (inr (inr s))) =
+said R before m taken code options payload changes class more (inr (inl s)) = absurd (changes s.get)
+said R before m taken code options payload changes class more (inr (inr (inl s))) = (s.done, s.executed)
+said R before m taken code options payload changes class more (inr (inr (inr (inl s)))) = absurd (more s.continue)
+said R before m taken code options payload changes class more (inr (inr (inr (inr s)))) =
     elim s.class [ inl w ↦ absurd (omega (arith, class, w)) | inr w ↦ absurd (omega (arith, class, w)) ]
 
 pub rst-code : (m : Content) (mid : ℕ) → Spells m (rst mid) → m.code ≡ 0

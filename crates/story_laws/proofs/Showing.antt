@@ -21,7 +21,7 @@ use Rattle.demo_origin.specs.Asked.{IsAskedFor}
 use Rattle.demo_origin.specs.Blocks.{IsBlockOption}
 use Rattle.demo_origin.specs.Calls.{Call, Follow, left_by}
 use Rattle.demo_origin.specs.Done.{HoldsLeft, left_with, told_in}
-use Rattle.demo_origin.specs.Made.{Says, ShowsState, ShowsReply, WantsMore, Declined, Resets, Responds, Announces, Makes, IsMade}
+use Rattle.demo_origin.specs.Made.{Says, ShowsState, ShowsValid, ShowsReply, WantsMore, Declined, Resets, Responds, Announces, Makes, IsMade}
 use Rattle.demo_origin.specs.Observing.{wish_of}
 use Rattle.demo_origin.specs.Once.{Event, heard}
 use Rattle.demo_origin.specs.Origins.{fresh}
@@ -107,9 +107,10 @@ said-held R before m taken code options payload get content whole (inl s) =
       there = s.stands;
       shown = s.shown ∙ ap (λ (b : Option Block). shown_part b s.held.state) none;
     }
-said-held R before m taken code options payload get content whole (inr (inl s)) = absurd (not-get s.method (s.method_is ∙ get))
-said-held R before m taken code options payload get content whole (inr (inr (inl s))) = let more = s.continue in absurd (omega (arith, content, more))
-said-held R before m taken code options payload get content whole (inr (inr (inr s))) =
+said-held R before m taken code options payload get content whole (inr (inl s)) = let valid = s.valid in absurd (omega (arith, content, valid))
+said-held R before m taken code options payload get content whole (inr (inr (inl s))) = absurd (not-get s.method (s.method_is ∙ get))
+said-held R before m taken code options payload get content whole (inr (inr (inr (inl s)))) = let more = s.continue in absurd (omega (arith, content, more))
+said-held R before m taken code options payload get content whole (inr (inr (inr (inr s)))) =
     elim s.class [ inl w ↦ absurd (omega (arith, content, w)) | inr w ↦ absurd (omega (arith, content, w)) ]
 
 no-wish : (vs : List (List ℕ)) → vs ≡ [] → wish_of vs ≡ W.Register → ⊥
