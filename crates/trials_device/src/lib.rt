@@ -17,3 +17,5 @@ mod pieces;
 mod refusals;
 #[cfg(test)]
 mod steps;
+#[cfg(test)]
+mod tags;
