@@ -1,6 +1,6 @@
 -- Numbers by which most keys and places are told apart at once: equal ones have equal numbers.
 -- Only the facts that values keep speak of them.
-use Rattle.std.specs.Prelude.{ℕ, List, [], Option, Some, None}
+use Rattle.std.specs.Prelude.{ℕ, ◌+◌, ◌*◌, ◌%◌, List, [], Option, Some, None}
 use Rattle.std.specs.List.{fold}
 use Rattle.std.specs.Hash as fed
 use Rattle.std.specs.Hash.FoldHasher as folding
@@ -47,3 +47,10 @@ digests_of k =
     let place = place_fed k.place.peer k.place.path in
     let key = key_fed place k.host k.query k.accept in
     record { place = folding.finish place; key = folding.finish key }
+
+-- What keys are sorted by in an index: those of one place are in one row of 65536 numbers.
+abbrev pub rank : Digests → ℕ
+rank d = d.place % 65536 * 65536 + d.key % 65536
+
+abbrev pub rank_of : CacheKey → ℕ
+rank_of k = rank (digests_of k)

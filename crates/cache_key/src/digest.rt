@@ -2,7 +2,7 @@
 
 ghost use Rattle.std.specs.Prelude.{◌≡◌};
 ghost use Rattle.std.specs.Hash.FoldHasher as folding;
-ghost use Rattle.cache_key.specs.Digests.{digests_of, fed_on, host_bytes, key_fed, place_fed};
+ghost use Rattle.cache_key.specs.Digests.{digests_of, fed_on, host_bytes, key_fed, place_fed, rank};
 ghost use Rattle.cache_key.specs.Keys.{key_of};
 
 use std::hash::{FoldHasher, Hasher};
@@ -78,5 +78,11 @@ impl Digests {
             place: place.finish(),
             key: key.finish(),
         }
+    }
+    /// What keys are sorted by in an index: those of a place stand together.
+    pub fn rank(&self) -> u32
+        ensures { result ≡ rank self.now }
+    {
+        (self.place % 65536) as u32 * 65536 + (self.key % 65536) as u32
     }
 }

@@ -1,6 +1,7 @@
 //! Keys.
 
 ghost use Rattle.std.specs.Prelude.{◌≡◌, IfOk};
+ghost use Rattle.cache_key.specs.Digests.{rank_of};
 ghost use Rattle.cache_key.specs.Keys.{key_of, same_host, same_key, same_place};
 ghost use Rattle.cache_key.specs.Order.{key_cmp};
 
@@ -138,6 +139,14 @@ impl Key {
         ensures { result ≡ same_place self.now.place lookup.now.place }
     {
         self.digests.place == lookup.digests.place && self.place().is_of(&lookup.reading)
+    }
+
+    /// A number by which it is found among others: equal keys have equal ones, and those of a place
+    /// are in one row of 65536.
+    pub fn rank(&self) -> u32
+        ensures { result ≡ rank_of self.now }
+    {
+        self.digests.rank()
     }
 
     /// Which of the two stands first in an index: by the place, and then by the host, the query and

@@ -1,6 +1,7 @@
 //! What many keys are looked through for.
 
 ghost use Rattle.std.specs.Prelude.{◌≡◌};
+ghost use Rattle.cache_key.specs.Digests.{rank_of};
 ghost use Rattle.cache_key.specs.Keys.{key_of};
 
 use crate::digest::Digests;
@@ -37,5 +38,11 @@ impl<'a> Lookup<'a> {
             reading: *reading,
             digests: Digests::of(&reading.peer, reading.target, reading.accept),
         }
+    }
+    /// The rank of the key that is looked for.
+    pub fn rank(&self) -> u32
+        ensures { result ≡ rank_of self.now }
+    {
+        self.digests.rank()
     }
 }
