@@ -1,5 +1,12 @@
+pub mod Ringing
 pub mod Room
 pub mod Lists
 pub mod Apart
 pub mod Keeping
 pub mod Lasting
+pub mod Linking
+pub mod Looking
+pub mod Naming
+pub mod Orders
+pub mod Slotted
+pub mod Tabling

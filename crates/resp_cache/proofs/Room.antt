@@ -1,44 +1,63 @@
 -- Room for one more pair.
-use Rattle.std.proofs.Common.{◌≡◌, ℕ, ◌<◌, ◌≤◌, ◌⊎◌, inl, inr, Bool, true, false, ◌||◌, nat_lt, nat_le, refl, ap, arith, rules}
+use Rattle.std.proofs.Common.{◌≡◌, ℕ, zero, suc, ◌<◌, ◌≤◌, Bool, true, false, ◌&&◌, ◌||◌, nat_lt, nat_le, refl, ap, sym, ◌∙◌, arith, rules}
 use Rattle.std.specs.Bool.{Decides}
-use Rattle.resp_cache.specs.Stores.{has_room}
+use Rattle.std.proofs.lemmas.Bool.{false≢true}
+use Rattle.resp_cache.proofs.Lists.{is_false}
 
-lt_decided : (a b : ℕ) → Decides (nat_lt a b) (a < b)
+pub lt_decided : (a b : ℕ) → Decides (nat_lt a b) (a < b)
 lt_decided a b = search rules
 
-le_decided : (a b : ℕ) → Decides (nat_le a b) (a ≤ b)
+pub le_decided : (a b : ℕ) → Decides (nat_le a b) (a ≤ b)
 le_decided a b = search rules
 
-or_second : (a b : Bool) → b ≡ true → (a || b) ≡ true
-or_second true b e = refl
-or_second false b e = e
+pub not_below : (a b : ℕ) → b ≤ a → nat_lt a b ≡ false
+not_below a b le = is_false (nat_lt a b) (λ e. let lt = (lt_decided a b).0 e in absurd (omega (arith, le, lt)))
 
-pub room_by : (len cap : ℕ) → (len < cap) ⊎ (256 ≤ len) → has_room len cap ≡ true
-room_by len cap (inl lt) = ap (λ (b : Bool). b || nat_le 256 len) ((lt_decided len cap).1 lt)
-room_by len cap (inr le) = or_second (nat_lt len cap) (nat_le 256 len) ((le_decided 256 len).1 le)
+pub not_up_to : (a b : ℕ) → b < a → nat_le a b ≡ false
+not_up_to a b lt = is_false (nat_le a b) (λ e. let le = (le_decided a b).0 e in absurd (omega (arith, le, lt)))
 
-pub has_by : (len cap : ℕ) → has_room len cap ≡ true → (len < cap) ⊎ (256 ≤ len)
-has_by len cap e = by (nat_lt len cap) refl e
-  where
-    by : (b : Bool) → nat_lt len cap ≡ b → (b || nat_le 256 len) ≡ true → (len < cap) ⊎ (256 ≤ len)
-    by true at h = inl ((lt_decided len cap).0 at)
-    by false at h = inr ((le_decided 256 len).0 h)
+-- It is full; or a place in the index is left, and a slot is empty or can be opened.
+abbrev pub RoomBy : Bool → Bool → Bool → Bool → Bool
+RoomBy full name empty slot = full || (name && (empty || slot))
 
-pub room_below : (len cap : ℕ) → has_room len cap ≡ true → len < 256 → len < cap
-room_below len cap e few = elim (has_by len cap e) [ inl lt ↦ lt | inr le ↦ absurd (omega (arith, few, le)) ]
+pub by_empty : (full name empty slot : Bool) → name ≡ true → empty ≡ true → RoomBy full name empty slot ≡ true
+by_empty true name empty slot n e = refl
+by_empty false name empty slot n e = rw (n, e) refl
 
-pub no_room : (len cap : ℕ) → len < 256 → cap ≤ len → has_room len cap ≡ false
-no_room len cap few narrow = by (has_room len cap) refl
-  where
-    by : (b : Bool) → has_room len cap ≡ b → b ≡ false
-    by true e = absurd (let lt : len < cap = room_below len cap e few in omega (arith, lt, narrow))
-    by false e = refl
+pub by_slot : (full name empty slot : Bool) → name ≡ true → slot ≡ true → RoomBy full name empty slot ≡ true
+by_slot true name empty slot n s = refl
+by_slot false name true slot n s = rw n refl
+by_slot false name false slot n s = rw (n, s) refl
 
--- Fewer pairs leave as much room.
-pub room_kept : (len cap new_len new_cap : ℕ) → new_cap ≡ cap → new_len ≤ len → len ≤ cap → has_room len cap ≡ true → has_room new_len new_cap ≡ true
-room_kept len cap new_len new_cap same fewer fits e = room_by new_len new_cap (by (has_by len cap e) (nat_lt new_len new_cap) refl)
-  where
-    by : (len < cap) ⊎ (256 ≤ len) → (b : Bool) → nat_lt new_len new_cap ≡ b → (new_len < new_cap) ⊎ (256 ≤ new_len)
-    by h true at = inl ((lt_decided new_len new_cap).0 at)
-    by (inl lt) false at = inl (omega (arith, lt, same, fewer))
-    by (inr le) false at = inr (let past : new_cap ≤ new_len = search rules in omega (arith, le, past, same, fits))
+pub no_name : (full name empty slot : Bool) → full ≡ false → name ≡ false → RoomBy full name empty slot ≡ false
+no_name full name empty slot f n = rw (f, n) refl
+
+pub no_slot : (full name empty slot : Bool) → full ≡ false → empty ≡ false → slot ≡ false → RoomBy full name empty slot ≡ false
+no_slot full true empty slot f e s = rw (f, e, s) refl
+no_slot full false empty slot f e s = rw f refl
+
+pub not_full : (full name empty slot : Bool) → RoomBy full name empty slot ≡ false → full ≡ false
+not_full true name empty slot r = absurd (false≢true (sym r))
+not_full false name empty slot r = refl
+
+slot_else : (e s : Bool) → (e || s) ≡ true → e ≡ false → s ≡ true
+slot_else true s h e = absurd (false≢true (sym e))
+slot_else false s h e = h
+
+name_left : (name rest : Bool) → (name && rest) ≡ true → (name ≡ true) × (rest ≡ true)
+name_left true rest h = (refl, h)
+name_left false rest h = absurd (false≢true h)
+
+pub room_parts : (full name empty slot : Bool) → RoomBy full name empty slot ≡ true → full ≡ false → (name ≡ true) × (empty ≡ false → slot ≡ true)
+room_parts true name empty slot r f = absurd (false≢true (sym f))
+room_parts false name empty slot r f =
+    let h = name_left name (empty || slot) r in
+    (h.0, slot_else empty slot h.1)
+
+not_less : (a b : ℕ) → (a < b → ⊥) → b ≤ a
+not_less a zero f = omega arith
+not_less zero (suc b) f = absurd (f (omega arith))
+not_less (suc a) (suc b) f = let rest = not_less a b (λ lt. f (omega (arith, lt))) in omega (arith, rest)
+
+pub up_to : (a b : ℕ) → nat_lt a b ≡ false → b ≤ a
+up_to a b e = not_less a b (λ lt. false≢true (sym e ∙ (lt_decided a b).1 lt))

@@ -1,5 +1,5 @@
 -- The pairs that are kept, the last used first, and what each call makes of them.
-use Rattle.std.specs.Prelude.{◌≡◌, ◌≤◌, ℕ, Bool, true, false, not, ◌&&◌, ◌||◌, nat_lt, nat_le, List, [], ◌∷◌, filter, find, length, Option, Some, None, option_map, if◌then◌else◌}
+use Rattle.std.specs.Prelude.{◌≡◌, ◌≤◌, ℕ, Bool, true, false, not, ◌&&◌, List, [], ◌∷◌, filter, find, length, Option, Some, None, option_map, if◌then◌else◌}
 use Rattle.std.specs.List.{list_any}
 use Rattle.limits.specs.declared.TheConstants.{MAX_STORED}
 use Rattle.cache_key.specs.Keys.{CacheKey, same_key, same_place}
@@ -31,10 +31,6 @@ pub record IsStore (ps : List Pair) : Type 0 where
 pub record StoreValue : Type 0 where
   pub pairs : List Pair
   pub room : Bool
-
--- where so many stand in a vector of this capacity; one too many takes the place of the last one
-abbrev pub has_room : ℕ → ℕ → Bool
-has_room len capacity = nat_lt len capacity || nat_le MAX_STORED len
 
 abbrev pub with_room : StoreValue → StoreValue
 with_room s = record s { room = true }

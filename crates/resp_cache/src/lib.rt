@@ -13,11 +13,14 @@
 #![tactic(auto)]
 
 mod laws;
+mod names;
 mod pair;
-mod pairs;
 mod response;
+mod ring;
+mod search;
 mod store;
 mod stored;
+mod table;
 mod values;
 
 pub use laws::the_last_used_stay;

@@ -1,40 +1,98 @@
 //! The store.
 
-ghost use Rattle.std.specs.Prelude.{◌≡◌, ◌==◌, [], drop, filter, find, length, take, IfOk, None, OnErr, OnOk, true, false};
+ghost use Rattle.std.specs.Prelude.{◌≡◌, ◌==◌, ◌&&◌, [], drop, filter, find, is_some, length, not, take, IfOk, IfSome, None, OnErr, OnOk, true, false};
 ghost use Rattle.std.specs.Option.{option_copied, option_to_list};
 ghost use Rattle.limits.specs.declared.TheConstants.{MAX_STORED};
 ghost use Rattle.cache_key.specs.Keys.{key_of, place_of};
 ghost use Rattle.resp_cache.specs.Stored.{is_never_fresh};
-ghost use Rattle.resp_cache.specs.Stores.{IsStore, is_of, is_elsewhere, others, placed, served, stale_under, with_moved, with_room};
+ghost use Rattle.resp_cache.specs.Stores.{IsStore, is_of, is_elsewhere, is_fresh_under, others, placed, served, stale_under, with_moved, with_room};
+ghost use Rattle.resp_cache.specs.Slots.{slot_at};
+ghost use Rattle.resp_cache.specs.Tables.{IsTable, has_table_room, pairs_of};
 
 use crate::pair::Pair;
-use crate::pairs::{
-    drop_key, drop_place, fresh_pair, fresh_place, make_room, move_first, put_first, share_pairs,
-    stale_pair,
-};
+use crate::ring::Ring;
+use crate::search::{pair_at, slot_of, slot_sought};
 use crate::stored::StoredResponse;
-use cache_key::{Key, Reading};
+use crate::table::{Table, copy_table, drop_key, drop_place, make_room, put_first, use_slot};
+use cache_key::{Key, Lookup, Reading};
 use std::alloc::{AllocError, Global};
 use std::marker::Model;
 
 /// At most 256 pairs, the last used first. No key stands twice.
 #[derive(Drop)]
 pub struct Store {
-    pairs: Vec<Pair>,
+    table: Table,
 }
 
 impl Model for Store {
-    ghost use Rattle.std.specs.Prelude.{vec_capacity, vec_len};
-    ghost use Rattle.resp_cache.specs.Stores.{IsStore, StoreValue, has_room};
+    ghost use Rattle.resp_cache.specs.Stores.{StoreValue};
+    ghost use Rattle.resp_cache.specs.Tables.{IsTable, has_table_room, pairs_of};
 
     ghost Value = { StoreValue };
 
-    ghost view = { λ s. record {
-      pairs = s.pairs.items;
-      room = has_room (vec_len s.pairs) (vec_capacity s.pairs);
-    } };
+    ghost view = { λ s. record { pairs = pairs_of s.table; room = has_table_room s.table } };
 
-    ghost invariant = { λ s. IsStore s.pairs.items };
+    ghost invariant = { λ s. IsTable s.table };
+}
+
+/// The pair of what is read.
+fn pair_under<'a>(table: &'a Table, reading: &Reading<'_>) -> Option<&'a Pair>
+    requires { IsTable table.now }
+    ensures { let key = key_of reading.now.peer reading.now.target.now reading.now.accept in
+        option_copied result ≡ find (is_of key) (pairs_of table.now) }
+{
+    let sought = Lookup::of(reading);
+    let slot = slot_sought(&table.slots, &table.names, &sought)?;
+    pair_at(&table.slots, slot)
+}
+
+/// The slot of the pair of what is looked for, if its response is fresh.
+fn slot_fresh(table: &Table, sought: &Lookup<'_>, moment: u64) -> Option<u16>
+    requires { IsTable table.now }
+    ensures some { IfSome result
+        (λ s. IfSome (slot_at table.now.slots.items s) (λ p. is_fresh_under sought.now moment p ≡ true)
+        × (is_some (slot_at table.now.slots.items s) ≡ true)) }
+    ensures none { result ≡ None
+        → find (is_fresh_under sought.now moment) (pairs_of table.now) ≡ None }
+{
+    let slot = slot_sought(&table.slots, &table.names, sought)?;
+    let pair = pair_at(&table.slots, slot)?;
+    if pair.stored.is_fresh(moment) {
+        Some(slot)
+    } else {
+        None
+    }
+}
+
+/// Whether the response is put where no pair stands yet.
+fn wants_room(table: &Table, key: &Key, stored: &StoredResponse) -> bool
+    requires { IsTable table.now }
+    ensures { result ≡ (not (is_some (find (is_of key.now) (pairs_of table.now)))
+        && not (is_never_fresh stored.now)) }
+{
+    if let Some(_) = slot_of(&table.slots, &table.names, key) {
+        false
+    } else {
+        !stored.is_never_fresh()
+    }
+}
+
+/// Puts a response under the key, for which there is room, unless the key has a pair or the response
+/// is never fresh.
+fn put_pair(table: &mut Table, key: Key, stored: StoredResponse) -> Option<Pair>
+    requires table { IsTable table.old }
+    requires room { find (is_of key) (pairs_of table.old) ≡ None
+        → is_never_fresh stored ≡ false → has_table_room table.old ≡ true }
+    ensures kept { pairs_of table.new ≡ take MAX_STORED (placed key stored (pairs_of table.old)) }
+    ensures gone { option_to_list result
+        ≡ drop MAX_STORED (placed key stored (pairs_of table.old)) }
+    ensures table { IsTable table.new }
+{
+    drop_key(table, &key);
+    if stored.is_never_fresh() {
+        return None;
+    }
+    put_first(table, Pair { key, stored })
 }
 
 impl Store {
@@ -43,7 +101,11 @@ impl Store {
         ensures { result.pairs ≡ [] }
     {
         Store {
-            pairs: Vec::new(alloc),
+            table: Table {
+                slots: Vec::new(alloc),
+                ring: Ring::new(alloc),
+                names: Vec::new(alloc),
+            },
         }
     }
 
@@ -52,14 +114,14 @@ impl Store {
         ensures count { result ≡ length self.now.pairs }
         ensures store { IsStore self.now.pairs }
     {
-        self.pairs.len()
+        self.table.names.len()
     }
 
     /// Whether there is none.
     pub fn is_empty(&self) -> bool
         ensures { result ≡ (length self.now.pairs == 0) }
     {
-        self.pairs.is_empty()
+        self.table.names.is_empty()
     }
 
     /// The response to what is read, if it is fresh at this moment in milliseconds.
@@ -67,8 +129,12 @@ impl Store {
         ensures { let key = key_of reading.now.peer reading.now.target.now reading.now.accept in
             option_copied result ≡ served key moment self.now.pairs }
     {
-        let pair = fresh_pair(&self.pairs, reading, moment)?;
-        Some(&pair.stored)
+        let pair = pair_under(&self.table, reading)?;
+        if pair.stored.is_fresh(moment) {
+            Some(&pair.stored)
+        } else {
+            None
+        }
     }
 
     /// The response that is fresh is used: its pair comes to the front.
@@ -76,8 +142,9 @@ impl Store {
         ensures { let key = key_of reading.now.peer reading.now.target.now reading.now.accept in
             self.new ≡ with_moved key moment self.old }
     {
-        if let Some(place) = fresh_place(&self.pairs, reading, moment) {
-            move_first(&mut self.pairs, place);
+        let sought = Lookup::of(reading);
+        if let Some(slot) = slot_fresh(&self.table, &sought, moment) {
+            use_slot(&mut self.table, slot);
         }
     }
 
@@ -86,8 +153,12 @@ impl Store {
         ensures { let key = key_of reading.now.peer reading.now.target.now reading.now.accept in
             option_copied result ≡ stale_under key moment self.now.pairs }
     {
-        let pair = stale_pair(&self.pairs, reading, moment)?;
-        Some(&pair.stored)
+        let pair = pair_under(&self.table, reading)?;
+        if pair.stored.is_fresh(moment) {
+            None
+        } else {
+            Some(&pair.stored)
+        }
     }
 
     /// Makes room for one more response, so that putting it takes no memory.
@@ -96,7 +167,7 @@ impl Store {
         ensures unchanged { OnErr result (self.new ≡ self.old) }
         ensures wanted { OnErr result (self.old.room ≡ false) }
     {
-        make_room(&mut self.pairs)
+        make_room(&mut self.table)
     }
 
     /// Puts a response in front, in place of the key's own, and answers the pair that goes where
@@ -108,11 +179,7 @@ impl Store {
         ensures evicted { option_to_list result
             ≡ drop MAX_STORED (placed key stored self.old.pairs) }
     {
-        drop_key(&mut self.pairs, &key);
-        if stored.is_never_fresh() {
-            return None;
-        }
-        put_first(&mut self.pairs, Pair { key, stored })
+        put_pair(&mut self.table, key, stored)
     }
 
     /// Puts a response as `put_in_room` does, where room may still have to be made. Memory may be
@@ -126,13 +193,10 @@ impl Store {
         ensures new_key { OnErr result (find (is_of key) self.old.pairs ≡ None) }
         ensures storable { OnErr result (is_never_fresh stored ≡ false) }
     {
-        // Where the key has a pair, this leaves room for the new one.
-        drop_key(&mut self.pairs, &key);
-        if stored.is_never_fresh() {
-            return Ok(None);
+        if wants_room(&self.table, &key, &stored) {
+            make_room(&mut self.table)?;
         }
-        make_room(&mut self.pairs)?;
-        Ok(put_first(&mut self.pairs, Pair { key, stored }))
+        Ok(put_pair(&mut self.table, key, stored))
     }
 
     /// Takes out the key's response, fresh or not.
@@ -140,7 +204,7 @@ impl Store {
         ensures pairs { self.new.pairs ≡ others key.now self.old.pairs }
         ensures room { self.old.room ≡ true → self.new.room ≡ true }
     {
-        drop_key(&mut self.pairs, key);
+        drop_key(&mut self.table, key);
     }
 
     /// Takes out the responses of the place that a write changed, which ended.
@@ -149,16 +213,16 @@ impl Store {
             self.new.pairs ≡ filter (is_elsewhere place) self.old.pairs }
         ensures room { self.old.room ≡ true → self.new.room ≡ true }
     {
-        drop_place(&mut self.pairs, writing);
+        drop_place(&mut self.table, writing);
     }
 
     /// The same pairs, which share their keys and responses.
     pub fn copy(&self) -> Result<Store, AllocError>
         ensures { IfOk result (λ s. s.pairs ≡ self.now.pairs) }
     {
-        let alloc = *self.pairs.allocator();
+        let alloc = *self.table.slots.allocator();
         Ok(Store {
-            pairs: share_pairs(alloc, &self.pairs)?,
+            table: copy_table(alloc, &self.table)?,
         })
     }
 }

@@ -1,21 +1,19 @@
-use Rattle.std.proofs.Common.{◌≡◌, ◌∙◌, ℕ, ap, refl, sym, vec_capacity, vec_len}
+use Rattle.std.proofs.Common.{◌≡◌, ◌∙◌, ap, None, Some, Option, List, find, sym}
 use Rattle.cache_key.specs.Keys.{CacheKey, key_of}
-use Rattle.resp_cache.specs.Stores.{has_room, is_fresh_under}
-use Rattle.resp_cache.proofs.Lists.{find-none}
-use Rattle.resp_cache.proofs.Keeping.{used-first}
+use Rattle.resp_cache.specs.Stores.{is_fresh_under, moved, with_first}
+use Rattle.resp_cache.specs.Tables.{pairs_of}
+use Rattle.resp_cache.specs.declared.pair.Pair.{Pair}
+use Rattle.resp_cache.proofs.Looking.{fresh_found, some_of}
 use Rattle.resp_cache.proofs.store.Store.touch.Goals as goal
 
 pub returns-in-Some : goal.returns-in-Some
 returns-in-Some c =
-    let key : CacheKey = key_of c.args.reading.now.peer c.args.reading.now.target.now c.args.reading.now.accept in
-    let place = rw c.deref.ensures.value at (sym c.fresh_place.ensures ∙ c.in-Some.is) in
-    let h = used-first key c.args.moment c.self.inside.pairs.items c.move_first.new.pairs.items c.in-Some.place place c.move_first.ensures.first in
-    let room : has_room (vec_len c.move_first.new.pairs) (vec_capacity c.move_first.new.pairs) ≡ has_room (vec_len c.self.inside.pairs) (vec_capacity c.self.inside.pairs) =
-    ap (λ (n : ℕ). has_room n c.move_first.new.pairs.cap) c.move_first.ensures.len ∙ ap (λ (n : ℕ). has_room c.self.inside.pairs.len n) c.move_first.ensures.capacity in
-    rw (← c.self.view_is) (λ i. record { pairs = h i; room = room i })
-
-pub returns-in_default : goal.returns-in_default
-returns-in_default c =
-    let key : CacheKey = key_of c.args.reading.now.peer c.args.reading.now.target.now c.args.reading.now.accept in
-    let none = find-none (is_fresh_under key c.args.moment) c.self.inside.pairs.items (rw c.deref.ensures.value at (sym c.fresh_place.ensures ∙ c.in_default.is)) in
-    rw (← c.self.view_is) (rw none refl)
+    let t = c.self.inside.table in
+    let ps = pairs_of t in
+    let h = some_of _ c.in-Some.ensures.some.1 in
+    let passes = rw h.1 at c.in-Some.ensures.some.0 in
+    let found = fresh_found c.of-sought.result c.args.moment t.slots.items t.ring.items t.names.items c.in-Some.slot h.0 c.self.invariant h.1 passes in
+    let made = c.use_slot.ensures.pairs h.0 h.1
+    ∙ (sym (ap (λ (o : Option Pair). with_first o ps) found) ∙ ap (λ (key : CacheKey). moved key c.args.moment ps) c.of-sought.ensures) in
+    let room = c.use_slot.ensures.room in
+    rw (← c.self.view_is) (λ i. record { pairs = made i; room = room i })
