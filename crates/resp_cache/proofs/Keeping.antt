@@ -1,5 +1,5 @@
 -- What calls leave is a store.
-use Rattle.std.proofs.Common.{◌≡◌, ℕ, ◌≤◌, List, [], ◌∷◌, length, filter, Bool, true, false, Option, Result, Ok, Err, OnErr, refl, ap, sym, ◌∙◌, take, drop, arith}
+use Rattle.std.proofs.Common.{◌≡◌, ℕ, List, [], filter, Bool, true, Option, refl, ap, sym, ◌∙◌, take, drop, arith}
 use Rattle.limits.specs.declared.TheConstants.{MAX_STORED}
 use Rattle.cache_key.specs.Keys.{CacheKey}
 use Rattle.resp_cache.specs.Slots.{pairs_in}
@@ -32,13 +32,3 @@ store_is slots os ns t =
     let few = t.few in
     let sized = t.sized in
     record { few = omega (arith, few, sized, pairs_few slots os); apart = t.apart }
-
--- a response that may be fresh
-pub put_some : (key : CacheKey) (stored : Stored) (ps left : List Pair) → is_never_fresh stored ≡ false → left ≡ others key ps → record { key = key; stored = stored } ∷ left ≡ placed key stored ps
-put_some key stored ps left may is =
-    let same : placed key stored ps ≡ record { key = key; stored = stored } ∷ others key ps = rw may refl in
-    ap (λ (qs : List Pair). record { key = key; stored = stored } ∷ qs) is ∙ sym same
-
-pub on_err : {A E : Type 0} {X : Type 0} (r : Result A E) → X → OnErr r X
-on_err (Ok a) x = tt
-on_err (Err e) x = x

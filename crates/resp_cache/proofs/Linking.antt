@@ -1,12 +1,11 @@
 -- Rings: what taking a number out and putting it at an end make of them.
-use Rattle.std.proofs.Common.{◌≡◌, ◌≢◌, ℕ, zero, suc, ◌+◌, ◌-◌, ◌<◌, ◌≤◌, Bool, true, false, not, cond, eqb, List, [], ◌∷◌, ◌++◌, length, get_or, Option, Some, None, inl, inr, refl, sym, ap, subst, ◌∙◌, ◌||◌, arith}
-use Rattle.std.specs.Prelude.{filter}
-use Rattle.std.specs.List.{AllByRecursion, list_any, slice_get}
+use Rattle.std.proofs.Common.{◌≡◌, ◌≢◌, ℕ, zero, suc, ◌-◌, ◌<◌, Bool, true, false, not, cond, eqb, List, [], ◌∷◌, ◌++◌, length, get_or, Some, inl, inr, refl, sym, ap, subst, ◌∙◌, ◌||◌, arith}
+use Rattle.std.specs.List.{AllByRecursion, slice_get}
 use Rattle.std.proofs.Math.ListN.{set}
 use Rattle.std.proofs.lemmas.List.{length-set, get_or-set_same, get_or-set_other}
 use Rattle.std.proofs.lemmas.Bool.{eq-eqb, false≢true}
 use Rattle.std.proofs.lemmas.Bool.Decides.{eqb_tells}
-use Rattle.resp_cache.specs.Rings.{Apart, Follow, IsLinked, IsOrder, IsRing, Lacks, is_in, last_of, numbers_in, walk, without}
+use Rattle.resp_cache.specs.Rings.{Apart, Follow, IsLinked, Lacks, is_in, last_of, numbers_in, walk, without}
 use Rattle.resp_cache.proofs.Lists.{or_false}
 
 pub is_same : (a b : ℕ) → a ≡ b → eqb a b ≡ true

@@ -1,9 +1,7 @@
 -- Lists that are searched, filtered and cut.
-use Rattle.std.proofs.Common.{◌≡◌, ℕ, suc, zero, ◌<◌, ◌≤◌, List, [], ◌∷◌, ◌++◌, length, filter, Bool, true, false, not, ◌&&◌, ◌||◌, cond, Some, None, refl, ap, sym, ◌∙◌, take, drop, nat_lt, arith}
-use Rattle.std.specs.List.{position, position_or_len, find, list_any, list_all, slice_get}
-use Rattle.std.proofs.lemmas.Bool.{ltb-true, ltb-false, and_parts, and_from}
-use Rattle.std.proofs.lemmas.List.Folds.{find_at}
-use Rattle.std.proofs.lemmas.Option.{slice_get_past}
+use Rattle.std.proofs.Common.{◌≡◌, ℕ, suc, zero, ◌<◌, ◌≤◌, List, [], ◌∷◌, ◌++◌, length, filter, Bool, true, false, not, ◌&&◌, ◌||◌, cond, Some, None, refl, ap, sym, ◌∙◌, take, drop, arith}
+use Rattle.std.specs.List.{find, list_any, list_all}
+use Rattle.std.proofs.lemmas.Bool.{and_parts, and_from}
 
 pub is_false : (b : Bool) → (b ≡ true → ⊥) → b ≡ false
 is_false true h = absurd (h refl)
@@ -12,24 +10,6 @@ is_false false h = refl
 pub or_false : (a b : Bool) → (a || b) ≡ false → (a ≡ false) × (b ≡ false)
 or_false true b e = cc
 or_false false b e = (refl, e)
-
-chosen_none : (b : Bool) (n : ℕ) → cond b (Some n) None ≡ None → b ≡ false
-chosen_none true n e = cc
-chosen_none false n e = refl
-
-chosen_some : (b : Bool) (n i : ℕ) → cond b (Some n) None ≡ Some i → (b ≡ true) × (n ≡ i)
-chosen_some true n i e = (refl, cc)
-chosen_some false n i e = absurd cc
-
-pub find-none : {X : Type 0} (p : X → Bool) (xs : List X) → position p xs ≡ None → find p xs ≡ None
-find-none p xs at =
-    find_at p xs ∙ slice_get_past xs (position_or_len p xs) (ltb-false (position_or_len p xs) (length xs) (chosen_none (nat_lt (position_or_len p xs) (length xs)) (position_or_len p xs) at))
-
-pub find-at : {X : Type 0} (p : X → Bool) (xs : List X) (i : ℕ) → position p xs ≡ Some i → (find p xs ≡ slice_get xs i) × (i < length xs)
-find-at p xs i at =
-    let c = chosen_some (nat_lt (position_or_len p xs) (length xs)) (position_or_len p xs) i at in
-    let inside : position_or_len p xs < length xs = ltb-true (position_or_len p xs) (length xs) c.0 in
-    (find_at p xs ∙ ap (slice_get xs) c.1, omega (arith, inside, c.1))
 
 -- what is found passes
 found_by : {X : Type 0} (p : X → Bool) (x : X) (xs : List X) (r : X) (b : Bool) → p x ≡ b → (find p xs ≡ Some r → p r ≡ true) → cond b (Some x) (find p xs) ≡ Some r → p r ≡ true
@@ -64,15 +44,6 @@ none_dropped p [] e = refl
 none_dropped p (x ∷ xs) e =
     let c = or_false (p x) (list_any p xs) e in
     rw (c.0, none_dropped p xs c.1) refl
-
--- Where as many are left, none was dropped.
-none_by : {X : Type 0} (p : X → Bool) (x : X) (xs : List X) (b : Bool) → p x ≡ b → (length xs ≤ length (filter (λ y. not (p y)) xs) → list_any p xs ≡ false) → length (x ∷ xs) ≤ length (cond (not b) (x ∷ filter (λ y. not (p y)) xs) (filter (λ y. not (p y)) xs)) → (b || list_any p xs) ≡ false
-none_by p x xs true e later all = absurd (omega (arith, length-filtered (λ y. not (p y)) xs))
-none_by p x xs false e later all = later (omega arith)
-
-pub none_passed : {X : Type 0} (p : X → Bool) (xs : List X) → length xs ≤ length (filter (λ x. not (p x)) xs) → list_any p xs ≡ false
-none_passed p [] all = refl
-none_passed p (x ∷ xs) all = none_by p x xs (p x) refl (none_passed p xs) all
 
 -- Where one passes, fewer are left.
 fewer_by : {X : Type 0} (p : X → Bool) (x : X) (xs : List X) (b : Bool) → (list_any p xs ≡ true → length (filter (λ y. not (p y)) xs) < length xs) → (b || list_any p xs) ≡ true → length (cond (not b) (x ∷ filter (λ y. not (p y)) xs) (filter (λ y. not (p y)) xs)) < length (x ∷ xs)

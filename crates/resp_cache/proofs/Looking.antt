@@ -1,19 +1,18 @@
 -- What looking for a pair finds, by the slot that it stands in.
-use Rattle.std.proofs.Common.{◌≡◌, ℕ, Bool, true, false, not, cond, List, [], ◌∷◌, filter, Option, Some, None, refl, ap, sym, subst, ◌∙◌, ◌&&◌, ◌||◌}
+use Rattle.std.proofs.Common.{◌≡◌, ℕ, Bool, true, false, not, cond, List, [], ◌∷◌, filter, Option, Some, None, refl, ap, sym, subst, ◌∙◌, ◌&&◌}
 use Rattle.std.specs.Prelude.{is_some}
 use Rattle.std.specs.List.{find, list_any}
 use Rattle.std.proofs.lemmas.Bool.{and_parts, false≢true}
 use Rattle.cache_key.specs.Keys.{CacheKey, same_key, same_place}
 use Rattle.cache_key.specs.declared.place.Place.{Place}
 use Rattle.cache_key.proofs.CallerLemmas.{keys_decided, places_decided}
-use Rattle.resp_cache.specs.Rings.{is_in}
 use Rattle.resp_cache.specs.Slots.{holds, holds_near, pairs_in, slot_at, with_pair}
 use Rattle.resp_cache.specs.Stored.{is_fresh}
 use Rattle.resp_cache.specs.Stores.{KeysApart, is_elsewhere, is_fresh_under, is_of, is_stale_under, others}
 use Rattle.resp_cache.specs.Tables.{AreStored}
 use Rattle.resp_cache.specs.declared.names.Named.{Named}
 use Rattle.resp_cache.specs.declared.pair.Pair.{Pair}
-use Rattle.resp_cache.proofs.Lists.{find-nothing, is_false, none_dropped, none_narrower, or_false}
+use Rattle.resp_cache.proofs.Lists.{find-nothing, none_dropped, none_narrower}
 use Rattle.resp_cache.proofs.Slotted.{found_at, none_held}
 use Rattle.resp_cache.proofs.Tabling.{is_there}
 
@@ -47,14 +46,6 @@ held key (Some p) e = (p, refl, (keys_decided p.key key).0 e)
 pub held_near : (key : CacheKey) (o : Option Pair) → holds_near key o ≡ true → (p : Pair) × (o ≡ Some p) × (p.key.place ≡ key.place)
 held_near key None e = absurd (false≢true e)
 held_near key (Some p) e = (p, refl, (places_decided p.key.place key.place).0 e)
-
-pub held_some : (key : CacheKey) (o : Option Pair) → holds key o ≡ true → is_some o ≡ true
-held_some key None e = absurd (false≢true e)
-held_some key (Some p) e = refl
-
-pub near_some : (key : CacheKey) (o : Option Pair) → holds_near key o ≡ true → is_some o ≡ true
-near_some key None e = absurd (false≢true e)
-near_some key (Some p) e = refl
 
 pub found_in : (key : CacheKey) (slots : List (Option Pair)) (os : List ℕ) (ns : List Named) (s : ℕ) → AreStored slots os ns → holds key (slot_at slots s) ≡ true → find (is_of key) (pairs_in slots os) ≡ slot_at slots s
 found_in key slots os ns s t e =

@@ -1,10 +1,10 @@
 -- Numbers in the order of their use: each stands there once, wherever one is moved to.
-use Rattle.std.proofs.Common.{◌≡◌, ◌≢◌, ℕ, zero, suc, ◌+◌, ◌<◌, ◌≤◌, Bool, true, false, not, cond, eqb, List, [], ◌∷◌, ◌++◌, length, length-append, inl, inr, refl, sym, ap, subst, ◌∙◌, ◌||◌, arith}
-use Rattle.std.specs.List.{AllByRecursion, list_any}
+use Rattle.std.proofs.Common.{◌≡◌, ◌≢◌, ℕ, zero, suc, ◌<◌, ◌≤◌, Bool, true, false, not, cond, eqb, List, [], ◌∷◌, ◌++◌, length, length-append, inl, inr, refl, sym, ap, subst, ◌∙◌, ◌||◌, arith}
+use Rattle.std.specs.List.{AllByRecursion}
 use Rattle.std.proofs.lemmas.Bool.{false≢true}
 use Rattle.std.proofs.lemmas.Bool.Decides.{eqb_tells}
-use Rattle.resp_cache.specs.Rings.{Apart, IsOrder, Lacks, is_in, without}
-use Rattle.resp_cache.proofs.Linking.{all_without, apart_push, apart_without, differ, in_rest, is_same, lacks_without, length_without, not_same}
+use Rattle.resp_cache.specs.Rings.{IsOrder, Lacks, is_in, without}
+use Rattle.resp_cache.proofs.Linking.{all_without, apart_push, apart_without, differ, in_rest, is_same, lacks_without, length_without}
 
 or_right : (b c : Bool) → c ≡ true → (b || c) ≡ true
 or_right true c e = refl

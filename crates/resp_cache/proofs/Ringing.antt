@@ -1,15 +1,12 @@
 -- Rings as lists of numbers, after a number was moved or put.
-use Rattle.std.proofs.Common.{◌≡◌, ◌≢◌, ℕ, zero, suc, ◌+◌, ◌-◌, ◌<◌, ◌≤◌, true, false, List, [], ◌∷◌, ◌++◌, length, length-append, get_or, refl, sym, ap, subst, ◌∙◌, arith}
+use Rattle.std.proofs.Common.{◌≡◌, ℕ, zero, suc, ◌+◌, ◌-◌, ◌<◌, true, false, List, [], ◌∷◌, ◌++◌, length, length-append, get_or, refl, sym, ap, subst, ◌∙◌, arith}
 use Rattle.std.specs.List.{AllByRecursion}
-use Rattle.resp_cache.specs.Rings.{Apart, Follow, IsLinked, IsOrder, IsRing, is_in, numbers_in, walk, without}
+use Rattle.resp_cache.specs.Rings.{Follow, IsLinked, IsOrder, IsRing, is_in, numbers_in, without}
 use Rattle.resp_cache.proofs.Linking.{IsInside, inside, lacks_without, length_walk, length_without, not_in, numbers_are}
-use Rattle.resp_cache.proofs.Orders.{next_lacked, order_first, order_last, order_next, order_none}
+use Rattle.resp_cache.proofs.Orders.{next_lacked, order_first, order_last, order_next}
 
 pub length_numbers : (ls : List ℕ) → length (numbers_in ls) ≡ length ls - 1
 length_numbers ls = length_walk (length ls - 1) ls 0
-
-pub ring_none : IsRing [] []
-ring_none = record { linked = record { follow = (refl, refl); apart = tt; within = tt; same = refl }; order = order_none }
 
 pub ring_inside : (ls ns : List ℕ) (s : ℕ) → IsRing ls ns → is_in s (numbers_in ls) ≡ true → IsInside ls ns s
 ring_inside ls ns s r there = inside ls ns (numbers_in ls) s r.linked there

@@ -1,5 +1,5 @@
 -- Room for one more pair.
-use Rattle.std.proofs.Common.{◌≡◌, ℕ, zero, suc, ◌<◌, ◌≤◌, Bool, true, false, ◌&&◌, ◌||◌, nat_lt, nat_le, refl, ap, sym, ◌∙◌, arith, rules}
+use Rattle.std.proofs.Common.{◌≡◌, ℕ, zero, suc, ◌<◌, ◌≤◌, Bool, true, false, ◌&&◌, ◌||◌, nat_lt, nat_le, refl, sym, ◌∙◌, arith, rules}
 use Rattle.std.specs.Bool.{Decides}
 use Rattle.std.proofs.lemmas.Bool.{false≢true}
 use Rattle.resp_cache.proofs.Lists.{is_false}
@@ -9,9 +9,6 @@ lt_decided a b = search rules
 
 pub le_decided : (a b : ℕ) → Decides (nat_le a b) (a ≤ b)
 le_decided a b = search rules
-
-pub not_below : (a b : ℕ) → b ≤ a → nat_lt a b ≡ false
-not_below a b le = is_false (nat_lt a b) (λ e. let lt = (lt_decided a b).0 e in absurd (omega (arith, le, lt)))
 
 pub not_up_to : (a b : ℕ) → b < a → nat_le a b ≡ false
 not_up_to a b lt = is_false (nat_le a b) (λ e. let le = (le_decided a b).0 e in absurd (omega (arith, le, lt)))
@@ -23,22 +20,6 @@ RoomBy full name empty slot = full || (name && (empty || slot))
 pub by_empty : (full name empty slot : Bool) → name ≡ true → empty ≡ true → RoomBy full name empty slot ≡ true
 by_empty true name empty slot n e = refl
 by_empty false name empty slot n e = rw (n, e) refl
-
-pub by_slot : (full name empty slot : Bool) → name ≡ true → slot ≡ true → RoomBy full name empty slot ≡ true
-by_slot true name empty slot n s = refl
-by_slot false name true slot n s = rw n refl
-by_slot false name false slot n s = rw (n, s) refl
-
-pub no_name : (full name empty slot : Bool) → full ≡ false → name ≡ false → RoomBy full name empty slot ≡ false
-no_name full name empty slot f n = rw (f, n) refl
-
-pub no_slot : (full name empty slot : Bool) → full ≡ false → empty ≡ false → slot ≡ false → RoomBy full name empty slot ≡ false
-no_slot full true empty slot f e s = rw (f, e, s) refl
-no_slot full false empty slot f e s = rw f refl
-
-pub not_full : (full name empty slot : Bool) → RoomBy full name empty slot ≡ false → full ≡ false
-not_full true name empty slot r = absurd (false≢true (sym r))
-not_full false name empty slot r = refl
 
 slot_else : (e s : Bool) → (e || s) ≡ true → e ≡ false → s ≡ true
 slot_else true s h e = absurd (false≢true (sym e))

@@ -1,15 +1,14 @@
 -- Pairs in slots: which pairs there are, and what using, emptying and filling a slot make of them.
-use Rattle.std.proofs.Common.{◌≡◌, ◌≢◌, ℕ, zero, suc, ◌+◌, ◌-◌, ◌<◌, ◌≤◌, Bool, true, false, not, cond, eqb, List, [], ◌∷◌, ◌++◌, length, filter, take, drop, get_or, Option, Some, None, inl, inr, refl, sym, ap, subst, ◌∙◌, ◌&&◌, ◌||◌, arith}
+use Rattle.std.proofs.Common.{◌≡◌, ◌≢◌, ℕ, zero, suc, ◌-◌, ◌<◌, ◌≤◌, Bool, true, false, not, cond, eqb, List, [], ◌∷◌, ◌++◌, length, get_or, Option, Some, None, inl, inr, refl, sym, ap, subst, ◌∙◌, arith}
 use Rattle.std.specs.List.{AllByRecursion, find, list_any}
 use Rattle.std.proofs.Math.ListN.{set}
 use Rattle.std.proofs.lemmas.List.{get_or-set_same, get_or-set_other}
 use Rattle.std.proofs.lemmas.Bool.{false≢true}
 use Rattle.std.proofs.lemmas.Bool.Decides.{eqb_tells}
 use Rattle.cache_key.specs.Keys.{CacheKey, same_key}
-use Rattle.cache_key.proofs.CallerLemmas.{keys_decided}
 use Rattle.resp_cache.specs.Rings.{Apart, Lacks, is_in, last_of, without}
 use Rattle.resp_cache.specs.Slots.{AreEmpty, ArePacked, Puts, holds, pairs_in, slot_at, with_pair}
-use Rattle.resp_cache.specs.Stores.{KeysApart, is_of, is_of_another, others}
+use Rattle.resp_cache.specs.Stores.{KeysApart, is_of, others}
 use Rattle.resp_cache.specs.declared.pair.Pair.{Pair}
 use Rattle.resp_cache.proofs.Apart.{other_way, same_itself}
 use Rattle.resp_cache.proofs.Lists.{is_false, none_dropped, or_false}

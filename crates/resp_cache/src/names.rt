@@ -38,7 +38,7 @@ fn is_below(names: &[Named], place: usize, rank: u64) -> bool
     }
 }
 
-/// The first place of those of this rank or a higher one, where those before the first one are lower.
+/// The first place of those of this rank or a higher one, where those before `first` are lower.
 fn end_before(names: &[Named], first: usize, rank: u64) -> usize
     requires order { Ascend rank_in names.now }
     requires within { first ≤ length names.now }

@@ -34,7 +34,8 @@ fn unlink(older: &mut Vec<u16>, newer: &mut Vec<u16>, number: u16)
     requires before { get_or newer.old.items number 0 < vec_len older.old }
     requires behind { get_or older.old.items number 0 < vec_len newer.old }
     requires within { (number < vec_len older.old) × (number < vec_len newer.old) }
-    ensures linked { (os : _) → is_in number os ≡ true → IsLinked older.old.items newer.old.items os
+    ensures linked { (os : _) → is_in number os ≡ true
+        → IsLinked older.old.items newer.old.items os
         → IsLinked older.new.items newer.new.items (without number os) }
     ensures len { (vec_len older.new ≡ vec_len older.old)
         × (vec_len newer.new ≡ vec_len newer.old) }
@@ -52,7 +53,8 @@ fn link_first(older: &mut Vec<u16>, newer: &mut Vec<u16>, number: u16)
     requires first { get_or older.old.items 0 0 < vec_len newer.old }
     requires within { (number < vec_len older.old) × (number < vec_len newer.old) }
     requires some { 0 < number }
-    ensures linked { (os : _) → is_in number os ≡ false → IsLinked older.old.items newer.old.items os
+    ensures linked { (os : _) → is_in number os ≡ false
+        → IsLinked older.old.items newer.old.items os
         → IsLinked older.new.items newer.new.items (number ∷ os) }
     ensures len { (vec_len older.new ≡ vec_len older.old)
         × (vec_len newer.new ≡ vec_len newer.old) }
@@ -71,7 +73,8 @@ fn link_last(older: &mut Vec<u16>, newer: &mut Vec<u16>, number: u16)
     requires last { get_or newer.old.items 0 0 < vec_len older.old }
     requires within { (number < vec_len older.old) × (number < vec_len newer.old) }
     requires some { 0 < number }
-    ensures linked { (os : _) → is_in number os ≡ false → IsLinked older.old.items newer.old.items os
+    ensures linked { (os : _) → is_in number os ≡ false
+        → IsLinked older.old.items newer.old.items os
         → IsLinked older.new.items newer.new.items (os ++ number ∷ []) }
     ensures len { (vec_len older.new ≡ vec_len older.old)
         × (vec_len newer.new ≡ vec_len newer.old) }

@@ -49,15 +49,15 @@ fn pair_under<'a>(table: &'a Table, reading: &Reading<'_>) -> Option<&'a Pair>
 /// The slot of the pair of what is looked for, if its response is fresh.
 fn slot_fresh(table: &Table, sought: &Lookup<'_>, moment: u64) -> Option<u16>
     requires { IsTable table.now }
-    ensures some { IfSome result
-        (λ s. IfSome (slot_at table.now.slots.items s) (λ p. is_fresh_under sought.now moment p ≡ true)
+    ensures some { IfSome result (λ s.
+        IfSome (slot_at table.now.slots.items s) (λ p. is_fresh_under sought.now moment p ≡ true)
         × (is_some (slot_at table.now.slots.items s) ≡ true)) }
     ensures none { result ≡ None
         → find (is_fresh_under sought.now moment) (pairs_of table.now) ≡ None }
 {
     let slot = slot_sought(&table.slots, &table.names, sought)?;
-    let pair = pair_at(&table.slots, slot)?;
-    if pair.stored.is_fresh(moment) {
+    let found = pair_at(&table.slots, slot)?;
+    if found.stored.is_fresh(moment) {
         Some(slot)
     } else {
         None
@@ -77,8 +77,8 @@ fn wants_room(table: &Table, key: &Key, stored: &StoredResponse) -> bool
     }
 }
 
-/// Puts a response under the key, for which there is room, unless the key has a pair or the response
-/// is never fresh.
+/// Puts a response in front, in place of the key's own, unless it is never fresh. Room is needed
+/// only where the key has no pair.
 fn put_pair(table: &mut Table, key: Key, stored: StoredResponse) -> Option<Pair>
     requires table { IsTable table.old }
     requires room { find (is_of key) (pairs_of table.old) ≡ None
@@ -153,11 +153,11 @@ impl Store {
         ensures { let key = key_of reading.now.peer reading.now.target.now reading.now.accept in
             option_copied result ≡ stale_under key moment self.now.pairs }
     {
-        let pair = pair_under(&self.table, reading)?;
-        if pair.stored.is_fresh(moment) {
+        let old = pair_under(&self.table, reading)?;
+        if old.stored.is_fresh(moment) {
             None
         } else {
-            Some(&pair.stored)
+            Some(&old.stored)
         }
     }
 

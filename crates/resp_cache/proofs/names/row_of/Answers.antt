@@ -1,4 +1,3 @@
-use Rattle.std.proofs.Common.{arith}
 use Rattle.resp_cache.proofs.Naming.{lower-before, row-is}
 use Rattle.resp_cache.proofs.names.row_of.Goals as goal
 

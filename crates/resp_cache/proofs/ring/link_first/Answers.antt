@@ -1,4 +1,4 @@
-use Rattle.std.proofs.Common.{◌≡◌, ◌<◌, ◌∙◌, ap, get_or, length, refl, sym, arith}
+use Rattle.std.proofs.Common.{◌≡◌, ◌<◌, get_or, length, refl, arith}
 use Rattle.std.proofs.Math.ListN.{set}
 use Rattle.resp_cache.proofs.Linking.{linked_first, read_at}
 use Rattle.resp_cache.proofs.ring.link_first.Goals as goal

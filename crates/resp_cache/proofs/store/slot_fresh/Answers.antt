@@ -1,4 +1,4 @@
-use Rattle.std.proofs.Common.{◌≡◌, ◌∙◌, ap, Some, find, refl, sym}
+use Rattle.std.proofs.Common.{◌≡◌, ◌∙◌, Some, find, refl, sym}
 use Rattle.resp_cache.specs.Stores.{is_of}
 use Rattle.resp_cache.specs.Tables.{pairs_of}
 use Rattle.resp_cache.proofs.Looking.{found_in, none_in, served_none, served_not}
@@ -14,6 +14,6 @@ pub returns-else-is_fresh-clause-none : goal.returns-else-is_fresh-clause-none
 returns-else-is_fresh-clause-none c = λ nothing.
     let t = c.args.table.now in
     let some = rw c.deref.ensures.value at c.in_ok-slot.ensures.some in
-    let here = rw c.deref-3.ensures.value at c.in_ok-pair.ensures in
-    let found : find (is_of c.args.sought.now) (pairs_of t) ≡ Some c.in_ok-pair.pair.now = found_in c.args.sought.now t.slots.items t.ring.items t.names.items c.in_ok-slot.slot c.requires some ∙ sym here in
-    served_not c.args.sought.now c.args.moment (pairs_of t) c.in_ok-pair.pair.now c.requires.apart found (sym c.if-is_fresh.ensures)
+    let here = rw c.deref-3.ensures.value at c.in_ok-found.ensures in
+    let found : find (is_of c.args.sought.now) (pairs_of t) ≡ Some c.in_ok-found.found.now = found_in c.args.sought.now t.slots.items t.ring.items t.names.items c.in_ok-slot.slot c.requires some ∙ sym here in
+    served_not c.args.sought.now c.args.moment (pairs_of t) c.in_ok-found.found.now c.requires.apart found (sym c.if-is_fresh.ensures)

@@ -1,4 +1,4 @@
-use Rattle.std.proofs.Common.{◌≡◌, ◌∙◌, ◌&&◌, Option, ap, not, refl, sym}
+use Rattle.std.proofs.Common.{◌∙◌, ◌&&◌, Option, ap, not, refl, sym}
 use Rattle.std.specs.Prelude.{is_some}
 use Rattle.resp_cache.specs.Stored.{is_never_fresh}
 use Rattle.resp_cache.specs.declared.pair.Pair.{Pair}

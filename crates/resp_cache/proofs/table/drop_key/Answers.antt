@@ -1,4 +1,4 @@
-use Rattle.std.proofs.Common.{◌≡◌, ◌∙◌, ap, refl, sym}
+use Rattle.std.proofs.Common.{◌∙◌, ap, refl, sym}
 use Rattle.cache_key.specs.Keys.{CacheKey}
 use Rattle.resp_cache.specs.Stores.{others}
 use Rattle.resp_cache.specs.Tables.{pairs_of}

@@ -1,4 +1,4 @@
-use Rattle.std.proofs.Common.{◌≡◌, ◌∙◌, ap, length, filter, refl, sym, arith}
+use Rattle.std.proofs.Common.{◌∙◌, ap, length, filter, refl, sym, arith}
 use Rattle.cache_key.specs.Keys.{CacheKey}
 use Rattle.resp_cache.specs.Stores.{is_elsewhere}
 use Rattle.resp_cache.specs.Tables.{has_free, has_name_room, has_slot_room, is_full, pairs_of}

@@ -1,4 +1,4 @@
-use Rattle.std.proofs.Common.{◌≡◌, ◌-◌, ◌≤◌, ◌∙◌, None, length, refl, arith}
+use Rattle.std.proofs.Common.{◌-◌, ◌≤◌, ◌∙◌, None, length, refl, arith}
 use Rattle.std.proofs.Math.ListN.{set}
 use Rattle.resp_cache.proofs.Slotted.{puts_set, slot_read}
 use Rattle.resp_cache.proofs.table.empty_slot.Goals as goal

@@ -1,7 +1,7 @@
-use Rattle.std.proofs.Common.{◌≡◌, ◌+◌, ◌<◌, ◌≤◌, ◌∙◌, length, vec_capacity, vec_len, arith, sym}
+use Rattle.std.proofs.Common.{◌≡◌, ◌+◌, length, vec_capacity, vec_len, arith, sym}
 use Rattle.resp_cache.specs.Names.{IsNamed}
 use Rattle.resp_cache.proofs.Room.{lt_decided}
-use Rattle.resp_cache.proofs.Tabling.{filled, free_is, IsFree}
+use Rattle.resp_cache.proofs.Tabling.{filled, free_is}
 use Rattle.resp_cache.proofs.table.fill.Goals as goal
 
 pub put_name-requires-clause-order : goal.put_name-requires-clause-order

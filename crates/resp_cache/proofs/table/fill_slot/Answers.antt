@@ -1,4 +1,4 @@
-use Rattle.std.proofs.Common.{◌≡◌, ◌-◌, ◌≤◌, Some, length, refl, arith}
+use Rattle.std.proofs.Common.{◌-◌, ◌≤◌, Some, length, refl, arith}
 use Rattle.std.proofs.Math.ListN.{set}
 use Rattle.resp_cache.proofs.Slotted.{puts_set}
 use Rattle.resp_cache.proofs.table.fill_slot.Goals as goal

@@ -1,9 +1,9 @@
-use Rattle.std.proofs.Common.{◌≡◌, ◌<◌, ◌≤◌, ◌∙◌, ◌⊎◌, ap, length, true, false, take, drop, sym, vec_capacity, vec_len, nat_lt, refl, arith}
+use Rattle.std.proofs.Common.{◌<◌, ◌≤◌, ◌∙◌, ap, length, sym, vec_capacity, vec_len, arith}
 use Rattle.std.specs.Option.{option_to_list}
 use Rattle.std.specs.Prelude.{is_some}
 use Rattle.resp_cache.specs.Slots.{slot_at}
 use Rattle.resp_cache.specs.Tables.{has_free, has_name_room, has_slot_room, is_full, pairs_of}
-use Rattle.resp_cache.proofs.Room.{lt_decided, not_below, not_up_to, room_parts, up_to}
+use Rattle.resp_cache.proofs.Room.{lt_decided, not_up_to, room_parts, up_to}
 use Rattle.resp_cache.proofs.Tabling.{all_kept, few_names, last_full, last_out}
 use Rattle.resp_cache.proofs.table.make_free.Goals as goal
 

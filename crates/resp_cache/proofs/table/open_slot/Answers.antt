@@ -1,4 +1,4 @@
-use Rattle.std.proofs.Common.{◌≡◌, ◌<◌, length, vec_capacity, vec_len, nat_lt, arith}
+use Rattle.std.proofs.Common.{◌<◌, length, vec_capacity, vec_len, nat_lt, arith}
 use Rattle.std.proofs.lemmas.Bool.{and_parts}
 use Rattle.resp_cache.proofs.Room.{lt_decided}
 use Rattle.resp_cache.proofs.Tabling.{opened}

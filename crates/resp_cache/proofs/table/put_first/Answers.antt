@@ -1,4 +1,4 @@
-use Rattle.std.proofs.Common.{◌≡◌, ◌∷◌, ◌∙◌, List, ap, false, take}
+use Rattle.std.proofs.Common.{◌∷◌, ◌∙◌, List, ap}
 use Rattle.std.specs.List.{list_any}
 use Rattle.resp_cache.specs.Stores.{is_of}
 use Rattle.resp_cache.specs.Tables.{pairs_of}

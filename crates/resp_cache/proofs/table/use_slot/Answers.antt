@@ -1,4 +1,3 @@
-use Rattle.std.proofs.Common.{◌≡◌, ◌∙◌, ap, Bool}
 use Rattle.resp_cache.proofs.Looking.{some_of}
 use Rattle.resp_cache.proofs.Tabling.{is_there, used}
 use Rattle.resp_cache.proofs.table.use_slot.Goals as goal

@@ -1,4 +1,4 @@
-use Rattle.std.proofs.Common.{◌≡◌, ◌+◌, ◌<◌, ◌≤◌, ◌∙◌, ap, length, sym, true, arith}
+use Rattle.std.proofs.Common.{◌≡◌, ◌+◌, ◌∙◌, ap, length, sym, arith}
 use Rattle.std.specs.Prelude.{is_some}
 use Rattle.resp_cache.specs.Names.{named_as}
 use Rattle.resp_cache.proofs.Looking.{some_of}

@@ -1,5 +1,4 @@
-use Rattle.std.proofs.Common.{◌≡◌, ◌∙◌, ℕ, List, Option, Some, ap, get_or, refl, sym}
-use Rattle.std.specs.List.{slice_get}
+use Rattle.std.proofs.Common.{◌∙◌, ℕ, List, ap}
 use Rattle.resp_cache.specs.Rings.{RingValue, last_of, numbers_in}
 use Rattle.resp_cache.proofs.Linking.{first_gives, last_is}
 use Rattle.resp_cache.proofs.ring.Ring.last.Goals as goal

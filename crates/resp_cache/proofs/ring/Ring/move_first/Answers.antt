@@ -1,5 +1,5 @@
-use Rattle.std.proofs.Common.{◌≡◌, ◌<◌, ◌∙◌, ℕ, List, ap, length, subst, sym, true, arith}
-use Rattle.resp_cache.specs.Rings.{IsLinked, IsOrder, RingValue, is_in, numbers_in, without}
+use Rattle.std.proofs.Common.{◌≡◌, ◌<◌, length, subst, sym, true, arith}
+use Rattle.resp_cache.specs.Rings.{RingValue, is_in, numbers_in, without}
 use Rattle.resp_cache.proofs.Linking.{first_below}
 use Rattle.resp_cache.proofs.Ringing.{left_out, ring_first, ring_inside}
 use Rattle.resp_cache.proofs.ring.Ring.move_first.Goals as goal

@@ -1,5 +1,5 @@
-use Rattle.std.proofs.Common.{◌≡◌, ◌<◌, ◌+◌, ◌-◌, ◌++◌, ◌∷◌, [], ◌∙◌, ℕ, List, ap, length, subst, sym, arith}
-use Rattle.resp_cache.specs.Rings.{IsLinked, RingValue, numbers_in}
+use Rattle.std.proofs.Common.{◌≡◌, ◌<◌, ◌+◌, ◌-◌, ◌++◌, ◌∷◌, [], ◌∙◌, ℕ, ap, length, subst, sym, arith}
+use Rattle.resp_cache.specs.Rings.{RingValue, numbers_in}
 use Rattle.resp_cache.proofs.Linking.{newest_below}
 use Rattle.resp_cache.proofs.Ringing.{length_numbers, linked_more, next_out, ring_next}
 use Rattle.resp_cache.proofs.ring.Ring.push_last.Goals as goal

@@ -1,8 +1,7 @@
-use Rattle.std.proofs.Common.{◌≡◌, ◌∙◌, ap, None, Some, Option, find, rules, sym}
+use Rattle.std.proofs.Common.{◌≡◌, ap, None, rules, sym}
 use Rattle.cache_key.specs.Keys.{key_of}
-use Rattle.resp_cache.specs.Stores.{StoreValue, served, stored_in}
+use Rattle.resp_cache.specs.Stores.{served, stored_in}
 use Rattle.resp_cache.specs.Tables.{pairs_of}
-use Rattle.resp_cache.specs.declared.pair.Pair.{Pair}
 use Rattle.resp_cache.proofs.Looking.{served_none, served_not, served_one}
 use Rattle.resp_cache.proofs.store.Store.fresh.Goals as goal
 

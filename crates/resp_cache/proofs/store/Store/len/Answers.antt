@@ -1,4 +1,4 @@
-use Rattle.std.proofs.Common.{sym, subst}
+use Rattle.std.proofs.Common.{subst}
 use Rattle.resp_cache.specs.Stores.{IsStore, StoreValue}
 use Rattle.resp_cache.proofs.Keeping.{store_is}
 use Rattle.resp_cache.proofs.store.Store.len.Goals as goal

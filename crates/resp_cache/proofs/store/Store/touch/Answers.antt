@@ -1,6 +1,6 @@
-use Rattle.std.proofs.Common.{◌≡◌, ◌∙◌, ap, None, Some, Option, List, find, sym}
-use Rattle.cache_key.specs.Keys.{CacheKey, key_of}
-use Rattle.resp_cache.specs.Stores.{is_fresh_under, moved, with_first}
+use Rattle.std.proofs.Common.{◌∙◌, ap, Option, sym}
+use Rattle.cache_key.specs.Keys.{CacheKey}
+use Rattle.resp_cache.specs.Stores.{moved, with_first}
 use Rattle.resp_cache.specs.Tables.{pairs_of}
 use Rattle.resp_cache.specs.declared.pair.Pair.{Pair}
 use Rattle.resp_cache.proofs.Looking.{fresh_found, some_of}
