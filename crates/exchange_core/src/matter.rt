@@ -2,7 +2,7 @@
 
 ghost use Rattle.std.specs.Prelude.{◌≡◌, ◌≤◌, ◌<◌, ◌^◌, None, Some, true, is_some, IfOk, IfSome, length};
 ghost use Rattle.std.specs.List.{AllByRecursion, find};
-ghost use Rattle.coap_codec.specs.Spelling.{Spells};
+ghost use Rattle.coap_codec.specs.Spelling.{Spells, content};
 ghost use Rattle.limits.specs.declared.TheConstants.{LAST_MOMENT, MAX_ENTRIES, MAX_MESSAGE_LEN};
 ghost use Rattle.ask_model.specs.Requests.{CoapRequest, block_message};
 ghost use Rattle.ask_model.specs.Datagrams.{block_or_first};
@@ -12,14 +12,14 @@ ghost use Rattle.message_layer.specs.Prepared.{IsUnnumberedCon, MayHeed};
 ghost use Rattle.endpoint_table.specs.Tables.{link_at};
 ghost use Rattle.exchange_model.specs.State.{link_of};
 ghost use Rattle.exchange_model.specs.Steps.{asked_in, has_next_place, is_under};
-ghost use Rattle.exchange_progress.specs.Coming.{AsksSayable};
+ghost use Rattle.exchange_progress.specs.Coming.{AsksSayable, IsComing, comes_by};
 ghost use Rattle.exchange_core.specs.Matters.{IsAnswered, IsAskedFor, IsFewTimes, IsNextFor, IsNextToken, IsPrepared, answer_in, matter_for, next_in};
 ghost use Rattle.exchange_core.specs.States.{state_of};
 
 use crate::state::State;
 use ask_model::Cause;
 use cache_key::Key;
-use coap_codec::{Block, Bytes, Token};
+use coap_codec::{Block, Bytes, Message, Token};
 use exchange_model::Exchange;
 use exchange_progress::{Coming, Ended, Onward, comes_to};
 use exchange_table::asked;
@@ -81,6 +81,23 @@ fn exchange_under<R: Relation>(s: &State<R>, token: &Token) -> Option<Exchange>
     s.exchanges.find(token).copied()
 }
 
+/// What the exchange comes to by the reply, which the entry with this number bears.
+fn coming_of<R: Relation>(
+    alloc: Global,
+    s: &State<R>,
+    exchange: &Exchange,
+    number: u32,
+    message: Message,
+) -> Result<Coming, AllocError>
+    requires { IsFewTimes exchange.now }
+    ensures coming { IfOk result (λ x. IsComing number x (comes_by s.now.journal.entries
+        s.now.fetched.pieces exchange.now number (content message))) }
+    ensures sayable { IfOk result AsksSayable }
+{
+    let pieces = s.fetched.among(exchange.opening);
+    comes_to(alloc, &s.journal, pieces, exchange, number, message)
+}
+
 /// The exchange that the datagram answers, by what its link tells of it, and what that comes to by the
 /// entry with this number.
 fn answer_in<R: Relation>(
@@ -101,8 +118,7 @@ fn answer_in<R: Relation>(
             let Some(exchange) = exchange_under(s, token) else {
                 return Ok(None);
             };
-            let pieces = s.fetched.as_slice();
-            let coming = comes_to(alloc, &s.journal, pieces, &exchange, number, message)?;
+            let coming = coming_of(alloc, s, &exchange, number, message)?;
             Ok(Some(Answered { exchange, coming }))
         }
         Up::Reset(of) => {

@@ -25,13 +25,13 @@ ascends n (x ∷ xs) order (suc i) zero d le lt = absurd (omega (arith, le))
 ascends n (x ∷ xs) order zero (suc j) d le lt = all-at (λ y. n x ≤ n y) xs j d order.0 (omega (arith, lt))
 ascends n (x ∷ xs) order (suc i) (suc j) d le lt = ascends n xs order.1 i j d (omega (arith, le)) (omega (arith, lt))
 
-all-front : {X : Type 0} (P : X → Type 0) (xs : List X) (i : ℕ) → ((k : ℕ) (d : X) → k < i → k < length xs → P (get_or xs k d)) → AllByRecursion P (take i xs)
+pub all-front : {X : Type 0} (P : X → Type 0) (xs : List X) (i : ℕ) → ((k : ℕ) (d : X) → k < i → k < length xs → P (get_or xs k d)) → AllByRecursion P (take i xs)
 all-front P [] zero f = tt
 all-front P [] (suc i) f = tt
 all-front P (x ∷ xs) zero f = tt
 all-front P (x ∷ xs) (suc i) f = (f 0 x (omega arith) (omega arith), all-front P xs i (λ k d less lt. f (suc k) d (omega (arith, less)) (omega (arith, lt))))
 
-all-back : {X : Type 0} (P : X → Type 0) (xs : List X) (i : ℕ) → ((k : ℕ) (d : X) → i ≤ k → k < length xs → P (get_or xs k d)) → AllByRecursion P (drop i xs)
+pub all-back : {X : Type 0} (P : X → Type 0) (xs : List X) (i : ℕ) → ((k : ℕ) (d : X) → i ≤ k → k < length xs → P (get_or xs k d)) → AllByRecursion P (drop i xs)
 all-back P [] zero f = tt
 all-back P [] (suc i) f = tt
 all-back P (x ∷ xs) zero f = (f 0 x (omega arith) (omega arith), all-back P xs zero (λ k d le lt. f (suc k) d (omega arith) (omega (arith, lt))))
@@ -101,7 +101,7 @@ group-is o (r ∷ rs) (suc i) (suc j) f g =
 
 -- one more, after those who wait for the same exchange
 
-all-insert : {X : Type 0} (P : X → Type 0) (xs : List X) (i : ℕ) (y : X) → AllByRecursion P xs → P y → AllByRecursion P (insert xs i y)
+pub all-insert : {X : Type 0} (P : X → Type 0) (xs : List X) (i : ℕ) (y : X) → AllByRecursion P xs → P y → AllByRecursion P (insert xs i y)
 all-insert P [] zero y a p = (p, tt)
 all-insert P [] (suc i) y a p = (p, tt)
 all-insert P (x ∷ xs) zero y a p = (p, a)
@@ -246,7 +246,7 @@ only-there k (r ∷ rs) (suc i) d only = (λ h. absurd (false≢true (sym only.0
 
 -- Who waits on a connection, by what that waits for.
 
-filter-alike : {X : Type 0} (p q : X → Bool) (xs : List X) → AllByRecursion (λ x. p x ≡ q x) xs → filter p xs ≡ filter q xs
+pub filter-alike : {X : Type 0} (p q : X → Bool) (xs : List X) → AllByRecursion (λ x. p x ≡ q x) xs → filter p xs ≡ filter q xs
 filter-alike p q [] a = refl
 filter-alike {X = X} p q (x ∷ xs) a = ap (λ (b : Bool). cond b (x ∷ filter p xs) (filter p xs)) a.0 ∙ ap (λ (ys : List X). cond (q x) (x ∷ ys) ys) (filter-alike p q xs a.1)
 

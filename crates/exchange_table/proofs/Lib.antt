@@ -5,3 +5,4 @@ mod Indexed
 mod Outrun
 mod Reading
 mod Grouping
+mod Owning

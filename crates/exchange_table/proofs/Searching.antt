@@ -139,3 +139,15 @@ eqb-not a b h e = false≢true (sym (ap not (same-as a b e)) ∙ h)
 pub all-of : {X : Type 0} {P : X → Type 0} (xs : List X) → ((x : X) → P x) → AllByRecursion P xs
 all-of [] f = tt
 all-of (x ∷ xs) f = (f x, all-of xs f)
+
+pub or-false : (b : Bool) → (b || false) ≡ b
+or-false true = refl
+or-false false = refl
+
+pub any-with : {X : Type 0} (q : X → Bool) (xs : List X) (x : X) → list_any q (xs ++ x ∷ []) ≡ (list_any q xs || q x)
+any-with q [] x = or-false (q x)
+any-with q (y ∷ xs) x = by (q y) (any-with q xs x)
+  where
+    by : (b : Bool) → list_any q (xs ++ x ∷ []) ≡ (list_any q xs || q x) → (b || list_any q (xs ++ x ∷ [])) ≡ ((b || list_any q xs) || q x)
+    by true h = refl
+    by false h = h

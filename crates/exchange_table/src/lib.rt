@@ -14,6 +14,7 @@ mod fetched;
 mod groups;
 mod index;
 mod outrunning;
+mod owners;
 mod places;
 mod readers;
 mod rows;
