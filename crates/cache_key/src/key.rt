@@ -1,7 +1,7 @@
 //! Keys.
 
 ghost use Rattle.std.specs.Prelude.{◌≡◌, IfOk};
-ghost use Rattle.cache_key.specs.Digests.{rank_of};
+ghost use Rattle.cache_key.specs.Digests.{digests_of, rank_of};
 ghost use Rattle.cache_key.specs.Keys.{key_of, same_host, same_key, same_place};
 ghost use Rattle.cache_key.specs.Order.{key_cmp};
 
@@ -90,6 +90,13 @@ impl Key {
             digests,
             parts: Arc::new(alloc, parts)?,
         })
+    }
+
+    /// Its digests, and those of its place.
+    pub fn digests(&self) -> Digests
+        ensures { result ≡ digests_of self.now }
+    {
+        self.digests
     }
 
     /// The place that the request reads.

@@ -19,6 +19,7 @@ mod order;
 mod place;
 mod reading;
 
+pub use digest::Digests;
 pub use key::Key;
 pub use laws::{
     keys_in_order, keys_match_requests, keys_told_apart, places_in_order, places_told_apart,

@@ -40,7 +40,8 @@ use Rattle.exchange_core.specs.Values.{CoreValue, stepped}
 use Rattle.exchange_core.specs.Calls.{AsksSo, IsAsked}
 use Rattle.exchange_model.specs.declared.kept.Exchange.{Exchange}
 use Rattle.exchange_model.specs.Steps.{joins, Numbers}
-use Rattle.exchange_core.specs.Joining.{MayJoin, is_joined_by, joined_for}
+use Rattle.exchange_table.specs.Joining.{is_joined_by}
+use Rattle.exchange_core.specs.Joining.{MayJoin, joined_for}
 use Rattle.exchange_core.specs.Recalling.{MayRecall, recalled, served_for}
 use Rattle.exchange_core.specs.Refusing.{MayRefuse, BeginsNothing, refused}
 use Rattle.exchange_core.specs.States.{number_in}
@@ -133,10 +134,10 @@ request-of (Refuses cause status) p e = absurd cc
 pub joined-is : (a : Ask) (q : CoapRequest) (S : State) (v : Option Exchange) → a.sense ≡ Requests q → joined_for a.sense S ≡ v → joined q S ≡ v
 joined-is a q S v sense is = ap (λ (s : Sense). joined_for s S) (sym sense) ∙ is
 
-pub found-by : (ws : List Written) (m k : Mapping) (es fs : List Exchange) (v w : Option Exchange)
-    → v ≡ find (is_joined_by ws k.sense) fs → k ≡ m → fs ≡ es → v ≡ w → find (is_joined_by ws m.sense) es ≡ w
-found-by ws m k es fs v w found same all is =
-    sym (found ∙ ap (find (is_joined_by ws k.sense)) all ∙ ap (λ (x : Mapping). find (is_joined_by ws x.sense) es) same) ∙ is
+pub found-by : (ws : List Written) (m k : Mapping) (es : List Exchange) (v w : Option Exchange)
+    → v ≡ find (is_joined_by ws k.sense) es → k ≡ m → v ≡ w → find (is_joined_by ws m.sense) es ≡ w
+found-by ws m k es v w found same is =
+    sym (found ∙ ap (λ (x : Mapping). find (is_joined_by ws x.sense) es) same) ∙ is
 
 -- what is served
 pub stored-by : (m k : Mapping) (t : ℕ) (ps : List Pair) (v w : Option Stored) → v ≡ served_for k.sense t ps → k ≡ m → v ≡ w → served_for m.sense t ps ≡ w

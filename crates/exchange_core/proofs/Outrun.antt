@@ -1,9 +1,9 @@
 -- Exchanges that outrun others, one after another.
 use Rattle.std.proofs.Common.{◌≡◌, ℕ, zero, suc, suc, ◌+◌, ◌<◌, Bool, true, false, cond, ◌||◌, List, [], ◌∷◌, ◌++◌, length, take, get_or, refl, sym, ap, ◌∙◌, arith}
-use Rattle.std.specs.List.{list_any}
+use Rattle.std.specs.List.{AllByRecursion, list_any}
 use Rattle.journal_book.specs.Entries.{Written}
 use Rattle.exchange_model.specs.declared.kept.Exchange.{Exchange}
-use Rattle.exchange_model.specs.Steps.{asked_in, left_by, outrun_by, outruns}
+use Rattle.exchange_model.specs.Steps.{IsDigested, asked_in, left_by, outrun_by, outruns}
 
 any-last : {X : Type 0} (q : X → Bool) (xs : List X) (x : X) → list_any q (xs ++ x ∷ []) ≡ (list_any q xs || (q x || false))
 any-last q [] x = refl
@@ -46,3 +46,12 @@ left-next ws over i x old now new lt at here last =
   where
     more : i + 1 ≡ suc i
     more = omega arith
+
+-- They keep the digests of what they were opened for.
+pub digested-left : (ws : List Written) (over es : List Exchange) → AllByRecursion (IsDigested ws) es → AllByRecursion (IsDigested ws) (left_by ws over es)
+digested-left ws over [] a = tt
+digested-left ws over (e ∷ es) a = (by (list_any (outruns ws (asked_in ws e.opening)) over), digested-left ws over es a.1)
+  where
+    by : (b : Bool) → IsDigested ws (cond b (record e { current = false }) e)
+    by true = a.0
+    by false = a.0

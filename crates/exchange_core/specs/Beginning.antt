@@ -4,10 +4,13 @@ use Rattle.std.specs.Arc.{arc_value}
 use Rattle.limits.specs.declared.TheConstants.{LAST_MOMENT, MAX_BODY_LEN, MAX_MESSAGE_LEN, MAX_REQUEST_SIZE}
 use Rattle.coap_codec.specs.Spelling.{Spells}
 use Rattle.blockwise.specs.Uploads.{begun}
+use Rattle.cache_key.specs.declared.digest.Digests.{Digests}
+use Rattle.cache_key.specs.Digests.{digests_of}
 use Rattle.observe_share.specs.declared.registration.Registration.{Registration}
 use Rattle.observe_share.specs.Watches.{without}
 use Rattle.uri_map.specs.declared.peer.Peer.{Peer}
 use Rattle.ask_model.specs.Requests.{CoapRequest, Sense, Requests, Refuses, opening_message}
+use Rattle.ask_model.specs.Sharing.{asked_key}
 use Rattle.ask_model.specs.Sizes.{capped, came_size}
 use Rattle.ask_model.specs.Datagrams.{asked_peer}
 use Rattle.ask_model.specs.Views.{Mapping}
@@ -65,6 +68,11 @@ asked_work (Refuses cause status) = W.Gives (begun 0 6)
 abbrev pub wants_for : Mapping → List Registration → Bool
 wants_for m rs = may_watch m.sense rs && observed_by m.rules m.sense
 
+-- the digests of what it reads or changes
+abbrev pub asked_digests : Sense → Digests
+asked_digests (Requests q) = digests_of (asked_key q)
+asked_digests (Refuses cause status) = record { place = 0; key = 0 }
+
 -- the exchange that the ask with this number opens for what it means
 abbrev pub exchange_by : ℕ → List ℕ → Peer → Sense → Bool → Option FirstSending → ℕ → Exchange
 exchange_by t token p sense observes sent n = record {
@@ -80,6 +88,7 @@ exchange_by t token p sense observes sent n = record {
   current = true;
   newest = true;
   work = asked_work sense;
+  digests = asked_digests sense;
 }
 
 -- who reads it first

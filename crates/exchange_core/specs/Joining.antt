@@ -1,21 +1,17 @@
 -- Asks that join an exchange.
-use Rattle.std.specs.Prelude.{◌≡◌, ℕ, Bool, false, List, Option}
+use Rattle.std.specs.Prelude.{◌≡◌, ℕ, Option}
 use Rattle.std.specs.List.{find}
-use Rattle.ask_model.specs.Requests.{Sense, Requests, Refuses}
+use Rattle.ask_model.specs.Requests.{Sense}
 use Rattle.ask_model.specs.Views.{Ask}
-use Rattle.journal_book.specs.Entries.{Written}
 use Rattle.exchange_model.specs.declared.kept.Exchange.{Exchange}
 use Rattle.exchange_model.specs.State.{State}
 use Rattle.exchange_model.specs.Steps.{joins, Numbers}
-use Rattle.exchange_model.specs.Calls.{asked, is_joined}
+use Rattle.exchange_model.specs.Calls.{asked}
 use Rattle.exchange_model.specs.Room.{KeptInRoom}
 use Rattle.exchange_model.specs.Sealing.{in_room}
+use Rattle.exchange_table.specs.Joining.{is_joined_by}
 
 -- the open exchange that an ask joins, if there is one
-abbrev pub is_joined_by : List Written → Sense → Exchange → Bool
-is_joined_by ws (Requests q) e = is_joined ws q e
-is_joined_by ws (Refuses cause status) e = false
-
 abbrev pub joined_for : Sense → State → Option Exchange
 joined_for sense S = find (is_joined_by S.entries sense) S.exchanges
 

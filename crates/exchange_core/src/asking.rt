@@ -156,7 +156,7 @@ fn ask_peer<R: Relation>(
     if let Some(stored) = found {
         return read_stored(alloc, s, moment, word, conn, mapped, stored);
     }
-    if let Some(exchange) = find_joined(s.exchanges.as_slice(), &s.journal, &mapped) {
+    if let Some(exchange) = find_joined(&s.exchanges, &s.journal, &mapped) {
         return read_along(alloc, s, moment, word, conn, mapped, exchange.opening);
     }
     if s.exchanges.as_slice().len() >= MAX_EXCHANGES {

@@ -1,9 +1,10 @@
 //! Exchanges that end at a tick.
 
 ghost use Rattle.std.specs.Prelude.{◌≡◌, ◌≤◌, ◌^◌, filter, map, IfOk};
+ghost use Rattle.std.specs.List.{AllByRecursion};
 ghost use Rattle.limits.specs.declared.TheConstants.{LAST_MOMENT};
 ghost use Rattle.exchange_model.specs.Entering.{token_of};
-ghost use Rattle.exchange_model.specs.Steps.{left_by};
+ghost use Rattle.exchange_model.specs.Steps.{IsDigested, left_by};
 ghost use Rattle.exchange_core.specs.Expiring.{is_over, is_over_by, is_still, is_still_by, is_that};
 
 use crate::due::is_past;
@@ -88,6 +89,7 @@ pub fn sort_by_end(
 
 /// These exchanges have ended: where they were writes, GETs join those of their places no more.
 pub fn outrun_all<R: Relation>(still: &mut Exchanges, journal: &Journal<R>, over: &[Exchange])
+    requires { AllByRecursion (IsDigested journal.now.entries) still.old.exchanges }
     ensures { still.new.exchanges
         ≡ left_by journal.now.entries over.now still.old.exchanges }
 {

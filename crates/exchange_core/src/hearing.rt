@@ -1,6 +1,7 @@
 //! What a datagram does.
 
 ghost use Rattle.std.specs.Prelude.{ℕ, ◌≡◌, ◌≤◌, ◌<◌, ◌+◌, ◌∷◌, ◌++◌, [], List, Some, true, false, map, is_some, sum_by, length, IfOk, IfSome, OnOk, OnErr};
+ghost use Rattle.std.specs.List.{AllByRecursion};
 ghost use Rattle.limits.specs.declared.TheConstants.{LAST_MOMENT, MAX_ENTRIES};
 ghost use Rattle.ask_model.specs.Sizes.{capped};
 ghost use Rattle.journal_book.specs.Entries.{Deed, entry_size};
@@ -8,7 +9,7 @@ ghost use Rattle.message_layer.specs.Hearing.{listed};
 ghost use Rattle.message_layer.specs.Prepared.{IsHearing, MayFollow, MayHeed};
 ghost use Rattle.endpoint_table.specs.Tables.{link_at};
 ghost use Rattle.exchange_model.specs.State.{State as CoreState, link_of};
-ghost use Rattle.exchange_model.specs.Steps.{Matter as ModelMatter, Numbers, exchanges_by, issued_by, pieces_by, store_by};
+ghost use Rattle.exchange_model.specs.Steps.{IsDigested, Matter as ModelMatter, Numbers, exchanges_by, issued_by, pieces_by, store_by};
 ghost use Rattle.exchange_model.specs.Entering.{Effect, confirm};
 ghost use Rattle.exchange_core.specs.Calls.{HearsSo};
 ghost use Rattle.exchange_core.specs.Drafts.{Drafts, IsDrafted};
@@ -159,6 +160,7 @@ fn change_exchanges<R: Relation>(
     matter: &Matter,
 )
     requires newest { IsNewestIn matter.now exchanges.old.exchanges }
+    requires digests { AllByRecursion (IsDigested journal.now.entries) exchanges.old.exchanges }
     ensures { (n : ℕ) (new : Numbers) (x : ModelMatter) → IsMatter n new matter.now x
         → IsFirstSo fetched.now.pieces matter.now x
         → exchanges.new.exchanges
@@ -300,6 +302,7 @@ fn change_tables<R: Relation>(
     requires few { length s.old.journal.entries ≤ MAX_ENTRIES }
     requires issued { s.old.issued < 4294967295 }
     requires newest { IsNewestIn matter s.old.exchanges.exchanges }
+    requires digests { AllByRecursion (IsDigested s.old.journal.entries) s.old.exchanges.exchanges }
     requires early { moment ≤ LAST_MOMENT }
     requires ready { MayHeed moment (link_at s.old.endpoints peer) heeding }
     requires follows { MayFollow moment (link_at s.old.endpoints peer) heeding (more_in matter) }
@@ -350,6 +353,7 @@ fn add_heard<R: Relation>(
     requires ordered { IsOrdered (state_of s.old) }
     requires issued { s.old.issued < 4294967295 }
     requires newest { IsNewestIn matter s.old.exchanges.exchanges }
+    requires digests { AllByRecursion (IsDigested s.old.journal.entries) s.old.exchanges.exchanges }
     requires watched { IfSome watching.more (λ r. length s.old.watches.standing < 64) }
     requires early { moment ≤ LAST_MOMENT }
     requires ready { MayHeed moment (link_at s.old.endpoints peer) heeding }

@@ -2,13 +2,16 @@
 
 ghost use Rattle.std.specs.Prelude.{◌≡◌, ◌≢◌, ◌≤◌, ◌∷◌, [], false, true, find, length, IfOk, OnOk, Err};
 ghost use Rattle.std.specs.Arc.{arc_value};
+ghost use Rattle.std.specs.List.{AllByRecursion};
 ghost use Rattle.limits.specs.declared.TheConstants.{LAST_MOMENT, MAX_ENTRIES};
 ghost use Rattle.journal_book.specs.Entries.{Asks};
 ghost use Rattle.journal_book.specs.Views.{ask_of};
-ghost use Rattle.exchange_model.specs.Steps.{Numbers};
+ghost use Rattle.exchange_model.specs.Steps.{IsDigested, Numbers};
 ghost use Rattle.exchange_model.specs.Sealing.{asks_in_room};
+ghost use Rattle.exchange_table.specs.Joining.{is_joined_by};
+ghost use Rattle.exchange_core.specs.Beginning.{asked_digests};
 ghost use Rattle.exchange_core.specs.Drafts.{Drafts};
-ghost use Rattle.exchange_core.specs.Joining.{MayJoin, is_joined_by};
+ghost use Rattle.exchange_core.specs.Joining.{MayJoin};
 ghost use Rattle.exchange_core.specs.Sound.{IsSound};
 ghost use Rattle.exchange_core.specs.States.{state_of, seen};
 ghost use Rattle.exchange_core.specs.Values.{stepped};
@@ -20,40 +23,41 @@ use crate::room;
 use crate::sealing::seal;
 use crate::state::{State, commit, make_places, start};
 use crate::watching::touch;
-use ask_model::Mapped;
+use ask_model::{Mapped, Meaning};
+use cache_key::Digests;
 use exchange_model::{Exchange, Reader};
-use exchange_table::asked;
+use exchange_table::Exchanges;
 use journal_book::{Entry, Event, Journal};
 use std::alloc::{AllocError, Global};
 use std::sync::Arc;
 use transformers::Relation;
 
-/// Whether the request joins the exchange: both are equal GETs, and no write has outrun it.
-fn is_joined<R: Relation>(exchange: &Exchange, journal: &Journal<R>, mapped: &Mapped<R>) -> bool
-    ensures { result ≡ is_joined_by journal.now.entries mapped.now.sense exchange.now }
+/// The digests of what the request reads or changes.
+pub fn digests_of<R: Relation>(mapped: &Mapped<R>) -> Digests
+    ensures { result ≡ asked_digests mapped.now.sense }
 {
-    if !exchange.current {
-        return false;
-    }
-    match asked(journal, exchange.opening) {
-        Some(other) => mapped.asks_same(other),
-        None => false,
+    match mapped.meaning() {
+        Meaning::Ask {
+            target,
+            peer,
+            accept,
+            ..
+        } => Digests::of(peer, target, *accept),
+        Meaning::Refuse(_, _) => Digests { place: 0, key: 0 },
     }
 }
 
 /// The open exchange that the request joins.
 pub fn find_joined<R: Relation>(
-    exchanges: &[Exchange],
+    exchanges: &Exchanges,
     journal: &Journal<R>,
     mapped: &Mapped<R>,
 ) -> Option<Exchange>
+    requires { AllByRecursion (IsDigested journal.now.entries) exchanges.now.exchanges }
     ensures { result
-        ≡ find (is_joined_by journal.now.entries mapped.now.sense) exchanges.now }
+        ≡ find (is_joined_by journal.now.entries mapped.now.sense) exchanges.now.exchanges }
 {
-    exchanges
-        .iter()
-        .find(|e| is_joined(e, journal, mapped))
-        .copied()
+    exchanges.joined(journal, mapped).copied()
 }
 
 /// The ask of a connection.

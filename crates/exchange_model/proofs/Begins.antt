@@ -187,6 +187,7 @@ begins-leads l t c a q token text word S b may who sense misses alone room short
               named = λ u. u;
               sent = fresh;
               short = short;
+              digests = refl;
               progress = first-progress n (length l) t q begun-new (replies-none l (length l) r.legal (not-yet l)).1;
               current = ap not (sym (none-outran n (asked_place q) (length l) (omega arith)));
               newest = λ get. subst (λ (rs : List Reply). IsNewest n (asked_key q) rs true)

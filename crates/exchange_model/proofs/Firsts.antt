@@ -92,6 +92,7 @@ mine {start = start} l t p bytes timeout o m w legal waits a token e h goes_on u
           (newest-quiet x l (asked_key h.request) (got_in l e.opening) e.newest refl (h.newest get));
       progress = ap (progress h.request) quiet ∙ (h.progress ∙ ap (progress_with e.work) (sym (got-stays x l e.opening _ h.opening quiet)));
       short = h.short;
+      digests = h.digests;
       conn = h.conn;
       ask = h.ask;
       stands = at-keeps x l e.opening _ h.stands;

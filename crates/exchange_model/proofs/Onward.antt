@@ -166,6 +166,7 @@ module _ (l : List Noted) (t : ℕ) (p : Peer) (d : List ℕ) (m : Content) (S :
     newest = newest-of;
     progress = progress-of;
     short = a.short;
+    digests = a.digests;
     conn = a.conn;
     ask = a.ask;
     stands = at-keeps x l f.opening _ a.stands;

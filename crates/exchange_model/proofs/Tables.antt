@@ -76,6 +76,7 @@ exchange-stays {start = start} x l e b c unborne same sends reads a current newe
       current = current;
       newest = λ get. subst (λ (rs : List Reply). IsNewest (x ∷ l) (asked_key a.request) rs c) (sym got) (newest get);
       short = a.short;
+      digests = a.digests;
       conn = a.conn;
       ask = a.ask;
       stands = at-keeps x l e.opening _ a.stands;
@@ -111,6 +112,7 @@ exchange-still {start = start} l n t still quiet e reads a =
           (newest-same l n (asked_key a.request) (got_in l e.opening) e.newest quiet (a.newest get));
       current = a.current ∙ ap not (sym (outrun-same l n still.openings_are still.begun_are still.ends_are (asked_place a.request) e.opening));
       short = a.short;
+      digests = a.digests;
       conn = a.conn;
       ask = a.ask;
       stands = still.stands e.opening _ a.stands;

@@ -10,7 +10,9 @@ use Rattle.blockwise.specs.declared.fault.BlockFault.TheVariants as F
 use Rattle.blockwise.specs.declared.pieces.Step.TheVariants.{Next, Last}
 use Rattle.blockwise.specs.declared.upload.Answered.{Answered}
 use Rattle.blockwise.specs.declared.upload.Answered.TheVariants as A
+use Rattle.cache_key.specs.Digests.{digests_of}
 use Rattle.ask_model.specs.Requests.{CoapRequest}
+use Rattle.ask_model.specs.Sharing.{asked_key}
 use Rattle.history_laws.specs.Readings.{Noted}
 use Rattle.history_laws.specs.Responses.{is_tellable}
 use Rattle.history_laws.specs.Exchanges.{replies}
@@ -24,7 +26,7 @@ use Rattle.exchange_model.specs.State.{State}
 use Rattle.exchange_model.specs.Reads.{ExchangeIn, got_in}
 use Rattle.exchange_model.specs.Growing.{IsFewTimes, IsWorkOf}
 use Rattle.exchange_model.specs.Keeping.{Kept}
-use Rattle.exchange_model.specs.Steps.{asked_in, progress_with}
+use Rattle.exchange_model.specs.Steps.{IsDigested, asked_in, progress_with}
 use Rattle.exchange_model.proofs.Outrun.{asked-here}
 
 abbrev IsFor : CoapRequest → Progress → Type 0
@@ -109,6 +111,14 @@ all-asked-for S k =
       ap (λ (v : Option CoapRequest). is_some v) (asked-here l S r e a),
       λ q is. subst (λ (q : CoapRequest). IsWorkOf q e.work) (some-is _ _ (sym (asked-here l S r e a) ∙ is)) (work-of l e a).0,
     ))
+    S.exchanges r.exchanges_are
+
+-- The digests of each are those of what it was opened for.
+pub all-digested : (S : State) → Kept S → AllByRecursion (IsDigested S.entries) S.exchanges
+all-digested S k =
+    let l = k.reading in let r = k.rests.reads in
+    all-more (ExchangeIn r.start l) (IsDigested S.entries)
+    (λ (e : Exchange) a. λ q is. ap (λ (v : CoapRequest). digests_of (asked_key v)) (some-is _ _ (sym is ∙ asked-here l S r e a)) ∙ a.digests)
     S.exchanges r.exchanges_are
 
 -- What is fetched was begun anew three times at most.

@@ -4,6 +4,7 @@ use Rattle.std.specs.List.{AllByRecursion, Contains, list_any}
 use Rattle.limits.specs.declared.TheConstants.{MAX_BODY_LEN, MAX_NUMBERED}
 use Rattle.uri_map.specs.declared.peer.Peer.{Peer}
 use Rattle.message_layer.specs.declared.state.Waiting.{Waiting}
+use Rattle.cache_key.specs.Digests.{digests_of}
 use Rattle.cache_key.specs.Keys.{CacheKey}
 use Rattle.observe_share.specs.declared.registration.Registration.{Registration}
 use Rattle.resp_cache.specs.Stored.{Stored, is_never_fresh}
@@ -89,6 +90,7 @@ pub record ExchangeIn (start : Start) (l : List Noted) (e : Exchange) : Type 0 w
   pub newest : is_get request ≡ true → IsNewest l (asked_key request) (got_in l e.opening) e.newest
   pub progress : progress request (replies l e.opening) ≡ progress_with e.work (got_in l e.opening)
   pub short : length request.body ≤ MAX_BODY_LEN
+  pub digests : digests_of (asked_key request) ≡ e.digests
   pub conn : ℕ
   pub ask : Ask
   pub stands : at l e.opening ≡ Some (noted e.since (Asks conn ask) (Begins request))

@@ -1,5 +1,5 @@
 -- What each kind of entry does to a state.
-use Rattle.std.specs.Prelude.{ℕ, ◌+◌, ◌-◌, true, Bool, not, ◌&&◌, ◌||◌, nat_le, List, [], ◌∷◌, ◌++◌, length, map, filter, filter_map, find, take, nat_lt, slice_get, Option, Some, None, Result, Ok, Err, option_and_then, false, ◌==◌, if◌then◌else◌}
+use Rattle.std.specs.Prelude.{◌≡◌, ℕ, ◌+◌, ◌-◌, true, Bool, not, ◌&&◌, ◌||◌, nat_le, List, [], ◌∷◌, ◌++◌, length, map, filter, filter_map, find, take, nat_lt, slice_get, Option, Some, None, Result, Ok, Err, option_and_then, false, ◌==◌, if◌then◌else◌}
 use Rattle.std.specs.List.{list_any}
 use Rattle.std.specs.Option.{option_map_or}
 use Rattle.std.specs.Str.{bytes_eq}
@@ -16,6 +16,7 @@ use Rattle.message_layer.specs.declared.state.Outstanding.{Outstanding}
 use Rattle.message_layer.specs.declared.verdict.Verdict.{Verdict}
 use Rattle.message_layer.specs.declared.verdict.News.{News}
 use Rattle.message_layer.specs.declared.verdict.News.TheVariants as N
+use Rattle.cache_key.specs.Digests.{digests_of}
 use Rattle.cache_key.specs.Keys.{CacheKey, same_key}
 use Rattle.observe_share.specs.declared.registration.Registration.{Registration}
 use Rattle.observe_share.specs.declared.notice.Notice.{Notice}
@@ -93,6 +94,7 @@ exchange_for t a q token S = record {
   current = true;
   newest = true;
   work = first_work q;
+  digests = digests_of (asked_key q);
 }
 
 -- the link of its server, without what comes under the token of a watch that it renews
@@ -170,6 +172,11 @@ request_by _ = None
 
 abbrev pub asked_in : List Written → ℕ → Option CoapRequest
 asked_in ws k = option_and_then (λ (w : Written). request_by w.deed) (slice_get ws k)
+
+-- Its digests are those of what it was opened for.
+abbrev pub IsDigested : List Written → Exchange → Type 0
+IsDigested ws e =
+    (q : CoapRequest) → asked_in ws e.opening ≡ Some q → digests_of (asked_key q) ≡ e.digests
 
 -- A write that ends outruns the other exchanges of its place.
 abbrev pub outruns : List Written → Option CoapRequest → Exchange → Bool

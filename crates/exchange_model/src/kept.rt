@@ -1,6 +1,7 @@
 //! What a core keeps of what is open.
 
 use blockwise::{Pieces, Upload};
+use cache_key::Digests;
 use coap_codec::Token;
 use uri_map::Peer;
 
@@ -37,6 +38,8 @@ pub struct Exchange {
     pub newest: bool,
     /// how far it has come by its replies
     pub work: Work,
+    /// those of the key and of the place that it was opened for
+    pub digests: Digests,
 }
 
 /// How far an open exchange has come piece by piece (RFC 7959 section 2).

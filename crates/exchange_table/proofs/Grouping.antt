@@ -1,4 +1,4 @@
--- Readers, those of each exchange together: where these stand, and that they stay together.
+-- Those of one number together: where they stand, and that they stay together.
 use Rattle.std.proofs.Common.{◌≡◌, ◌≢◌, ℕ, zero, suc, ◌+◌, ◌-◌, ◌<◌, ◌≤◌, Bool, true, false, not, cond, List, [], ◌∷◌, ◌++◌, length, take, drop, get_or, Option, Some, None, inl, inr, refl, sym, ap, subst, ◌∙◌, ltb-true, ltb-false, arith}
 use Rattle.std.specs.Prelude.{filter, insert}
 use Rattle.std.specs.List.{AllByRecursion}
@@ -9,7 +9,8 @@ use Rattle.std.proofs.lemmas.List.Elements.{filter-append}
 use Rattle.history_laws.proofs.CallerLemmas.{all-filter, all-more}
 use Rattle.exchange_model.specs.declared.kept.Reader.{Reader}
 use Rattle.exchange_table.specs.Places.{IsNowhere, IsOnlyAt}
-use Rattle.exchange_table.specs.Readers.{AreGrouped, Ascend, IsFirstFrom, ask_in, has_ask, is_on, opening_read, reads}
+use Rattle.exchange_table.specs.Groups.{AreGrouped, Ascend, IsFirstFrom, is_by}
+use Rattle.exchange_table.specs.Readers.{ask_in, has_ask, is_on}
 use Rattle.exchange_table.proofs.Searching.{same-as, some-is, none-some}
 use Rattle.exchange_table.proofs.Standing.{Splits, Tells, all-at}
 
@@ -37,39 +38,6 @@ all-back P [] (suc i) f = tt
 all-back P (x ∷ xs) zero f = (f 0 x (omega arith) (omega arith), all-back P xs zero (λ k d le lt. f (suc k) d (omega arith) (omega (arith, lt))))
 all-back P (x ∷ xs) (suc i) f = all-back P xs i (λ k d le lt. f (suc k) d (omega (arith, le)) (omega (arith, lt)))
 
-pub first-is : (o : ℕ) (rs : List Reader) (i : ℕ) → i ≤ length rs → Splits opening_read o rs i → IsFirstFrom o rs i
-first-is o rs i within split = record {
-  within = within;
-  before = all-front (λ (r : Reader). r.opening < o) rs i (λ k d less lt. ltb-true (opening_read (get_or rs k d)) o (split.0 k d (omega arith) less));
-  from = all-back (λ (r : Reader). o ≤ r.opening) rs i (λ k d le lt. ltb-false (opening_read (get_or rs k d)) o (split.1 k d le lt));
-}
-
--- the place of what was opened later isn't before
-
-pub first-below : (o : ℕ) (rs : List Reader) (i j : ℕ) → IsFirstFrom o rs i → IsFirstFrom (o + 1) rs j → i ≤ j
-first-below o [] zero j f g = omega arith
-first-below o [] (suc i) j f g = absurd (let w = f.within in omega (arith, w))
-first-below o (r ∷ rs) zero j f g = omega arith
-first-below o (r ∷ rs) (suc i) zero f g = absurd (let below = f.before.0 in let above = g.from.0 in omega (arith, below, above))
-first-below o (r ∷ rs) (suc i) (suc j) f g =
-    let w = f.within in
-    let v = g.within in
-    let rest = first-below o rs i j (record { within = omega (arith, w); before = f.before.1; from = f.from }) (record { within = omega (arith, v); before = g.before.1; from = g.from }) in
-    omega (arith, rest)
-
--- between the two stand those who wait for the exchange
-
-reads-it : (o : ℕ) (r : Reader) → o ≤ r.opening → r.opening < o + 1 → reads o r ≡ true
-reads-it o r le lt = same-as r.opening o (omega (arith, le, lt))
-
-reads-other : (o : ℕ) (r : Reader) → r.opening ≢ o → reads o r ≡ false
-reads-other o r differs = elim (eqb_tells r.opening o) [ inl w ↦ absurd (differs w.1) | inr w ↦ w.0 ]
-
-above-none : (o : ℕ) (rs : List Reader) → AllByRecursion (λ (r : Reader). o + 1 ≤ r.opening) rs → filter (reads o) rs ≡ []
-above-none o [] a = refl
-above-none o (r ∷ rs) a =
-    let above = a.0 in rw (reads-other o r (λ e. absurd (omega (arith, e, above)))) (above-none o rs a.1)
-
 take-none : {X : Type 0} (n : ℕ) → take {A = X} n [] ≡ []
 take-none zero = refl
 take-none (suc n) = refl
@@ -77,92 +45,11 @@ take-none (suc n) = refl
 so-many : {X : Type 0} (m n : ℕ) (xs : List X) → m ≡ n → take m xs ≡ take n xs
 so-many m n xs e = ap (λ (k : ℕ). take k xs) e
 
-pub group-is : (o : ℕ) (rs : List Reader) (i j : ℕ) → IsFirstFrom o rs i → IsFirstFrom (o + 1) rs j → take (j - i) (drop i rs) ≡ filter (reads o) rs
-group-is o [] zero j f g = take-none (j - 0)
-group-is o [] (suc i) j f g = absurd (let w = f.within in omega (arith, w))
-group-is o (r ∷ rs) zero zero f g = so-many (0 - 0) 0 (r ∷ rs) (omega arith) ∙ sym (above-none o (r ∷ rs) g.from)
-group-is o (r ∷ rs) zero (suc j) f g =
-    let w = g.within in
-    let here = reads-it o r f.from.0 g.before.0 in
-    let rest = group-is o rs zero j (record { within = omega arith; before = tt; from = f.from.1 }) (record { within = omega (arith, w); before = g.before.1; from = g.from }) in
-    so-many (suc j - 0) (suc j) (r ∷ rs) (omega arith)
-    ∙ ap (λ (xs : List Reader). r ∷ xs) (so-many j (j - 0) rs (omega arith) ∙ rest)
-    ∙ ap (λ (b : Bool). cond b (r ∷ filter (reads o) rs) (filter (reads o) rs)) (sym here)
-group-is o (r ∷ rs) (suc i) zero f g = absurd (let below = f.before.0 in let above = g.from.0 in omega (arith, below, above))
-group-is o (r ∷ rs) (suc i) (suc j) f g =
-    let w = f.within in
-    let v = g.within in
-    let below = f.before.0 in
-    let here = reads-other o r (λ e. absurd (omega (arith, e, below))) in
-    let rest = group-is o rs i j (record { within = omega (arith, w); before = f.before.1; from = f.from }) (record { within = omega (arith, v); before = g.before.1; from = g.from }) in
-    so-many (suc j - suc i) (j - i) (drop i rs) (omega arith)
-    ∙ rest
-    ∙ ap (λ (b : Bool). cond b (r ∷ filter (reads o) rs) (filter (reads o) rs)) (sym here)
-
--- one more, after those who wait for the same exchange
-
 pub all-insert : {X : Type 0} (P : X → Type 0) (xs : List X) (i : ℕ) (y : X) → AllByRecursion P xs → P y → AllByRecursion P (insert xs i y)
 all-insert P [] zero y a p = (p, tt)
 all-insert P [] (suc i) y a p = (p, tt)
 all-insert P (x ∷ xs) zero y a p = (p, a)
 all-insert P (x ∷ xs) (suc i) y a p = (a.0, all-insert P xs i y a.1 p)
-
-ascend-insert : (rs : List Reader) (i : ℕ) (r : Reader) → Ascend opening_read rs → IsFirstFrom (r.opening + 1) rs i → Ascend opening_read (insert rs i r)
-ascend-insert [] zero r order f = (tt, tt)
-ascend-insert [] (suc i) r order f = (tt, tt)
-ascend-insert (x ∷ xs) zero r order f = (all-more (λ (y : Reader). r.opening + 1 ≤ y.opening) (λ (y : Reader). r.opening ≤ y.opening) (λ y le. omega (arith, le)) (x ∷ xs) f.from, order)
-ascend-insert (x ∷ xs) (suc i) r order f =
-    let w = f.within in
-    let below = f.before.0 in (
-      all-insert (λ (y : Reader). x.opening ≤ y.opening) xs i r order.0 (omega (arith, below)),
-      ascend-insert xs i r order.1 (record { within = omega (arith, w); before = f.before.1; from = f.from }),
-    )
-
-filter-insert : (o : ℕ) (rs : List Reader) (i : ℕ) (r : Reader) → IsFirstFrom (r.opening + 1) rs i → filter (reads o) (insert rs i r) ≡ filter (reads o) rs ++ filter (reads o) (r ∷ [])
-filter-insert o [] zero r f = refl
-filter-insert o [] (suc i) r f = refl
-filter-insert o (x ∷ xs) zero r f = by (reads o r) refl
-  where
-    by : (b : Bool) → reads o r ≡ b → cond b (r ∷ filter (reads o) (x ∷ xs)) (filter (reads o) (x ∷ xs)) ≡ filter (reads o) (x ∷ xs) ++ cond b (r ∷ []) []
-    by true is =
-        let none : filter (reads o) (x ∷ xs) ≡ [] = above-none o (x ∷ xs) (subst (λ (n : ℕ). AllByRecursion (λ (y : Reader). n + 1 ≤ y.opening) (x ∷ xs)) (eqb-true r.opening o is) f.from) in
-        ap (λ (ys : List Reader). r ∷ ys) none ∙ ap (λ (ys : List Reader). ys ++ r ∷ []) (sym none)
-    by false is = sym (append-none (filter (reads o) (x ∷ xs)))
-      where
-        append-none : (ys : List Reader) → ys ++ [] ≡ ys
-        append-none [] = refl
-        append-none (y ∷ ys) = ap (λ (zs : List Reader). y ∷ zs) (append-none ys)
-filter-insert o (x ∷ xs) (suc i) r f =
-    let w = f.within in
-    by (reads o x) (filter-insert o xs i r (record { within = omega (arith, w); before = f.before.1; from = f.from }))
-  where
-    by : (b : Bool) → filter (reads o) (insert xs i r) ≡ filter (reads o) xs ++ filter (reads o) (r ∷ [])
-        → cond b (x ∷ filter (reads o) (insert xs i r)) (filter (reads o) (insert xs i r)) ≡ cond b (x ∷ filter (reads o) xs) (filter (reads o) xs) ++ filter (reads o) (r ∷ [])
-    by true h = ap (λ (ys : List Reader). x ∷ ys) h
-    by false h = h
-
-pub grouped-push : (rs groups : List Reader) (i : ℕ) (r : Reader) → IsFirstFrom (r.opening + 1) groups i → AreGrouped rs groups → AreGrouped (rs ++ r ∷ []) (insert groups i r)
-grouped-push rs groups i r f g = record {
-  order = ascend-insert groups i r g.order f;
-  same = λ o. filter-insert o groups i r f ∙ ap (λ (ys : List Reader). ys ++ filter (reads o) (r ∷ [])) (g.same o) ∙ sym (filter-append (reads o) rs (r ∷ []));
-}
-
--- one less
-
--- what holds of each in every group holds of all
-of-groups : (P : Reader → Type 0) (rs : List Reader) → ((o : ℕ) → AllByRecursion P (filter (reads o) rs)) → AllByRecursion P rs
-of-groups P [] f = tt
-of-groups P (r ∷ rs) f = (
-  (subst (λ (b : Bool). AllByRecursion P (cond b (r ∷ filter (reads r.opening) rs) (filter (reads r.opening) rs))) (same-as r.opening r.opening refl) (f r.opening)).0,
-  of-groups P rs (λ o. by o (reads o r) (f o)),
-)
-  where
-    by : (o : ℕ) (b : Bool) → AllByRecursion P (cond b (r ∷ filter (reads o) rs) (filter (reads o) rs)) → AllByRecursion P (filter (reads o) rs)
-    by o true a = a.1
-    by o false a = a
-
-pub through-groups : (P : Reader → Type 0) (rs groups : List Reader) → AreGrouped rs groups → AllByRecursion P rs → AllByRecursion P groups
-through-groups P rs groups g a = of-groups P groups (λ o. subst (AllByRecursion P) (sym (g.same o)) (all-filter P (reads o) rs a))
 
 filters-turn : {X : Type 0} (p q : X → Bool) (xs : List X) → filter p (filter q xs) ≡ filter q (filter p xs)
 filters-turn p q [] = refl
@@ -183,66 +70,183 @@ ascend-filter {X = X} n p (x ∷ xs) r = by (p x) (ascend-filter n p xs r.1)
     by true h = (all-filter (λ y. n x ≤ n y) p xs r.0, h)
     by false h = h
 
-pub grouped-filter : (p : Reader → Bool) (rs groups : List Reader) → AreGrouped rs groups → AreGrouped (filter p rs) (filter p groups)
-grouped-filter p rs groups g = record {
-  order = ascend-filter opening_read p groups g.order;
-  same = λ o. filters-turn (reads o) p groups ∙ ap (filter p) (g.same o) ∙ filters-turn p (reads o) rs;
-}
-
--- where one stands whose exchange is known
-
-abbrev pub AreThere : ℕ → ℕ → List Reader → Type 0
-AreThere k o rs = AllByRecursion (λ (r : Reader). has_ask k r ≡ true → r.opening ≡ o) rs
-
-not-there : (k o : ℕ) (r : Reader) → (has_ask k r ≡ true → r.opening ≡ o) → r.opening ≢ o → has_ask k r ≡ false
-not-there k o r there differs = elim (cases_Bool (has_ask k r)) [ inl h ↦ absurd (differs (there h)) | inr h ↦ h ]
-
-pub nowhere-read : (k o : ℕ) (rs : List Reader) → AreThere k o rs → IsNowhere (has_ask k) (filter (reads o) rs) → IsNowhere (has_ask k) rs
-nowhere-read k o [] there none = tt
-nowhere-read k o (r ∷ rs) there none = by (reads o r) refl none (nowhere-read k o rs there.1)
-  where
-    by : (b : Bool) → reads o r ≡ b → IsNowhere (has_ask k) (cond b (r ∷ filter (reads o) rs) (filter (reads o) rs))
-        → (IsNowhere (has_ask k) (filter (reads o) rs) → IsNowhere (has_ask k) rs) → IsNowhere (has_ask k) (r ∷ rs)
-    by true is h f = (h.0, f h.1)
-    by false is h f = (not-there k o r there.0 (λ e. false≢true (sym is ∙ same-as r.opening o e)), f h)
-
 greater : (a b : ℕ) → a ≤ b → b ≢ a → a + 1 ≤ b
 greater zero zero le d = absurd (d refl)
 greater zero (suc b) le d = omega arith
 greater (suc a) zero le d = absurd (omega (arith, le))
 greater (suc a) (suc b) le d = let rest = greater a b (omega (arith, le)) (λ e. d (ap suc e)) in omega (arith, rest)
 
-pub only-read : (k o : ℕ) (rs : List Reader) (i m : ℕ) → Ascend opening_read rs → IsFirstFrom o rs i → AreThere k o rs → IsOnlyAt (has_ask k) (filter (reads o) rs) m → IsOnlyAt (has_ask k) rs (i + m)
-only-read k o [] zero m order f there only = absurd only
-only-read k o [] (suc i) m order f there only = absurd only
-only-read k o (r ∷ rs) (suc i) m order f there only =
-    let w = f.within in
-    let below = f.before.0 in
-    let differs : r.opening ≢ o = λ e. absurd (omega (arith, e, below)) in
-    let here = reads-other o r differs in
-    let next : suc i + m ≡ suc (i + m) = omega arith in
-    subst (IsOnlyAt (has_ask k) (r ∷ rs)) (sym next)
-    (not-there k o r there.0 differs, only-read k o rs i m order.1 (record { within = omega (arith, w); before = f.before.1; from = f.from }) there.1 (rw here at only))
-only-read k o (r ∷ rs) zero m order f there only =
-    by (reads o r) refl m only (λ n. only-read k o rs zero n order.1 (record { within = omega arith; before = tt; from = f.from.1 }) there.1)
-  where
-    by : (b : Bool) → reads o r ≡ b → (m : ℕ) → IsOnlyAt (has_ask k) (cond b (r ∷ filter (reads o) rs) (filter (reads o) rs)) m
-        → ((n : ℕ) → IsOnlyAt (has_ask k) (filter (reads o) rs) n → IsOnlyAt (has_ask k) rs (zero + n)) → IsOnlyAt (has_ask k) (r ∷ rs) (zero + m)
-    by true is zero h f = (h.0, nowhere-read k o rs there.1 h.1)
-    by true is (suc n) h f =
-        subst (IsOnlyAt (has_ask k) (r ∷ rs)) (let e : suc n ≡ zero + suc n = omega arith in e)
-        (h.0, subst (IsOnlyAt (has_ask k) rs) (let e : zero + n ≡ n = omega arith in e) (f n h.1))
-    by false is m h g =
-        let from = f.from.0 in
-        let above : o + 1 ≤ r.opening = greater o r.opening from (λ e. false≢true (sym is ∙ same-as r.opening o e)) in
-        let none : filter (reads o) rs ≡ [] = above-none o rs (all-more (λ (y : Reader). r.opening ≤ y.opening) (λ (y : Reader). o + 1 ≤ y.opening) (λ y le. omega (arith, le, above)) rs order.0) in
-        absurd (subst (λ (ys : List Reader). IsOnlyAt (has_ask k) ys m) none h)
+-- where those of one number stand, by two searches
 
--- the one that has the ask reads what it reads
-pub only-there : (k : ℕ) (rs : List Reader) (i : ℕ) (d : Reader) → IsOnlyAt (has_ask k) rs i → AreThere k (get_or rs i d).opening rs
-only-there k [] i d only = tt
-only-there k (r ∷ rs) zero d only = (λ h. refl, all-more (λ (y : Reader). has_ask k y ≡ false) (λ (y : Reader). has_ask k y ≡ true → y.opening ≡ r.opening) (λ y no yes. absurd (false≢true (sym no ∙ yes))) rs only.1)
-only-there k (r ∷ rs) (suc i) d only = (λ h. absurd (false≢true (sym only.0 ∙ h)), only-there k rs i d only.1)
+module _ {X : Type 0} (num : X → ℕ) where
+  pub first-is : (o : ℕ) (rs : List X) (i : ℕ) → i ≤ length rs → Splits num o rs i → IsFirstFrom num o rs i
+  first-is o rs i within split = record {
+    within = within;
+    before = all-front (λ (r : X). num r < o) rs i (λ k d less lt. ltb-true (num (get_or rs k d)) o (split.0 k d (omega arith) less));
+    from = all-back (λ (r : X). o ≤ num r) rs i (λ k d le lt. ltb-false (num (get_or rs k d)) o (split.1 k d le lt));
+  }
+
+  -- the place of what was opened later isn't before
+
+  pub first-below : (o : ℕ) (rs : List X) (i j : ℕ) → IsFirstFrom num o rs i → IsFirstFrom num (o + 1) rs j → i ≤ j
+  first-below o [] zero j f g = omega arith
+  first-below o [] (suc i) j f g = absurd (let w = f.within in omega (arith, w))
+  first-below o (r ∷ rs) zero j f g = omega arith
+  first-below o (r ∷ rs) (suc i) zero f g = absurd (let below = f.before.0 in let above = g.from.0 in omega (arith, below, above))
+  first-below o (r ∷ rs) (suc i) (suc j) f g =
+      let w = f.within in
+      let v = g.within in
+      let rest = first-below o rs i j (record { within = omega (arith, w); before = f.before.1; from = f.from }) (record { within = omega (arith, v); before = g.before.1; from = g.from }) in
+      omega (arith, rest)
+
+  -- between the two stand those who wait for the exchange
+
+  reads-it : (o : ℕ) (r : X) → o ≤ num r → num r < o + 1 → is_by num o r ≡ true
+  reads-it o r le lt = same-as (num r) o (omega (arith, le, lt))
+
+  reads-other : (o : ℕ) (r : X) → num r ≢ o → is_by num o r ≡ false
+  reads-other o r differs = elim (eqb_tells (num r) o) [ inl w ↦ absurd (differs w.1) | inr w ↦ w.0 ]
+
+  above-none : (o : ℕ) (rs : List X) → AllByRecursion (λ (r : X). o + 1 ≤ num r) rs → filter (is_by num o) rs ≡ []
+  above-none o [] a = refl
+  above-none o (r ∷ rs) a =
+      let above = a.0 in rw (reads-other o r (λ e. absurd (omega (arith, e, above)))) (above-none o rs a.1)
+
+  pub group-is : (o : ℕ) (rs : List X) (i j : ℕ) → IsFirstFrom num o rs i → IsFirstFrom num (o + 1) rs j → take (j - i) (drop i rs) ≡ filter (is_by num o) rs
+  group-is o [] zero j f g = take-none (j - 0)
+  group-is o [] (suc i) j f g = absurd (let w = f.within in omega (arith, w))
+  group-is o (r ∷ rs) zero zero f g = so-many (0 - 0) 0 (r ∷ rs) (omega arith) ∙ sym (above-none o (r ∷ rs) g.from)
+  group-is o (r ∷ rs) zero (suc j) f g =
+      let w = g.within in
+      let here = reads-it o r f.from.0 g.before.0 in
+      let rest = group-is o rs zero j (record { within = omega arith; before = tt; from = f.from.1 }) (record { within = omega (arith, w); before = g.before.1; from = g.from }) in
+      so-many (suc j - 0) (suc j) (r ∷ rs) (omega arith)
+      ∙ ap (λ (xs : List X). r ∷ xs) (so-many j (j - 0) rs (omega arith) ∙ rest)
+      ∙ ap (λ (b : Bool). cond b (r ∷ filter (is_by num o) rs) (filter (is_by num o) rs)) (sym here)
+  group-is o (r ∷ rs) (suc i) zero f g = absurd (let below = f.before.0 in let above = g.from.0 in omega (arith, below, above))
+  group-is o (r ∷ rs) (suc i) (suc j) f g =
+      let w = f.within in
+      let v = g.within in
+      let below = f.before.0 in
+      let here = reads-other o r (λ e. absurd (omega (arith, e, below))) in
+      let rest = group-is o rs i j (record { within = omega (arith, w); before = f.before.1; from = f.from }) (record { within = omega (arith, v); before = g.before.1; from = g.from }) in
+      so-many (suc j - suc i) (j - i) (drop i rs) (omega arith)
+      ∙ rest
+      ∙ ap (λ (b : Bool). cond b (r ∷ filter (is_by num o) rs) (filter (is_by num o) rs)) (sym here)
+
+  -- one more, after those who wait for the same exchange
+
+  ascend-insert : (rs : List X) (i : ℕ) (r : X) → Ascend num rs → IsFirstFrom num (num r + 1) rs i → Ascend num (insert rs i r)
+  ascend-insert [] zero r order f = (tt, tt)
+  ascend-insert [] (suc i) r order f = (tt, tt)
+  ascend-insert (x ∷ xs) zero r order f = (all-more (λ (y : X). num r + 1 ≤ num y) (λ (y : X). num r ≤ num y) (λ y le. omega (arith, le)) (x ∷ xs) f.from, order)
+  ascend-insert (x ∷ xs) (suc i) r order f =
+      let w = f.within in
+      let below = f.before.0 in (
+        all-insert (λ (y : X). num x ≤ num y) xs i r order.0 (omega (arith, below)),
+        ascend-insert xs i r order.1 (record { within = omega (arith, w); before = f.before.1; from = f.from }),
+      )
+
+  filter-insert : (o : ℕ) (rs : List X) (i : ℕ) (r : X) → IsFirstFrom num (num r + 1) rs i → filter (is_by num o) (insert rs i r) ≡ filter (is_by num o) rs ++ filter (is_by num o) (r ∷ [])
+  filter-insert o [] zero r f = refl
+  filter-insert o [] (suc i) r f = refl
+  filter-insert o (x ∷ xs) zero r f = by (is_by num o r) refl
+    where
+      by : (b : Bool) → is_by num o r ≡ b → cond b (r ∷ filter (is_by num o) (x ∷ xs)) (filter (is_by num o) (x ∷ xs)) ≡ filter (is_by num o) (x ∷ xs) ++ cond b (r ∷ []) []
+      by true is =
+          let none : filter (is_by num o) (x ∷ xs) ≡ [] = above-none o (x ∷ xs) (subst (λ (n : ℕ). AllByRecursion (λ (y : X). n + 1 ≤ num y) (x ∷ xs)) (eqb-true (num r) o is) f.from) in
+          ap (λ (ys : List X). r ∷ ys) none ∙ ap (λ (ys : List X). ys ++ r ∷ []) (sym none)
+      by false is = sym (append-none (filter (is_by num o) (x ∷ xs)))
+        where
+          append-none : (ys : List X) → ys ++ [] ≡ ys
+          append-none [] = refl
+          append-none (y ∷ ys) = ap (λ (zs : List X). y ∷ zs) (append-none ys)
+  filter-insert o (x ∷ xs) (suc i) r f =
+      let w = f.within in
+      by (is_by num o x) (filter-insert o xs i r (record { within = omega (arith, w); before = f.before.1; from = f.from }))
+    where
+      by : (b : Bool) → filter (is_by num o) (insert xs i r) ≡ filter (is_by num o) xs ++ filter (is_by num o) (r ∷ [])
+          → cond b (x ∷ filter (is_by num o) (insert xs i r)) (filter (is_by num o) (insert xs i r)) ≡ cond b (x ∷ filter (is_by num o) xs) (filter (is_by num o) xs) ++ filter (is_by num o) (r ∷ [])
+      by true h = ap (λ (ys : List X). x ∷ ys) h
+      by false h = h
+
+  pub grouped-push : (rs groups : List X) (i : ℕ) (r : X) → IsFirstFrom num (num r + 1) groups i → AreGrouped num rs groups → AreGrouped num (rs ++ r ∷ []) (insert groups i r)
+  grouped-push rs groups i r f g = record {
+    order = ascend-insert groups i r g.order f;
+    same = λ o. filter-insert o groups i r f ∙ ap (λ (ys : List X). ys ++ filter (is_by num o) (r ∷ [])) (g.same o) ∙ sym (filter-append (is_by num o) rs (r ∷ []));
+  }
+
+  -- one less
+
+  -- what holds of each in every group holds of all
+  of-groups : (P : X → Type 0) (rs : List X) → ((o : ℕ) → AllByRecursion P (filter (is_by num o) rs)) → AllByRecursion P rs
+  of-groups P [] f = tt
+  of-groups P (r ∷ rs) f = (
+    (subst (λ (b : Bool). AllByRecursion P (cond b (r ∷ filter (is_by num (num r)) rs) (filter (is_by num (num r)) rs))) (same-as (num r) (num r) refl) (f (num r))).0,
+    of-groups P rs (λ o. by o (is_by num o r) (f o)),
+  )
+    where
+      by : (o : ℕ) (b : Bool) → AllByRecursion P (cond b (r ∷ filter (is_by num o) rs) (filter (is_by num o) rs)) → AllByRecursion P (filter (is_by num o) rs)
+      by o true a = a.1
+      by o false a = a
+
+  pub through-groups : (P : X → Type 0) (rs groups : List X) → AreGrouped num rs groups → AllByRecursion P rs → AllByRecursion P groups
+  through-groups P rs groups g a = of-groups P groups (λ o. subst (AllByRecursion P) (sym (g.same o)) (all-filter P (is_by num o) rs a))
+
+  pub grouped-filter : (p : X → Bool) (rs groups : List X) → AreGrouped num rs groups → AreGrouped num (filter p rs) (filter p groups)
+  grouped-filter p rs groups g = record {
+    order = ascend-filter num p groups g.order;
+    same = λ o. filters-turn (is_by num o) p groups ∙ ap (filter p) (g.same o) ∙ filters-turn p (is_by num o) rs;
+  }
+
+  -- where one stands whose exchange is known
+
+  abbrev pub AreThere : (X → Bool) → ℕ → List X → Type 0
+  AreThere q o rs = AllByRecursion (λ (r : X). q r ≡ true → num r ≡ o) rs
+
+  not-there : (q : X → Bool) (o : ℕ) (r : X) → (q r ≡ true → num r ≡ o) → num r ≢ o → q r ≡ false
+  not-there q o r there differs = elim (cases_Bool (q r)) [ inl h ↦ absurd (differs (there h)) | inr h ↦ h ]
+
+  pub nowhere-read : (q : X → Bool) (o : ℕ) (rs : List X) → AreThere q o rs → IsNowhere q (filter (is_by num o) rs) → IsNowhere q rs
+  nowhere-read q o [] there none = tt
+  nowhere-read q o (r ∷ rs) there none = by (is_by num o r) refl none (nowhere-read q o rs there.1)
+    where
+      by : (b : Bool) → is_by num o r ≡ b → IsNowhere q (cond b (r ∷ filter (is_by num o) rs) (filter (is_by num o) rs))
+          → (IsNowhere q (filter (is_by num o) rs) → IsNowhere q rs) → IsNowhere q (r ∷ rs)
+      by true is h f = (h.0, f h.1)
+      by false is h f = (not-there q o r there.0 (λ e. false≢true (sym is ∙ same-as (num r) o e)), f h)
+
+  pub only-read : (q : X → Bool) (o : ℕ) (rs : List X) (i m : ℕ) → Ascend num rs → IsFirstFrom num o rs i → AreThere q o rs → IsOnlyAt q (filter (is_by num o) rs) m → IsOnlyAt q rs (i + m)
+  only-read q o [] zero m order f there only = absurd only
+  only-read q o [] (suc i) m order f there only = absurd only
+  only-read q o (r ∷ rs) (suc i) m order f there only =
+      let w = f.within in
+      let below = f.before.0 in
+      let differs : num r ≢ o = λ e. absurd (omega (arith, e, below)) in
+      let here = reads-other o r differs in
+      let next : suc i + m ≡ suc (i + m) = omega arith in
+      subst (IsOnlyAt q (r ∷ rs)) (sym next)
+      (not-there q o r there.0 differs, only-read q o rs i m order.1 (record { within = omega (arith, w); before = f.before.1; from = f.from }) there.1 (rw here at only))
+  only-read q o (r ∷ rs) zero m order f there only =
+      by (is_by num o r) refl m only (λ n. only-read q o rs zero n order.1 (record { within = omega arith; before = tt; from = f.from.1 }) there.1)
+    where
+      by : (b : Bool) → is_by num o r ≡ b → (m : ℕ) → IsOnlyAt q (cond b (r ∷ filter (is_by num o) rs) (filter (is_by num o) rs)) m
+          → ((n : ℕ) → IsOnlyAt q (filter (is_by num o) rs) n → IsOnlyAt q rs (zero + n)) → IsOnlyAt q (r ∷ rs) (zero + m)
+      by true is zero h f = (h.0, nowhere-read q o rs there.1 h.1)
+      by true is (suc n) h f =
+          subst (IsOnlyAt q (r ∷ rs)) (let e : suc n ≡ zero + suc n = omega arith in e)
+          (h.0, subst (IsOnlyAt q rs) (let e : zero + n ≡ n = omega arith in e) (f n h.1))
+      by false is m h g =
+          let from = f.from.0 in
+          let above : o + 1 ≤ num r = greater o (num r) from (λ e. false≢true (sym is ∙ same-as (num r) o e)) in
+          let none : filter (is_by num o) rs ≡ [] = above-none o rs (all-more (λ (y : X). num r ≤ num y) (λ (y : X). o + 1 ≤ num y) (λ y le. omega (arith, le, above)) rs order.0) in
+          absurd (subst (λ (ys : List X). IsOnlyAt q ys m) none h)
+
+  -- the one that has the ask reads what it reads
+  pub only-there : (q : X → Bool) (rs : List X) (i : ℕ) (d : X) → IsOnlyAt q rs i → AreThere q (num (get_or rs i d)) rs
+  only-there q [] i d only = tt
+  only-there q (r ∷ rs) zero d only = (λ h. refl, all-more (λ (y : X). q y ≡ false) (λ (y : X). q y ≡ true → num y ≡ num r) (λ y no yes. absurd (false≢true (sym no ∙ yes))) rs only.1)
+  only-there q (r ∷ rs) (suc i) d only = (λ h. absurd (false≢true (sym only.0 ∙ h)), only-there q rs i d only.1)
 
 -- Who waits on a connection, by what that waits for.
 

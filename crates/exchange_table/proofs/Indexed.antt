@@ -156,7 +156,7 @@ out-names token i e = by (is_under token e)
 
 -- one less
 
-others-apart : (q : Exchange → Bool) (es : List Exchange) (i : ℕ) (d : Exchange) → RiseBy opening_of es → IsOnlyAt q es i → i < length es
+pub others-apart : (q : Exchange → Bool) (es : List Exchange) (i : ℕ) (d : Exchange) → RiseBy opening_of es → IsOnlyAt q es i → i < length es
     → AllByRecursion (λ (e : Exchange). q e ≡ false → e.opening ≢ (get_or es i d).opening) es
 others-apart q [] i d rise only lt = tt
 others-apart q (e ∷ es) zero d rise only lt = (

@@ -6,3 +6,6 @@ mod Outrun
 mod Reading
 mod Grouping
 mod Owning
+mod Marking
+mod Joined
+mod Among

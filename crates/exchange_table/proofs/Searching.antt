@@ -130,6 +130,9 @@ rise-push n (x ∷ xs) y r above = (all-push (λ z. n x < n z) xs y r.0 above.0,
 pub same-as : (a b : ℕ) → a ≡ b → eqb a b ≡ true
 same-as a b e = eq-eqb a b e
 
+pub below-other : (a b : ℕ) → a < b → eqb a b ≡ false
+below-other a b lt = elim (eqb_tells a b) [ inl w ↦ absurd (let same = w.1 in omega (arith, lt, same)) | inr w ↦ w.0 ]
+
 pub unequal : (a b : ℕ) → a ≢ b → not (eqb a b) ≡ true
 unequal a b differs = elim (eqb_tells a b) [ inl w ↦ absurd (differs w.1) | inr w ↦ ap not w.0 ]
 

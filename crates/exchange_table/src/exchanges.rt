@@ -3,12 +3,16 @@
 ghost use Rattle.std.specs.Prelude.{◌≡◌, ◌∷◌, ◌++◌, [], Bool, true, false, filter, find, length, map, IfOk, OnErr, OnOk};
 ghost use Rattle.std.specs.Option.{option_copied};
 ghost use Rattle.exchange_model.specs.declared.kept.Exchange.{Exchange as Row};
-ghost use Rattle.exchange_model.specs.Steps.{is_other, is_under, left_by, outdated_by, read_at, went_out};
-ghost use Rattle.exchange_table.specs.Tables.{IsIndexed, IsLatest, IsNewest, went_on};
+ghost use Rattle.std.specs.List.{AllByRecursion};
+ghost use Rattle.exchange_model.specs.Steps.{IsDigested, is_other, is_under, left_by, outdated_by, read_at, went_out};
+ghost use Rattle.exchange_table.specs.Joining.{is_joined_by};
+ghost use Rattle.exchange_table.specs.Tables.{IsLatest, IsNewest, went_on};
 
 use crate::index::{self, Named};
-use crate::{outrunning, rows};
-use cache_key::Key;
+use crate::marks::{self, Mark};
+use crate::{joining, outrunning, rows};
+use ask_model::Mapped;
+use cache_key::{Digests, Key};
 use coap_codec::Token;
 use exchange_model::{Exchange, Work};
 use journal_book::Journal;
@@ -22,21 +26,28 @@ pub struct Exchanges {
     rows: Vec<Exchange>,
     /// the same ones, in the order in which the tokens of their latest messages were issued
     names: Vec<Named>,
+    /// the marks of the same ones by their keys
+    keys: Vec<Mark>,
+    /// and by their places
+    places: Vec<Mark>,
 }
 
 impl Model for Exchanges {
-    ghost use Rattle.std.specs.Prelude.{vec_capacity, vec_len};
-    ghost use Rattle.exchange_table.specs.Tables.{IsIndexed, TableValue, has_room};
+    ghost use Rattle.std.specs.Prelude.{◌&&◌, vec_capacity, vec_len};
+    ghost use Rattle.exchange_table.specs.Marks.{IsTable};
+    ghost use Rattle.exchange_table.specs.Tables.{TableValue, has_room};
 
     ghost Value = { TableValue };
 
     ghost view = { λ t. record {
       exchanges = t.rows.items;
       room = has_room (vec_len t.rows) (vec_capacity t.rows)
-          (vec_len t.names) (vec_capacity t.names);
+          (vec_len t.names) (vec_capacity t.names)
+          && has_room (vec_len t.keys) (vec_capacity t.keys)
+          (vec_len t.places) (vec_capacity t.places);
     } };
 
-    ghost invariant = { λ t. IsIndexed t.rows.items t.names.items };
+    ghost invariant = { λ t. IsTable t.rows.items t.names.items t.keys.items t.places.items };
 }
 
 impl Exchanges {
@@ -50,6 +61,8 @@ impl Exchanges {
         Exchanges {
             rows: Vec::new(alloc),
             names: Vec::new(alloc),
+            keys: Vec::new(alloc),
+            places: Vec::new(alloc),
         }
     }
 
@@ -68,6 +81,16 @@ impl Exchanges {
         rows::row_under(&self.rows, &self.names, token)
     }
 
+    /// The exchange that the request joins, where each has the digests of what it was opened for.
+    /// No other is looked at than those whose keys have the digest of what it reads.
+    pub fn joined<R: Relation>(&self, journal: &Journal<R>, mapped: &Mapped<R>) -> Option<&Exchange>
+        requires { AllByRecursion (IsDigested journal.now.entries) self.now.exchanges }
+        ensures { option_copied result
+            ≡ find (is_joined_by journal.now.entries mapped.now.sense) self.now.exchanges }
+    {
+        joining::joined(&self.rows, &self.keys, journal, mapped)
+    }
+
     /// Makes room for one more, so that opening it takes no memory.
     pub fn make_room(&mut self) -> Result<(), AllocError>
         ensures same { self.new.exchanges ≡ self.old.exchanges }
@@ -76,6 +99,8 @@ impl Exchanges {
     {
         self.rows.try_reserve(1)?;
         self.names.try_reserve(1)?;
+        self.keys.try_reserve(1)?;
+        self.places.try_reserve(1)?;
         Ok(())
     }
 
@@ -89,6 +114,9 @@ impl Exchanges {
             number: index::number_of(&exchange.token),
             opening: exchange.opening,
         });
+        let Digests { key, place } = exchange.digests;
+        marks::put_mark(&mut self.keys, key, exchange.opening);
+        marks::put_mark(&mut self.places, place, exchange.opening);
         self.rows.push_reserved(exchange);
     }
 
@@ -121,30 +149,39 @@ impl Exchanges {
         rows::read(&mut self.rows, opening, moment);
     }
 
-    /// A notification of this key counts: what exchanges fetch of that is out of date. It takes no
-    /// memory.
+    /// A notification of this key counts: what exchanges fetch of that is out of date. No other is
+    /// looked at than those whose keys have its digest. It takes no memory.
     pub fn outdate<R: Relation>(&mut self, journal: &Journal<R>, key: &Key)
+        requires { AllByRecursion (IsDigested journal.now.entries) self.old.exchanges }
         ensures exchanges { self.new.exchanges
             ≡ map (outdated_by journal.now.entries key.now) self.old.exchanges }
         ensures room { self.new.room ≡ self.old.room }
     {
-        outrunning::outdate(&mut self.rows, journal, key);
+        outrunning::outdate(&mut self.rows, &self.keys, journal, key);
     }
 
-    /// An exchange has ended: where it was a write, GETs join those of its place no more.
+    /// An exchange has ended: where it was a write, GETs join those of its place no more. No other
+    /// is looked at than those whose places have its digest.
     pub fn outrun<R: Relation>(&mut self, journal: &Journal<R>, ended: &Exchange)
+        requires { AllByRecursion (IsDigested journal.now.entries) self.old.exchanges }
         ensures exchanges { self.new.exchanges
             ≡ left_by journal.now.entries (ended.now ∷ []) self.old.exchanges }
         ensures room { self.new.room ≡ self.old.room }
     {
-        outrunning::outrun(&mut self.rows, journal, ended);
+        outrunning::outrun(&mut self.rows, &self.places, journal, ended);
     }
 
     /// Takes out the exchange whose latest message goes under the token.
     pub fn remove(&mut self, token: &Token)
         ensures { self.new.exchanges ≡ filter (is_other token.now) self.old.exchanges }
     {
-        rows::remove(&mut self.rows, &mut self.names, token);
+        rows::remove(
+            &mut self.rows,
+            &mut self.names,
+            &mut self.keys,
+            &mut self.places,
+            token,
+        );
     }
 
     /// The table of those of its exchanges that are given, in order.
@@ -153,7 +190,14 @@ impl Exchanges {
         ensures { IfOk result (λ t. t.exchanges ≡ rows.items) }
     {
         let names = index::names_of_rows(alloc, &self.names, &rows)?;
-        Ok(Exchanges { rows, names })
+        let keys = marks::marks_of_rows(alloc, &self.keys, &rows)?;
+        let places = marks::marks_of_rows(alloc, &self.places, &rows)?;
+        Ok(Exchanges {
+            rows,
+            names,
+            keys,
+            places,
+        })
     }
 
     /// The same exchanges.
@@ -163,6 +207,8 @@ impl Exchanges {
         Ok(Exchanges {
             rows: Vec::from_slice(alloc, &self.rows)?,
             names: Vec::from_slice(alloc, &self.names)?,
+            keys: Vec::from_slice(alloc, &self.keys)?,
+            places: Vec::from_slice(alloc, &self.places)?,
         })
     }
 }

@@ -5,7 +5,8 @@ ghost use Rattle.std.specs.Prelude.{◌≡◌, ◌≤◌, ◌<◌, ◌∷◌, �
 ghost use Rattle.std.specs.List.{AllByRecursion};
 ghost use Rattle.exchange_model.specs.declared.kept.Reader.{Reader as Row};
 ghost use Rattle.exchange_table.specs.Places.{RiseBy, IsOnlyAt, IsNowhere};
-ghost use Rattle.exchange_table.specs.Readers.{AreGrouped, Ascend, IsFirstFrom, ask_in, has_ask, opening_read, reads};
+ghost use Rattle.exchange_table.specs.Groups.{AreGrouped, Ascend, IsFirstFrom};
+ghost use Rattle.exchange_table.specs.Readers.{ask_in, has_ask, opening_read, reads};
 
 use exchange_model::Reader;
 
@@ -28,7 +29,7 @@ pub fn reader_place(readers: &[Reader], ask: u32) -> Option<usize>
 /// The first place of those who read what the entry with this number opened, or a later one.
 fn first_from(groups: &[Reader], opening: u64) -> usize
     requires { Ascend opening_read groups.now }
-    ensures { IsFirstFrom opening groups.now result }
+    ensures { IsFirstFrom opening_read opening groups.now result }
 {
     groups.partition_point(
         |reader: &Reader| -> bool
@@ -51,8 +52,8 @@ pub fn group_of(groups: &[Reader], opening: u32) -> &[Reader]
 pub fn put_last(groups: &mut Vec<Reader>, reader: Reader)
     requires order { Ascend opening_read groups.old.items }
     requires place { vec_len groups.old < vec_capacity groups.old }
-    ensures { (rs : List Row) → AreGrouped rs groups.old.items
-        → AreGrouped (rs ++ reader ∷ []) groups.new.items }
+    ensures { (rs : List Row) → AreGrouped opening_read rs groups.old.items
+        → AreGrouped opening_read (rs ++ reader ∷ []) groups.new.items }
 {
     let place = first_from(groups.as_slice(), u64::from(reader.opening) + 1);
     if groups.insert(place, reader).is_err() {

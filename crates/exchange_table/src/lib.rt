@@ -2,17 +2,21 @@
 //!
 //! One contract: a table is the list of its exchanges, whatever stands behind it. An exchange is found
 //! by the token of its latest message through an index of its own, so that tokens needn't rise as
-//! openings do: an exchange of several messages has a new token for each. Beside the exchanges stand
-//! the pieces that those of several messages have fetched, and who waits for them.
+//! openings do: an exchange of several messages has a new token for each. Those that a GET may join,
+//! that a notification outdates or that a write outruns are found by digests of their keys and
+//! places, through the marks. Beside the exchanges stand the pieces that those of several messages
+//! have fetched, and who waits for them.
 //!
 //! The definitions stand in `specs/`, to be read in this order: `Places`, `Tables`,
-//! `Outrunning`, `Fetched`, `Readers`.
+//! `Outrunning`, `Fetched`, `Groups`, `Readers`, `Marks`, `Joining`.
 #![tactic(auto)]
 
 mod exchanges;
 mod fetched;
 mod groups;
 mod index;
+mod joining;
+mod marks;
 mod outrunning;
 mod owners;
 mod places;

@@ -1,17 +1,22 @@
-//! Exchanges that a write outruns.
+//! Exchanges that a write outruns, and those that a notification outdates, found by digests.
 
 ghost use Rattle.std.specs.Prelude.{◌≡◌, ◌∷◌, [], map, option_and_then};
-ghost use Rattle.exchange_model.specs.Steps.{asked_in, left_by, outdated_by, request_in};
-ghost use Rattle.exchange_table.specs.Outrunning.{is_write, outrun_with};
+ghost use Rattle.std.specs.List.{AllByRecursion};
+ghost use Rattle.cache_key.specs.Digests.{digests_of};
+ghost use Rattle.cache_key.specs.Keys.{key_of};
+ghost use Rattle.exchange_model.specs.Steps.{IsDigested, asked_in, left_by, outdated_by, request_in};
+ghost use Rattle.exchange_table.specs.Marks.{AreMarked, key_in, place_in};
+ghost use Rattle.exchange_table.specs.Outrunning.{only_at, outrun_with};
+ghost use Rattle.exchange_table.specs.Places.{RiseBy};
+ghost use Rattle.exchange_table.specs.Tables.{opening_of};
 
-use ask_model::{Mapped, Meaning};
-use cache_key::Key;
+use crate::marks::{Mark, marked};
+use crate::places::opening_place;
+use ask_model::Mapped;
+use cache_key::{Digests, Key, Reading};
 use exchange_model::Exchange;
 use journal_book::{Event, Journal};
 use transformers::Relation;
-
-/// The code of a GET (RFC 7252 section 12.1.1).
-const GET: u8 = 1;
 
 /// The request of the ask in the entry with this number, if one is there.
 pub fn asked<R: Relation>(journal: &Journal<R>, ask: u32) -> Option<&Mapped<R>>
@@ -21,16 +26,6 @@ pub fn asked<R: Relation>(journal: &Journal<R>, ask: u32) -> Option<&Mapped<R>>
     match &journal.get(ask as usize)?.event {
         Event::Asked(_, mapped) => Some(mapped),
         _ => None,
-    }
-}
-
-/// Whether the request may change what is read at its place, as any but a GET may (RFC 7252 section 5.8).
-fn is_write<R: Relation>(mapped: &Mapped<R>) -> bool
-    ensures { result ≡ is_write (request_in mapped.now.sense) }
-{
-    match mapped.meaning() {
-        Meaning::Ask { method, .. } => method.code() != GET,
-        Meaning::Refuse(_, _) => false,
     }
 }
 
@@ -45,18 +40,51 @@ fn outrun_row<R: Relation>(row: &mut Exchange, journal: &Journal<R>, write: &Map
     }
 }
 
+/// The same of the row that the entry with this number opened.
+fn outrun_at<R: Relation>(
+    rows: &mut [Exchange],
+    opening: u32,
+    journal: &Journal<R>,
+    write: &Mapped<R>,
+)
+    requires { RiseBy opening_of rows.old }
+    ensures { rows.new ≡ map (only_at opening
+        (outrun_with (request_in write.now.sense) journal.now.entries)) rows.old }
+{
+    if let Some(place) = opening_place(rows, opening) {
+        outrun_row(&mut rows[place], journal, write);
+    }
+}
+
+/// The digest of the place that is read or changed.
+fn place_digest(reading: &Reading<'_>) -> u64
+    ensures { let key = key_of reading.now.peer reading.now.target.now reading.now.accept in
+        result ≡ (digests_of key).place }
+{
+    Digests::of(&reading.peer, reading.target, reading.accept).place
+}
+
 /// An exchange has ended: where it was a write, GETs join the exchanges of its place no more.
-pub fn outrun<R: Relation>(rows: &mut [Exchange], journal: &Journal<R>, ended: &Exchange)
+pub fn outrun<R: Relation>(
+    rows: &mut [Exchange],
+    places: &[Mark],
+    journal: &Journal<R>,
+    ended: &Exchange,
+)
+    requires ordered { RiseBy opening_of rows.old }
+    requires placed { AreMarked place_in rows.old places.now }
+    requires digested { AllByRecursion (IsDigested journal.now.entries) rows.old }
     ensures { rows.new ≡ left_by journal.now.entries (ended.now ∷ []) rows.old }
 {
     let Some(write) = asked(journal, ended.opening) else {
         return;
     };
-    if !is_write(write) {
+    let Some(place) = write.writing() else {
         return;
-    }
-    'each: for i in 0..rows.len() {
-        outrun_row(&mut rows[i], journal, write);
+    };
+    let alike = marked(places, place_digest(&place));
+    'each: for mark in alike {
+        outrun_at(rows, mark.opening, journal, write);
     }
 }
 
@@ -74,11 +102,26 @@ fn outdate_row<R: Relation>(row: &mut Exchange, journal: &Journal<R>, key: &Key)
     }
 }
 
+/// The same of the row that the entry with this number opened.
+fn outdate_at<R: Relation>(rows: &mut [Exchange], opening: u32, journal: &Journal<R>, key: &Key)
+    requires { RiseBy opening_of rows.old }
+    ensures { rows.new
+        ≡ map (only_at opening (outdated_by journal.now.entries key.now)) rows.old }
+{
+    if let Some(place) = opening_place(rows, opening) {
+        outdate_row(&mut rows[place], journal, key);
+    }
+}
+
 /// A notification of this key counts: what is fetched of that is out of date.
-pub fn outdate<R: Relation>(rows: &mut [Exchange], journal: &Journal<R>, key: &Key)
+pub fn outdate<R: Relation>(rows: &mut [Exchange], keys: &[Mark], journal: &Journal<R>, key: &Key)
+    requires ordered { RiseBy opening_of rows.old }
+    requires keyed { AreMarked key_in rows.old keys.now }
+    requires digested { AllByRecursion (IsDigested journal.now.entries) rows.old }
     ensures { rows.new ≡ map (outdated_by journal.now.entries key.now) rows.old }
 {
-    'each: for i in 0..rows.len() {
-        outdate_row(&mut rows[i], journal, key);
+    let alike = marked(keys, key.digests().key);
+    'each: for mark in alike {
+        outdate_at(rows, mark.opening, journal, key);
     }
 }

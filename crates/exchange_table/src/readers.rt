@@ -3,8 +3,9 @@
 ghost use Rattle.std.specs.Prelude.{◌≡◌, ◌≢◌, ◌≤◌, ◌∷◌, ◌++◌, [], true, false, filter, not, vec_capacity, vec_len, IfOk, IsFalse, IsTrue, OnErr, OnOk, Some};
 ghost use Rattle.std.specs.List.{AllByRecursion};
 ghost use Rattle.exchange_model.specs.declared.kept.Reader.{Reader as Row};
+ghost use Rattle.exchange_table.specs.Groups.{AreGrouped};
 ghost use Rattle.exchange_table.specs.Places.{RiseBy};
-ghost use Rattle.exchange_table.specs.Readers.{AreGrouped, ask_in, has_ask, is_on, reads};
+ghost use Rattle.exchange_table.specs.Readers.{ask_in, has_ask, is_on, opening_read, reads};
 
 use crate::groups::{group_of, put_last, reader_place, take_out};
 use exchange_model::Reader;
@@ -21,7 +22,8 @@ pub struct Readers {
 
 impl Model for Readers {
     ghost use Rattle.std.specs.Prelude.{vec_capacity, vec_len};
-    ghost use Rattle.exchange_table.specs.Readers.{AreGrouped, ReadersValue};
+    ghost use Rattle.exchange_table.specs.Groups.{AreGrouped};
+    ghost use Rattle.exchange_table.specs.Readers.{ReadersValue, opening_read};
     ghost use Rattle.exchange_table.specs.Tables.{has_room};
 
     ghost Value = { ReadersValue };
@@ -32,7 +34,7 @@ impl Model for Readers {
           (vec_len t.groups) (vec_capacity t.groups);
     } };
 
-    ghost invariant = { λ t. AreGrouped t.rows.items t.groups.items };
+    ghost invariant = { λ t. AreGrouped opening_read t.rows.items t.groups.items };
 }
 
 impl Readers {
@@ -113,10 +115,10 @@ impl Readers {
 
 /// Takes out the reader of this ask.
 fn remove(rows: &mut Vec<Reader>, groups: &mut Vec<Reader>, ask: u32)
-    requires grouped { AreGrouped rows.old.items groups.old.items }
+    requires grouped { AreGrouped opening_read rows.old.items groups.old.items }
     requires ordered { RiseBy ask_in rows.old.items }
     ensures rows { rows.new.items ≡ filter (λ r. not (has_ask ask r)) rows.old.items }
-    ensures groups { AreGrouped rows.new.items groups.new.items }
+    ensures groups { AreGrouped opening_read rows.new.items groups.new.items }
     ensures fewer { (vec_len rows.new ≤ vec_len rows.old)
         × (vec_len groups.new ≤ vec_len groups.old) }
     ensures capacity { (vec_capacity rows.new ≡ vec_capacity rows.old)
@@ -144,12 +146,12 @@ fn waits_on(rows: &[Reader], ask: u32, conn: u32) -> bool
 
 /// Takes out who waits on the connection, which waits for this.
 fn remove_on(rows: &mut Vec<Reader>, groups: &mut Vec<Reader>, conn: u32, pending: Option<u32>)
-    requires grouped { AreGrouped rows.old.items groups.old.items }
+    requires grouped { AreGrouped opening_read rows.old.items groups.old.items }
     requires ordered { RiseBy ask_in rows.old.items }
     requires waits { AllByRecursion (λ (r : Row). r.conn ≡ conn → pending ≡ Some r.ask)
         rows.old.items }
     ensures rows { rows.new.items ≡ filter (λ r. not (is_on conn r)) rows.old.items }
-    ensures groups { AreGrouped rows.new.items groups.new.items }
+    ensures groups { AreGrouped opening_read rows.new.items groups.new.items }
 {
     let Some(ask) = pending else {
         return;

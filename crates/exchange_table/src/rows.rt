@@ -4,10 +4,12 @@ ghost use Rattle.std.specs.Prelude.{◌≡◌, [], Some, true, filter, find, map
 ghost use Rattle.std.specs.Option.{option_copied};
 ghost use Rattle.exchange_model.specs.Calls.{read_by};
 ghost use Rattle.exchange_model.specs.Steps.{is_other, is_under, read_at, went_out};
+ghost use Rattle.exchange_table.specs.Marks.{IsTable};
 ghost use Rattle.exchange_table.specs.Places.{RiseBy};
 ghost use Rattle.exchange_table.specs.Tables.{IsIndexed, IsNewest, carried_on, opening_of, went_on};
 
 use crate::index::{Named, drop_name, name_anew, number_of};
+use crate::marks::{Mark, take_mark};
 use crate::places::{opening_place, place_under};
 use coap_codec::Token;
 use exchange_model::{Exchange, Reader, Work};
@@ -100,13 +102,21 @@ pub fn read(rows: &mut [Exchange], opening: u32, moment: u64)
 }
 
 /// Takes out the row whose latest message goes under the token.
-pub fn remove(rows: &mut Vec<Exchange>, names: &mut Vec<Named>, token: &Token)
-    requires { IsIndexed rows.old.items names.old.items }
+pub fn remove(
+    rows: &mut Vec<Exchange>,
+    names: &mut Vec<Named>,
+    keys: &mut Vec<Mark>,
+    places: &mut Vec<Mark>,
+    token: &Token,
+)
+    requires { IsTable rows.old.items names.old.items keys.old.items places.old.items }
     ensures rows { rows.new.items ≡ filter (is_other token.now) rows.old.items }
-    ensures names { IsIndexed rows.new.items names.new.items }
+    ensures table { IsTable rows.new.items names.new.items keys.new.items places.new.items }
 {
     if let Some(place) = place_under(rows.as_slice(), names.as_slice(), token) {
-        rows.remove(place);
+        let gone = rows.remove(place);
         drop_name(names, number_of(token));
+        take_mark(keys, gone.digests.key, gone.opening);
+        take_mark(places, gone.digests.place, gone.opening);
     }
 }

@@ -1,10 +1,17 @@
-use Rattle.std.proofs.Common.{sym}
+use Rattle.std.proofs.Common.{subst, sym}
+use Rattle.std.specs.List.{AllByRecursion}
+use Rattle.exchange_model.specs.Steps.{IsDigested}
 use Rattle.exchange_model.proofs.CallerLemmas.{none-left}
-use Rattle.exchange_core.proofs.Outrun.{left-next}
+use Rattle.exchange_core.proofs.Outrun.{digested-left, left-next}
 use Rattle.exchange_core.proofs.expiring.outrun_all.Goals as goal
 
 pub each-init : goal.each-init
 each-init g c = sym (none-left c.args.journal.now.entries c.args.still.now.exchanges)
+
+pub outrun-requires : goal.outrun-requires
+outrun-requires g c =
+    let ws = c.args.journal.now.entries in
+    subst (AllByRecursion (IsDigested ws)) (sym c.each.invariant) (digested-left ws _ c.args.still.now.exchanges c.requires)
 
 pub each-preserved : goal.each-preserved
 each-preserved g c =

@@ -1,3 +1,7 @@
+use Rattle.std.proofs.Common.{subst, sym}
+use Rattle.std.specs.List.{AllByRecursion}
+use Rattle.exchange_model.specs.State.{State}
+use Rattle.exchange_model.specs.Steps.{IsDigested}
 use Rattle.exchange_core.proofs.hearing.add_heard.Goals as goal
 
 pub change_tables-requires-clause-ready : goal.change_tables-requires-clause-ready
@@ -8,3 +12,7 @@ change_tables-requires-clause-follows g c = rw (c.make_places.ensures.endpoints)
 
 pub change_tables-requires-clause-known : goal.change_tables-requires-clause-known
 change_tables-requires-clause-known g c = rw (c.make_places.ensures.endpoints) c.requires.known
+
+pub change_tables-requires-clause-digests : goal.change_tables-requires-clause-digests
+change_tables-requires-clause-digests g c =
+    subst (λ (V : State). AllByRecursion (IsDigested V.entries) V.exchanges) (sym c.make_places.ensures.same.state) c.requires.digests

@@ -2,7 +2,7 @@ use Rattle.std.proofs.Common.{refl, sym, ◌∙◌, arith}
 use Rattle.endpoint_table.specs.Tables.{link_at}
 use Rattle.exchange_core.specs.Matters.{more_in}
 use Rattle.exchange_core.specs.States.{state_of}
-use Rattle.exchange_model.proofs.CallerLemmas.{all-asked-for, restarts-few}
+use Rattle.exchange_model.proofs.CallerLemmas.{all-asked-for, all-digested, restarts-few}
 use Rattle.exchange_core.proofs.BeginSound.{issued-below}
 use Rattle.exchange_core.proofs.Ordered.{conns-ordered, ordered}
 use Rattle.exchange_core.proofs.Heard.{next-timed}
@@ -62,6 +62,9 @@ pub add_heard-requires-clause-newest : goal.add_heard-requires-clause-newest
 add_heard-requires-clause-newest g c =
     let made = c.in_ok-matter.ensures in
     newest-in (state_of c.args.s.now) c.requires.sound.kept.kept _ c.in_ok-matter.matter _ made.numbers made.is made.worded.number
+
+pub add_heard-requires-clause-digests : goal.add_heard-requires-clause-digests
+add_heard-requires-clause-digests g c = all-digested (state_of c.args.s.now) c.requires.sound.kept.kept
 
 pub add_heard-requires-clause-follows : goal.add_heard-requires-clause-follows
 add_heard-requires-clause-follows g c = c.in_ok-matter.ensures.follows

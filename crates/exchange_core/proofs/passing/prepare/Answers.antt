@@ -1,8 +1,8 @@
-use Rattle.std.proofs.Common.{◌≡◌, ℕ, List, ◌++◌, map, ap, subst, ◌∙◌}
+use Rattle.std.proofs.Common.{◌≡◌, ℕ, List, ◌++◌, map, sym, ap, subst, ◌∙◌}
 use Rattle.observe_share.specs.declared.registration.Registration.{Registration}
 use Rattle.exchange_model.specs.declared.kept.Exchange.{Exchange}
 use Rattle.exchange_model.specs.State.{State}
-use Rattle.exchange_model.specs.Entering.{tick_deeds, token_of}
+use Rattle.exchange_model.specs.Entering.{gone_tokens, tick_deeds, token_of}
 use Rattle.exchange_model.specs.Steps.{timed_out}
 use Rattle.exchange_model.specs.Watching.{tokens_of}
 use Rattle.exchange_core.specs.Drafts.{IsDrafted}
@@ -30,3 +30,21 @@ returns-clause-gone g c =
     ∙ ap (λ (es : List Exchange). map token_of (timed_out t S) ++ tokens_of (is_unwatched_by t U.entries es) c.as_slice.result.now) again
     ∙ ap (λ (rs : List Registration). map token_of (timed_out t S) ++ tokens_of (is_unwatched_by t U.entries (timed_out t S)) rs) c.as_slice.ensures.all
     ∙ ap (λ (V : State). map token_of (timed_out t S) ++ tokens_of (is_unwatched_by t V.entries (timed_out t S)) V.watches) same
+
+-- The same at the state after the sorting, which is the same one.
+pub prepare_links-requires-clause-gone : goal.prepare_links-requires-clause-gone
+prepare_links-requires-clause-gone g c =
+    let t = c.args.moment in
+    let S : State = state_of c.args.s.now in
+    let U : State = state_of c.sort_at.new.s in
+    let same : U ≡ S = c.in_ok-over.ensures.same.state in
+    let over : c.deref.result.now ≡ timed_out t S = c.deref.ensures.value ∙ c.in_ok-over.ensures.over in
+    let again : c.deref-2.result.now ≡ timed_out t S = c.deref-2.ensures.value ∙ c.in_ok-over.ensures.over in
+    c.deref-3.ensures.value
+    ∙ (c.in_ok-add_unwatched.ensures
+    ∙ ap (λ (ts : List (List ℕ)). ts ++ tokens_of (is_unwatched_by t U.entries c.deref-2.result.now) c.as_slice.result.now)
+    (c.in_ok-gone.ensures ∙ ap (map token_of) over)
+    ∙ ap (λ (es : List Exchange). map token_of (timed_out t S) ++ tokens_of (is_unwatched_by t U.entries es) c.as_slice.result.now) again
+    ∙ ap (λ (rs : List Registration). map token_of (timed_out t S) ++ tokens_of (is_unwatched_by t U.entries (timed_out t S)) rs) c.as_slice.ensures.all
+    ∙ ap (λ (V : State). map token_of (timed_out t S) ++ tokens_of (is_unwatched_by t V.entries (timed_out t S)) V.watches) same
+    ∙ ap (gone_tokens t) (sym same))

@@ -9,6 +9,6 @@ pub returns : goal.returns
 returns c =
     let xs = c.args.groups.now in
     let place = c.partition_point.result in
-    first-is c.args.opening xs place c.partition_point.ensures.bound
+    first-is opening_read c.args.opening xs place c.partition_point.ensures.bound
     (IsPartitionPoint-from_clause (λ (r : Reader). ltb r.opening c.args.opening) xs place c.partition_point.ensures.partitioned
     (IsPartitionedBy-ltb opening_read xs c.args.opening (ascends opening_read xs c.requires)) (λ a r f' called. search rules))

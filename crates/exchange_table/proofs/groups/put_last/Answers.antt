@@ -1,6 +1,7 @@
 use Rattle.std.proofs.Common.{◌≡◌, ◌+◌, ◌∷◌, ◌++◌, [], rules, sym, subst}
 use Rattle.std.specs.Prelude.{insert}
-use Rattle.exchange_table.specs.Readers.{AreGrouped, IsFirstFrom}
+use Rattle.exchange_table.specs.Groups.{AreGrouped, IsFirstFrom}
+use Rattle.exchange_table.specs.Readers.{opening_read}
 use Rattle.exchange_table.proofs.Grouping.{grouped-push}
 use Rattle.exchange_table.proofs.groups.put_last.Goals as goal
 
@@ -8,6 +9,6 @@ pub returns : goal.returns
 returns c = λ rs grouped.
     let groups = c.args.groups.now.items in
     let r = c.args.reader in
-    let place : IsFirstFrom (r.opening + 1) groups c.first_from-place.result = rw (c.from.ensures, c.as_slice.ensures.value) at c.first_from-place.ensures in
+    let place : IsFirstFrom opening_read (r.opening + 1) groups c.first_from-place.result = rw (c.from.ensures, c.as_slice.ensures.value) at c.first_from-place.ensures in
     let items : c.insert.new.self.items ≡ insert groups c.first_from-place.result r = search rules in
-    subst (AreGrouped (rs ++ r ∷ [])) (sym items) (grouped-push rs groups c.first_from-place.result r place grouped)
+    subst (AreGrouped opening_read (rs ++ r ∷ [])) (sym items) (grouped-push opening_read rs groups c.first_from-place.result r place grouped)

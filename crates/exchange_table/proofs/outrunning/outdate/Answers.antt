@@ -1,16 +1,40 @@
-use Rattle.std.proofs.Common.{◌≡◌, ℕ, suc, ◌+◌, ◌++◌, List, map, take, drop, get_or, set, sym, ap, ◌∙◌, arith}
-use Rattle.exchange_model.specs.declared.kept.Exchange.{Exchange}
+use Rattle.std.proofs.Common.{List, map, sym, ap, subst, ◌∙◌, arith}
+use Rattle.std.specs.Prelude.{filter}
+use Rattle.cache_key.specs.declared.digest.Digests.{Digests}
+use Rattle.cache_key.specs.Digests.{digests_of}
 use Rattle.exchange_model.specs.Steps.{outdated_by}
-use Rattle.exchange_table.proofs.Reading.{mapped-more}
+use Rattle.exchange_table.specs.declared.marks.Mark.{Mark}
+use Rattle.exchange_table.specs.Marks.{has_digest, key_in}
+use Rattle.exchange_table.specs.Places.{RiseBy}
+use Rattle.exchange_table.specs.Tables.{opening_of}
+use Rattle.exchange_table.proofs.Among.{among, among-all, among-done, among-next, among-none, among-rise, outdated-others, outdated-settles}
 use Rattle.exchange_table.proofs.outrunning.outdate.Goals as goal
+
+pub marked-alike-requires : goal.marked-alike-requires
+marked-alike-requires g c = c.requires.keyed.order
+
+pub each-init : goal.each-init
+each-init g c = sym (among-none (outdated_by c.args.journal.now.entries c.args.key.now) c.args.rows.now)
+
+pub outdate_at-requires : goal.outdate_at-requires
+outdate_at-requires g c =
+    let f = outdated_by c.args.journal.now.entries c.args.key.now in
+    subst (RiseBy opening_of) (sym c.each.invariant)
+    (among-rise f (outdated-settles c.args.journal.now.entries c.args.key.now) _ c.args.rows.now c.requires.ordered)
 
 pub each-preserved : goal.each-preserved
 each-preserved g c =
-    let f = outdated_by c.args.journal.now.entries c.args.key.now in
+    let none : Mark = record { digest = 0; opening = 0 } in
+    among-next (outdated_by c.args.journal.now.entries c.args.key.now) (outdated-settles c.args.journal.now.entries c.args.key.now)
+    c.marked-alike.result.now c.each.mark-index none c.args.rows.now c.each.rows c.outdate_at.new.rows c.each-test.true c.each.invariant c.outdate_at.ensures
+
+pub returns : goal.returns
+returns g c =
+    let ws = c.args.journal.now.entries in
+    let key = c.args.key.now in
+    let f = outdated_by ws key in
     let old = c.args.rows.now in
-    let i = c.each.i in
-    let more : i + 1 ≡ suc i = omega arith in
-    ap (set c.each.rows i) c.outdate_row.ensures
-    ∙ (ap (λ (rs : List Exchange). set rs i (f (get_or rs i c.index-rows-i.result))) c.each.invariant
-    ∙ (mapped-more f old i c.index-rows-i.result (omega (arith, c.each-test.true))
-    ∙ ap (λ (k : ℕ). map f (take k old) ++ drop k old) (sym more)))
+    let test = c.each-test.false in
+    among-done f c.marked-alike.result.now c.each.mark-index old c.each.rows (omega (arith, test)) c.each.invariant
+    ∙ ap (λ (ms : List Mark). map (among ms f) old) (c.marked-alike.ensures ∙ ap (λ (x : Digests). filter (has_digest x.key) c.args.keys.now) c.digests.ensures)
+    ∙ among-all key_in (digests_of key).key f old c.args.keys.now c.requires.keyed (outdated-others ws key old c.requires.digested)

@@ -1,42 +1,56 @@
-use Rattle.std.proofs.Common.{◌≡◌, ℕ, zero, suc, ◌+◌, ◌<◌, ◌++◌, Option, List, [], ◌∷◌, length, map, take, drop, get_or, set, refl, sym, ap, ◌∙◌, arith}
-use Rattle.std.specs.Prelude.{option_and_then}
+use Rattle.std.proofs.Common.{ℕ, Option, List, map, sym, ap, subst, ◌∙◌, arith}
+use Rattle.std.specs.Prelude.{filter, option_and_then, option_map}
+use Rattle.cache_key.specs.Digests.{digests_of}
+use Rattle.cache_key.specs.Keys.{key_of}
 use Rattle.ask_model.specs.Requests.{CoapRequest}
-use Rattle.exchange_model.specs.declared.kept.Exchange.{Exchange}
-use Rattle.exchange_model.specs.Steps.{asked_in, request_in}
-use Rattle.exchange_model.specs.Steps.{outrun_by}
-use Rattle.exchange_table.specs.Outrunning.{is_write, outrun_with}
-use Rattle.exchange_table.proofs.Outrun.{none-outrun, one-by, read-outrun}
+use Rattle.exchange_model.specs.Steps.{request_in}
+use Rattle.exchange_table.specs.declared.marks.Mark.{Mark}
+use Rattle.exchange_table.specs.Marks.{has_digest, place_in}
+use Rattle.exchange_table.specs.Outrunning.{outrun_with}
+use Rattle.exchange_table.specs.Places.{RiseBy}
+use Rattle.exchange_table.specs.Tables.{opening_of}
+use Rattle.exchange_table.proofs.Among.{among, among-all, among-done, among-next, among-none, among-rise, outrun-others, outrun-settles}
+use Rattle.exchange_table.proofs.Outrun.{left-one, none-outrun, read-outrun}
 use Rattle.exchange_table.proofs.outrunning.outrun.Goals as goal
 
 pub returns-in_default : goal.returns-in_default
 returns-in_default g c = none-outrun c.args.journal.now.entries c.args.ended.now c.args.rows.now (sym c.asked.ensures ∙ ap (option_and_then _) c.in_default.is)
 
--- One more of a list is mapped in its place.
-mapped-more : {X : Type 0} (f : X → X) (old : List X) (i : ℕ) (d : X) → i < length old
-    → set (map f (take i old) ++ drop i old) i (f (get_or (map f (take i old) ++ drop i old) i d)) ≡ map f (take (suc i) old) ++ drop (suc i) old
-mapped-more f [] i d h = absurd (omega (arith, h))
-mapped-more f (x ∷ xs) zero d h = refl
-mapped-more f (x ∷ xs) (suc i) d h = ap (λ (ys : List _). f x ∷ ys) (mapped-more f xs i d (omega (arith, h)))
+pub marked-alike-requires : goal.marked-alike-requires
+marked-alike-requires g c = c.requires.placed.order
+
+pub each-init : goal.each-init
+each-init g c = sym (among-none (outrun_with (request_in c.in-Some.write.now.sense) c.args.journal.now.entries) c.args.rows.now)
+
+pub outrun_at-requires : goal.outrun_at-requires
+outrun_at-requires g c =
+    let f = outrun_with (request_in c.in-Some.write.now.sense) c.args.journal.now.entries in
+    subst (RiseBy opening_of) (sym c.each.invariant)
+    (among-rise f (outrun-settles (request_in c.in-Some.write.now.sense) c.args.journal.now.entries) _ c.args.rows.now c.requires.ordered)
 
 pub each-preserved : goal.each-preserved
 each-preserved g c =
-    let ws = c.args.journal.now.entries in
-    let old = c.args.rows.now in
-    let i = c.each.i in
-    let write : request_in c.in-Some.write.now.sense ≡ asked_in ws c.args.ended.now.opening = sym (ap (option_and_then _) c.in-Some.is) ∙ c.asked.ensures in
-    let row = c.outrun_row.ensures in
-    let here = c.each.invariant in
-    let more : i + 1 ≡ suc i = omega arith in
-    let f = outrun_by ws (c.args.ended.now ∷ []) in
-    let new : c.outrun_row.new.row ≡ f (get_or c.each.rows i c.index-rows-i.result) = row ∙ ap (λ (w : Option CoapRequest). outrun_with w ws (get_or c.each.rows i c.index-rows-i.result)) write ∙ sym (one-by ws c.args.ended.now (get_or c.each.rows i c.index-rows-i.result)) in
-    ap (set c.each.rows i) new
-    ∙ (ap (λ (rs : List Exchange). set rs i (f (get_or rs i c.index-rows-i.result))) here
-    ∙ (mapped-more f old i c.index-rows-i.result (omega (arith, c.each-test.true))
-    ∙ ap (λ (k : ℕ). map f (take k old) ++ drop k old) (sym more)))
+    let none : Mark = record { digest = 0; opening = 0 } in
+    among-next (outrun_with (request_in c.in-Some.write.now.sense) c.args.journal.now.entries) (outrun-settles (request_in c.in-Some.write.now.sense) c.args.journal.now.entries)
+    c.marked-alike.result.now c.each.mark-index none c.args.rows.now c.each.rows c.outrun_at.new.rows c.each-test.true c.each.invariant c.outrun_at.ensures
 
-pub returns-then-not-is_write : goal.returns-then-not-is_write
-returns-then-not-is_write g c =
-    let write : request_in c.in-Some.write.now.sense ≡ asked_in c.args.journal.now.entries c.args.ended.now.opening =
-    sym (ap (option_and_then _) c.in-Some.is) ∙ c.asked.ensures in
-    read-outrun c.args.journal.now.entries c.args.ended.now c.args.rows.now
-    (ap is_write (sym write) ∙ (sym c.is_write.ensures ∙ c.if-not-is_write.true))
+pub returns : goal.returns
+returns g c =
+    let ws = c.args.journal.now.entries in
+    let sense = c.in-Some.write.now.sense in
+    let place = c.in-Some-writing.place in
+    let key = key_of place.peer place.target.now place.accept in
+    let f = outrun_with (request_in sense) ws in
+    let old = c.args.rows.now in
+    let test = c.each-test.false in
+    among-done f c.marked-alike.result.now c.each.mark-index old c.each.rows (omega (arith, test)) c.each.invariant
+    ∙ ap (λ (ms : List Mark). map (among ms f) old) (c.marked-alike.ensures ∙ ap (λ (d : ℕ). filter (has_digest d) c.args.places.now) c.place_digest.ensures)
+    ∙ among-all place_in (digests_of key).place f old c.args.places.now c.requires.placed
+    (outrun-others ws sense key old (sym (ap (option_map _) c.in-Some-writing.is) ∙ c.writing.ensures) c.requires.digested)
+    ∙ ap (λ (w : Option CoapRequest). map (outrun_with w ws) old) (sym (ap (option_and_then _) c.in-Some.is) ∙ c.asked.ensures)
+    ∙ sym (left-one ws c.args.ended.now old)
+
+pub returns-in_default-writing : goal.returns-in_default-writing
+returns-in_default-writing g c =
+    read-outrun c.args.journal.now.entries c.args.ended.now c.args.rows.now c.in-Some.write.now.sense
+    (sym (ap (option_and_then _) c.in-Some.is) ∙ c.asked.ensures) (sym c.writing.ensures ∙ ap (option_map _) c.in_default-writing.is)

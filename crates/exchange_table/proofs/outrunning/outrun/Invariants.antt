@@ -1,6 +1,8 @@
-use Rattle.std.proofs.Common.{◌≡◌, ◌++◌, [], ◌∷◌, take, drop}
-use Rattle.exchange_model.specs.Steps.{left_by}
+use Rattle.std.proofs.Common.{◌≡◌, map, take}
+use Rattle.exchange_model.specs.Steps.{request_in}
+use Rattle.exchange_table.specs.Outrunning.{outrun_with}
+use Rattle.exchange_table.proofs.Among.{among}
 use Rattle.exchange_table.proofs.outrunning.outrun.Given as goal
 
 abbrev pub invariant-each : goal.invariant-each
-invariant-each g l = l.rows ≡ left_by l.journal.entries (l.ended ∷ []) (take l.i l.initial.rows) ++ drop l.i l.initial.rows
+invariant-each g l = l.rows ≡ map (among (take l.mark-index l.alike) (outrun_with (request_in l.write.sense) l.journal.entries)) l.initial.rows

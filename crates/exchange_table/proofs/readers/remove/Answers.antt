@@ -2,7 +2,8 @@ use Rattle.std.proofs.Common.{◌≡◌, ℕ, List, true, not, refl, sym, ap, su
 use Rattle.std.specs.Prelude.{filter}
 use Rattle.exchange_model.specs.declared.kept.Reader.{Reader}
 use Rattle.exchange_table.specs.Places.{IsOnlyAt, IsNowhere, RiseBy}
-use Rattle.exchange_table.specs.Readers.{AreGrouped, ask_in, has_ask, opening_read, reads}
+use Rattle.exchange_table.specs.Groups.{AreGrouped}
+use Rattle.exchange_table.specs.Readers.{ask_in, has_ask, opening_read, reads}
 use Rattle.exchange_table.proofs.Grouping.{AreThere, grouped-filter, only-there, through-groups}
 use Rattle.exchange_table.proofs.Standing.{filter-none, filter-only, rise-filter}
 use Rattle.exchange_table.proofs.readers.remove.Goals as goal
@@ -18,8 +19,8 @@ take_out-requires-clause-there c =
     let k = c.args.ask in
     let r = c.remove-reader.result in
     let only : IsOnlyAt (has_ask k) rows c.in-Some.place = rw (c.as_slice.ensures.value) at c.in-Some.ensures.some in
-    through-groups (λ (x : Reader). has_ask k x ≡ true → x.opening ≡ r.opening) rows c.args.groups.now.items c.requires.grouped
-    (subst (λ (o : ℕ). AreThere k o rows) (ap opening_read (sym c.remove-reader.ensures.value)) (only-there k rows c.in-Some.place r only))
+    through-groups opening_read (λ (x : Reader). has_ask k x ≡ true → x.opening ≡ r.opening) rows c.args.groups.now.items c.requires.grouped
+    (subst (λ (o : ℕ). AreThere opening_read (has_ask k) o rows) (ap opening_read (sym c.remove-reader.ensures.value)) (only-there opening_read (has_ask k) rows c.in-Some.place r only))
 
 pub returns-in-Some-clause-rows : goal.returns-in-Some-clause-rows
 returns-in-Some-clause-rows c =
@@ -33,8 +34,8 @@ returns-in-Some-clause-groups c =
     let p = λ (r : Reader). not (has_ask c.args.ask r) in
     let only : IsOnlyAt (has_ask c.args.ask) rows c.in-Some.place = rw (c.as_slice.ensures.value) at c.in-Some.ensures.some in
     let left : c.remove-reader.new.self.items ≡ filter p rows = c.remove-reader.ensures.items ∙ sym (filter-only (has_ask c.args.ask) rows c.in-Some.place only) in
-    subst (λ (rs : List Reader). AreGrouped rs c.take_out.new.groups.items) (sym left)
-    (subst (AreGrouped (filter p rows)) (sym c.take_out.ensures.items) (grouped-filter p rows c.args.groups.now.items c.requires.grouped))
+    subst (λ (rs : List Reader). AreGrouped opening_read rs c.take_out.new.groups.items) (sym left)
+    (subst (AreGrouped opening_read (filter p rows)) (sym c.take_out.ensures.items) (grouped-filter opening_read p rows c.args.groups.now.items c.requires.grouped))
 
 pub returns-in_default-clause-rows : goal.returns-in_default-clause-rows
 returns-in_default-clause-rows c =

@@ -1,30 +1,87 @@
-use Rattle.std.proofs.Common.{refl, sym, ◌∙◌, arith}
+use Rattle.std.proofs.Common.{◌≡◌, true, not, List, length, ◌<◌, refl, sym, subst, ◌∙◌, arith}
+use Rattle.std.specs.Prelude.{filter}
+use Rattle.std.specs.List.{AllByRecursion}
+use Rattle.exchange_model.specs.declared.kept.Exchange.{Exchange}
 use Rattle.exchange_model.specs.Steps.{is_under}
+use Rattle.history_laws.specs.Numbering.{token_number}
+use Rattle.exchange_table.specs.declared.index.Named.{Named}
+use Rattle.exchange_table.specs.declared.marks.Mark.{Mark}
+use Rattle.exchange_table.specs.Marks.{IsTable, is_mark_of, key_in, place_in}
 use Rattle.exchange_table.specs.Places.{IsOnlyAt, IsNowhere}
+use Rattle.exchange_table.specs.Tables.{has_number}
 use Rattle.exchange_table.proofs.Standing.{filter-only, filter-none}
 use Rattle.exchange_table.proofs.Indexed.{index-remove}
+use Rattle.exchange_table.proofs.Marking.{mark-there, rise-in-group, table-left}
 use Rattle.exchange_table.proofs.rows.remove.Goals as goal
 
-pub remove-requires : goal.remove-requires
-remove-requires c =
+pub place_under-requires : goal.place_under-requires
+place_under-requires c = rw (c.as_slice.ensures.value, c.as_slice-2.ensures.value) c.requires.indexed
+
+pub remove-gone-requires : goal.remove-gone-requires
+remove-gone-requires c =
     let below = c.in-Some.ensures.below in
     let len = c.as_slice.ensures.len in
     omega (arith, below, len)
 
+pub drop_name-requires : goal.drop_name-requires
+drop_name-requires c = c.requires.indexed.numbers
+
+pub take_mark-requires-clause-order : goal.take_mark-requires-clause-order
+take_mark-requires-clause-order c = c.requires.keyed.order
+
+pub take_mark-requires-clause-openings : goal.take_mark-requires-clause-openings
+take_mark-requires-clause-openings c =
+    rise-in-group key_in c.remove-gone.result.digests.key c.args.rows.now.items c.args.keys.now.items c.requires.indexed.openings c.requires.keyed
+
+pub take_mark-requires-clause-there : goal.take_mark-requires-clause-there
+take_mark-requires-clause-there c =
+    let rows = c.args.rows.now.items in
+    let marks = c.args.keys.now.items in
+    let at : IsOnlyAt (is_under c.args.token.now) rows c.in-Some.place = rw (c.as_slice.ensures.value) at c.in-Some.ensures.some in
+    let below = c.in-Some.ensures.below in
+    let len = c.as_slice.ensures.len in
+    subst (λ (e : Exchange). AllByRecursion (λ (m : Mark). is_mark_of e.opening m ≡ true → m.digest ≡ e.digests.key) marks) (sym c.remove-gone.ensures.value)
+    (mark-there (is_under c.args.token.now) rows c.in-Some.place c.remove-gone.result c.requires.indexed.openings at (omega (arith, below, len)) key_in marks c.requires.keyed)
+
+pub take_mark-requires-in-Some-clause-order : goal.take_mark-requires-in-Some-clause-order
+take_mark-requires-in-Some-clause-order c = c.requires.placed.order
+
+pub take_mark-requires-in-Some-clause-openings : goal.take_mark-requires-in-Some-clause-openings
+take_mark-requires-in-Some-clause-openings c =
+    rise-in-group place_in c.remove-gone.result.digests.place c.args.rows.now.items c.args.places.now.items c.requires.indexed.openings c.requires.placed
+
+pub take_mark-requires-in-Some-clause-there : goal.take_mark-requires-in-Some-clause-there
+take_mark-requires-in-Some-clause-there c =
+    let rows = c.args.rows.now.items in
+    let marks = c.args.places.now.items in
+    let at : IsOnlyAt (is_under c.args.token.now) rows c.in-Some.place = rw (c.as_slice.ensures.value) at c.in-Some.ensures.some in
+    let below = c.in-Some.ensures.below in
+    let len = c.as_slice.ensures.len in
+    subst (λ (e : Exchange). AllByRecursion (λ (m : Mark). is_mark_of e.opening m ≡ true → m.digest ≡ e.digests.place) marks) (sym c.remove-gone.ensures.value)
+    (mark-there (is_under c.args.token.now) rows c.in-Some.place c.remove-gone.result c.requires.indexed.openings at (omega (arith, below, len)) place_in marks c.requires.placed)
+
 pub returns-in-Some-clause-rows : goal.returns-in-Some-clause-rows
 returns-in-Some-clause-rows c =
     let at : IsOnlyAt (is_under c.args.token.now) c.args.rows.now.items c.in-Some.place = rw (c.as_slice.ensures.value) at c.in-Some.ensures.some in
-    c.remove.ensures.items ∙ sym (filter-only (is_under c.args.token.now) c.args.rows.now.items c.in-Some.place at)
+    c.remove-gone.ensures.items ∙ sym (filter-only (is_under c.args.token.now) c.args.rows.now.items c.in-Some.place at)
+
+pub returns-in-Some-clause-table : goal.returns-in-Some-clause-table
+returns-in-Some-clause-table c =
+    let rows = c.args.rows.now.items in
+    let names = c.args.names.now.items in
+    let keys = c.args.keys.now.items in
+    let places = c.args.places.now.items in
+    let at : IsOnlyAt (is_under c.args.token.now) rows c.in-Some.place = rw (c.as_slice.ensures.value) at c.in-Some.ensures.some in
+    let below = c.in-Some.ensures.below in
+    let len = c.as_slice.ensures.len in
+    let lt : c.in-Some.place < length rows = omega (arith, below, len) in
+    let left : List Named = filter (λ (x : Named). not (has_number (token_number c.args.token.now) x)) names in
+    rw (c.remove-gone.ensures.items, ← filter-only (is_under c.args.token.now) rows c.in-Some.place at, c.drop_name.ensures, c.number_of.ensures, c.take_mark.ensures, c.take_mark-in-Some.ensures)
+    (subst (λ (e : Exchange). IsTable (filter (λ (f : Exchange). not (is_under c.args.token.now f)) rows) left (filter (λ (m : Mark). not (is_mark_of e.opening m)) keys) (filter (λ (m : Mark). not (is_mark_of e.opening m)) places)) (sym c.remove-gone.ensures.value)
+    (table-left (is_under c.args.token.now) rows c.in-Some.place c.remove-gone.result c.requires.indexed.openings at lt names left keys places
+    (index-remove rows names c.args.token.now c.in-Some.place c.remove-gone.result c.requires.indexed at lt) c.requires))
 
 pub returns-in_default-clause-rows : goal.returns-in_default-clause-rows
 returns-in_default-clause-rows c =
     let none : IsNowhere (is_under c.args.token.now) c.args.rows.now.items = rw (c.as_slice.ensures.value) at (c.in_default.ensures.none refl) in
     sym (filter-none (is_under c.args.token.now) c.args.rows.now.items none)
-
-pub returns-in-Some-clause-names : goal.returns-in-Some-clause-names
-returns-in-Some-clause-names c =
-    let at : IsOnlyAt (is_under c.args.token.now) c.args.rows.now.items c.in-Some.place = rw (c.as_slice.ensures.value) at c.in-Some.ensures.some in
-    let below = c.in-Some.ensures.below in
-    let len = c.as_slice.ensures.len in
-    rw (c.remove.ensures.items, ← filter-only (is_under c.args.token.now) c.args.rows.now.items c.in-Some.place at, c.drop_name.ensures, c.number_of.ensures)
-    (index-remove c.args.rows.now.items c.args.names.now.items c.args.token.now c.in-Some.place c.remove.result c.requires at (omega (arith, below, len)))

@@ -1,0 +1,12 @@
+use Rattle.std.proofs.Common.{refl, set, sym, ap, ◌∙◌}
+use Rattle.exchange_model.specs.Steps.{outdated_by}
+use Rattle.exchange_table.proofs.Among.{at-nowhere, at-only}
+use Rattle.exchange_table.proofs.outrunning.outdate_at.Goals as goal
+
+pub returns-in-Some : goal.returns-in-Some
+returns-in-Some g c =
+    ap (set c.args.rows.now c.in-Some.place) c.outdate_row.ensures
+    ∙ sym (at-only c.args.opening (outdated_by c.args.journal.now.entries c.args.key.now) c.args.rows.now c.in-Some.place c.index-rows-place.result c.in-Some.ensures.some)
+
+pub returns-in_default : goal.returns-in_default
+returns-in_default g c = sym (at-nowhere c.args.opening (outdated_by c.args.journal.now.entries c.args.key.now) c.args.rows.now (c.in_default.ensures.none refl))

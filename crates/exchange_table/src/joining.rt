@@ -1,0 +1,108 @@
+//! Exchanges that an ask joins, found by the digest of what it reads.
+
+ghost use Rattle.std.specs.Prelude.{◌≡◌, find};
+ghost use Rattle.std.specs.List.{AllByRecursion};
+ghost use Rattle.std.specs.Option.{option_copied};
+ghost use Rattle.cache_key.specs.Digests.{digests_of};
+ghost use Rattle.cache_key.specs.Keys.{key_of};
+ghost use Rattle.exchange_model.specs.Steps.{IsDigested};
+ghost use Rattle.exchange_table.specs.Joining.{is_joined_at, is_joined_by, is_joined_marked};
+ghost use Rattle.exchange_table.specs.Marks.{AreMarked, key_in};
+ghost use Rattle.exchange_table.specs.Places.{RiseBy};
+ghost use Rattle.exchange_table.specs.Tables.{is_opened_at, opening_of};
+
+use crate::marks::{Mark, marked};
+use crate::outrunning::asked;
+use crate::places::opening_place;
+use ask_model::Mapped;
+use cache_key::{Digests, Reading};
+use exchange_model::Exchange;
+use journal_book::Journal;
+use transformers::Relation;
+
+/// Whether the request joins the exchange: both are equal GETs, and no write has outrun it.
+fn is_joined<R: Relation>(exchange: &Exchange, journal: &Journal<R>, mapped: &Mapped<R>) -> bool
+    ensures { result ≡ is_joined_by journal.now.entries mapped.now.sense exchange.now }
+{
+    if !exchange.current {
+        return false;
+    }
+    match asked(journal, exchange.opening) {
+        Some(other) => mapped.asks_same(other),
+        None => false,
+    }
+}
+
+/// The row that the entry with this number opened.
+fn row_at(rows: &[Exchange], opening: u32) -> Option<&Exchange>
+    requires { RiseBy opening_of rows.now }
+    ensures { option_copied result ≡ find (is_opened_at opening) rows.now }
+{
+    let place = opening_place(rows, opening)?;
+    Some(&rows[place])
+}
+
+/// Whether the request joins the row that the entry with this number opened.
+fn is_joined_at<R: Relation>(
+    rows: &[Exchange],
+    opening: u32,
+    journal: &Journal<R>,
+    mapped: &Mapped<R>,
+) -> bool
+    requires { RiseBy opening_of rows.now }
+    ensures { result
+        ≡ is_joined_at journal.now.entries mapped.now.sense rows.now opening }
+{
+    match row_at(rows, opening) {
+        Some(row) => is_joined(row, journal, mapped),
+        None => false,
+    }
+}
+
+/// The first of these marks whose row the request joins.
+fn find_marked<R: Relation>(
+    marks: &[Mark],
+    rows: &[Exchange],
+    journal: &Journal<R>,
+    mapped: &Mapped<R>,
+) -> Option<Mark>
+    requires { RiseBy opening_of rows.now }
+    ensures { result
+        ≡ find (is_joined_marked journal.now.entries mapped.now.sense rows.now) marks.now }
+{
+    marks
+        .iter()
+        .find(|mark| is_joined_at(rows, mark.opening, journal, mapped))
+        .copied()
+}
+
+/// The digest of the key that is read.
+fn digest_of(reading: &Reading<'_>) -> u64
+    ensures { let key = key_of reading.now.peer reading.now.target.now reading.now.accept in
+        result ≡ (digests_of key).key }
+{
+    Digests::of(&reading.peer, reading.target, reading.accept).key
+}
+
+/// The row that the request joins, where each has the digests of what it was opened for.
+pub fn joined<'a, R: Relation>(
+    rows: &'a [Exchange],
+    keys: &[Mark],
+    journal: &Journal<R>,
+    mapped: &Mapped<R>,
+) -> Option<&'a Exchange>
+    requires ordered { RiseBy opening_of rows.now }
+    requires marked { AreMarked key_in rows.now keys.now }
+    requires digested { AllByRecursion (IsDigested journal.now.entries) rows.now }
+    ensures { option_copied result
+        ≡ find (is_joined_by journal.now.entries mapped.now.sense) rows.now }
+{
+    let Some(reading) = mapped.reading() else {
+        return None;
+    };
+    let alike = marked(keys, digest_of(&reading));
+    match find_marked(alike, rows, journal, mapped) {
+        Some(mark) => row_at(rows, mark.opening),
+        None => None,
+    }
+}
