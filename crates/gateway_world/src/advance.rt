@@ -9,6 +9,7 @@ ghost use Rattle.gateway_model.specs.Emissions.{emissions};
 
 use crate::engine::{Context, Engine};
 use crate::state::World;
+use exchange_core::Core;
 use gateway_model::{Input, Output, When};
 use http_edge::Memory;
 use limits::LAST_MOMENT;
@@ -34,6 +35,13 @@ impl<R: Relation> World<R> {
         ensures exact { IsNextTick result self.now.core.state }
     {
         self.engine.core.next_due()
+    }
+
+    /// The core, to be looked at.
+    pub fn core(&self) -> &Core<R>
+        ensures { result.now ≡ self.now.core }
+    {
+        &self.engine.core
     }
 
     /// How many bytes the entries of the journal count.
