@@ -269,7 +269,7 @@ impl<S: Stream> Client<S> {
 
 /// How many of the bytes there are up to the end of the first empty line, or in all: so a piece ends
 /// at most one head (RFC 9112 section 2.1).
-fn piece_len(bytes: &[u8]) -> usize
+pub(crate) fn piece_len(bytes: &[u8]) -> usize
     ensures fits { result ≤ length bytes.now }
     ensures some { 0 < length bytes.now → 0 < result }
 {

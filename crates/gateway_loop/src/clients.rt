@@ -9,6 +9,7 @@ ghost use Rattle.gateway_loop.specs.Places.{IsEmptied, IsPiece, IsWritten, OnlyA
 use crate::client::{Client, Flow};
 use crate::sockets::Stream;
 use crate::stage::Stage;
+use crate::told::{Notes, Told};
 use crate::waits::{Bearing, Waits};
 use std::alloc::{AllocError, Global};
 use std::collections::VecDeque;
@@ -26,6 +27,8 @@ pub struct Clients<S> {
     line: VecDeque<u32>,
     /// How many are open.
     open: usize,
+    /// What was given out, for who notes it.
+    notes: Notes,
 }
 
 impl<S> Model for Clients<S> {
@@ -51,7 +54,27 @@ impl<S: Stream + Drop> Clients<S> {
             places: Vec::new(alloc),
             line: VecDeque::new(alloc),
             open: 0,
+            notes: Notes::new(alloc),
         }
+    }
+
+    /// Keeps from now on what tells of the bytes that are given out, until it is forgotten.
+    pub fn keep_told(&mut self)
+        ensures { self.new ≡ self.old }
+    {
+        self.notes.begin();
+    }
+
+    /// What tells of the bytes that were given out and aren't forgotten, in their order.
+    pub fn told(&self) -> &[Told] {
+        self.notes.all()
+    }
+
+    /// Forgets it.
+    pub fn forget_told(&mut self)
+        ensures { self.new ≡ self.old }
+    {
+        self.notes.forget();
     }
 
     /// How many there were in all, and so the number of the next.
@@ -153,12 +176,13 @@ impl<S: Stream + Drop> Clients<S> {
         }
     }
 
-    /// Bytes were given out for the connection.
+    /// Bytes were given out for the connection. What tells of them is kept, where that is wanted.
     pub fn give(&mut self, number: u32, bytes: Vec<u8>) -> Result<(), AllocError>
         ensures gets { OnOk result
             (EachChanges (OnlyAt number (Gets bytes.items)) self.old.places self.new.places) }
         ensures line { self.new.line ≡ self.old.line }
     {
+        self.notes.add(number, bytes.as_slice());
         let Some(place) = place_of(number, self.past, self.places.len()) else {
             return Ok(());
         };

@@ -1,0 +1,68 @@
+//! What the loop shows to who looks at it or notes what it does. Nothing changes by that.
+
+ghost use Rattle.std.specs.Prelude.{◌≡◌, length};
+
+use crate::gateway::Gateway;
+use crate::sockets::{Stream, Wire};
+use crate::told::Told;
+use crate::turns::Loop;
+use exchange_core::Core;
+use transformers::Relation;
+
+impl<R: Relation, S: Stream + Drop, W: Wire + Drop> Gateway<R, S, W> {
+    /// Keeps from now on what tells of the bytes that are given out, until it is forgotten.
+    pub fn keep_told(&mut self)
+        ensures { self.new ≡ self.old }
+    {
+        self.clients.keep_told();
+    }
+
+    /// Forgets what tells of them so far.
+    pub fn forget_told(&mut self)
+        ensures { self.new ≡ self.old }
+    {
+        self.clients.forget_told();
+    }
+}
+
+impl<R: Relation, S: Stream + Drop, W: Wire + Drop> Loop<R, S, W> {
+    /// The core with its journal.
+    pub fn core(&self) -> &Core<R>
+        ensures { result.now ≡ self.now.gateway.world.core }
+    {
+        self.gateway.world.core()
+    }
+
+    /// The wire.
+    pub fn wire(&self) -> &W
+        ensures { result.now ≡ self.now.gateway.wire }
+    {
+        &self.gateway.wire
+    }
+
+    /// How many connections there were, and so the number of the next.
+    pub fn count(&self) -> usize
+        ensures { result ≡ length self.now.gateway.clients.places }
+    {
+        self.gateway.count()
+    }
+
+    /// Keeps from now on what tells of the bytes that are given out, until it is forgotten.
+    pub fn keep_told(&mut self)
+        ensures { self.new.gateway ≡ self.old.gateway }
+    {
+        self.gateway.keep_told();
+    }
+
+    /// What tells of the bytes that were given out and isn't forgotten, in their order.
+    pub fn told(&self) -> &[Told] {
+        self.gateway.clients.told()
+    }
+
+    /// Forgets it.
+    pub fn forget_told(&mut self)
+        ensures { self.new.gateway ≡ self.old.gateway }
+    {
+        self.gateway.forget_told();
+    }
+}
