@@ -2,7 +2,7 @@
 //! the signs.
 
 use crate::chance::Dice;
-use gateway_loop::{Accepted, Host, Moved, Received, Sign, Stream, Wire};
+use gateway_loop::{Accepted, Host, Moved, Received, Sign, Stream, Told, Wire};
 use std::alloc::Global;
 use std::cell::Cell;
 use std::collections::VecDeque;
@@ -206,6 +206,9 @@ pub struct Chance<'a> {
     taken: usize,
     signs: usize,
     moment: u64,
+    /// of how many bytes it was told, and whether each told of began with a head
+    told: usize,
+    heads: bool,
 }
 
 impl<'a> Chance<'a> {
@@ -216,7 +219,27 @@ impl<'a> Chance<'a> {
             taken: 0,
             signs: 0,
             moment: 0,
+            told: 0,
+            heads: true,
         }
+    }
+
+    /// It is told of what was given out in a turn.
+    pub fn hear_of(&mut self, told: &[Told]) {
+        'each: for one in told {
+            let head = one.head.as_slice();
+            self.told = self.told.saturating_add(one.count);
+            self.heads &= head.starts_with(b"HTTP/1.1 200 ") && head.ends_with(b"\r\n\r\n");
+        }
+    }
+
+    /// Whether it was told of all bytes that clients got, and each time of a head.
+    pub fn is_told_all(&self) -> bool {
+        let mut got = 0usize;
+        'each: for talk in self.talks {
+            got = got.saturating_add(talk.count.get());
+        }
+        self.heads && self.told == got
     }
 
     /// The loop goes on no more.

@@ -44,7 +44,8 @@ const ASKS_G: &[u8] = b"GET /hc/coap://192.0.2.1/g HTTP/1.1\r\nHost: p\r\n\r\n";
 const GETS_G: &[u8] =
     b"HTTP/1.1 200 OK\r\nContent-Type: text/plain;charset=utf-8\r\nCache-Control: max-age=0\r\nContent-Length: 1\r\n\r\ng";
 
-/// Runs the loop by chance. False where it stopped.
+/// Runs the loop by chance. False where it stopped, or where what it tells of isn't what clients
+/// got.
 fn is_run(alloc: Global, seed: u64, talks: &[Talk], turns: u32) -> bool {
     let dice = Dice::new(seed);
     let mut host = Chance::new(&dice, talks);
@@ -56,12 +57,12 @@ fn is_run(alloc: Global, seed: u64, talks: &[Talk], turns: u32) -> bool {
         return false;
     };
     match Loop::new(gateway, IDLE) {
-        Ok(it) => goes(&bank, it, &mut host, turns),
+        Ok(it) => goes(&bank, it, &mut host, turns) && host.is_told_all(),
         Err(_) => false,
     }
 }
 
-/// Lets the loop turn. False where it stopped.
+/// Lets the loop turn, and hears what it tells of. False where it stopped.
 fn goes<'a, R: Relation>(
     bank: &Bank<R>,
     it: Loop<R, Tape<'a>, Devices<'a>>,
@@ -71,11 +72,14 @@ fn goes<'a, R: Relation>(
     requires { Suits R.holds R.takes it.gateway.world.rules.routes bank.now }
 {
     let mut it = it;
+    it.keep_told();
     'each: for _ in 0..turns {
         it = match it.turn(bank, host) {
             Ok(it) => it,
             Err(_) => return false,
         };
+        host.hear_of(it.told());
+        it.forget_told();
     }
     host.stop();
     true
