@@ -31,9 +31,6 @@ impl Serving<'_> {
         if !self.looped {
             return None;
         }
-        if self.access {
-            return Some("--access");
-        }
         self.status.and(Some("--status"))
     }
 }

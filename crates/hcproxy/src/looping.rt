@@ -3,7 +3,7 @@
 use crate::files::serve_at;
 use crate::journals::Folder;
 use crate::notes::noted;
-use crate::serving::{folder_of, settings_of, socket_of};
+use crate::serving::{folder_of, options_of, settings_of, socket_of};
 use ask_model::Settings;
 use command_line::{Report, Serving};
 use gateway_server::Options;
@@ -20,9 +20,11 @@ pub fn serve_loop<
     'a,
     R: Net + Log + Clock + RandomSource + Input + Eprint + Files + AllocGlobal + Copy + Drop,
 >(rt: R, host: HostRuntime, serving: Serving<'a>) -> Report<'a> {
-    let idle = serving.idle.unwrap_or(Options::default().idle);
+    let options = options_of(serving);
     match opened(&rt, host, serving) {
-        Ok((ports, settings, folder)) => Report::serve(keep_on(rt, ports, settings, idle, folder)),
+        Ok((ports, settings, folder)) => {
+            Report::serve(keep_on(rt, ports, settings, options, folder))
+        }
         Err(report) => report,
     }
 }
@@ -32,10 +34,10 @@ fn keep_on<R: Net + Log + Clock + RandomSource + Eprint + AllocGlobal + Copy + D
     rt: R,
     ports: Ports,
     settings: Settings,
-    idle: u64,
+    options: Options,
     folder: Folder,
 ) -> ServeFault {
-    run(noted(rt), rt.alloc(), ports, settings, idle, &folder)
+    run(noted(rt), rt.alloc(), ports, settings, options, &folder)
 }
 
 /// The ports that the settings name, taken, what the gateway goes by, and where its journals go.

@@ -55,8 +55,8 @@ A gateway from HTTP/1.1 to CoAP.
                           Prometheus, /health, /journal. Whoever reaches the address may look
   serve FILE --status ADDRESS:PORT --status-bodies
                           .. and its journal there with what datagrams carry, which is hidden without it
-  serve FILE --loop       .. in one thread, in place of one for each connection. It takes --journals and
-                          --idle, and neither --access nor --status
+  serve FILE --loop       .. in one thread, in place of one for each connection. It takes all words but
+                          --status
   replay                  runs the script on standard input through the gateway, and prints what goes out
   replay --journal        .. and then the entries of the journal
   replay --settings FILE  .. under the settings of FILE in place of those of a demonstration

@@ -36,7 +36,19 @@ pub fn serve<
         + Sync
         + 'static,
 >(rt: R, host: HostRuntime, serving: Serving<'a>) -> Report<'a> {
-    let options = Options {
+    let options = options_of(serving);
+    match opened(&rt, host, serving) {
+        Ok((ports, settings, folder)) => {
+            let fault = run(noted(rt), rt.alloc(), ports, settings, options, folder);
+            Report::serve(fault)
+        }
+        Err(report) => report,
+    }
+}
+
+/// How the gateway is to run.
+pub fn options_of(serving: Serving<'_>) -> Options {
+    Options {
         access: serving.access,
         idle: serving.idle.unwrap_or(Options::default().idle),
         payloads: if serving.bodies {
@@ -44,13 +56,6 @@ pub fn serve<
         } else {
             Payloads::Hidden
         },
-    };
-    match opened(&rt, host, serving) {
-        Ok((ports, settings, folder)) => {
-            let fault = run(noted(rt), rt.alloc(), ports, settings, options, folder);
-            Report::serve(fault)
-        }
-        Err(report) => report,
     }
 }
 

@@ -6,19 +6,20 @@ ghost use Rattle.gateway_loop.specs.Sockets.{moved};
 use gateway_loop::{Moved, Stream};
 use mio::net::TcpStream;
 use std::io::{self, ErrorKind, Read, Write};
-use std::net::Shutdown;
+use std::net::{Shutdown, SocketAddr};
 
 /// A client's connection, whose calls don't wait.
 #[derive(Drop)]
 pub struct Client {
     pub(crate) stream: TcpStream,
+    pub(crate) address: SocketAddr,
 }
 
 impl Client {
-    /// A connection that was taken. Its answers go out without delay.
-    pub fn new(stream: TcpStream) -> Client {
+    /// A connection that was taken of this client. Its answers go out without delay.
+    pub fn new(stream: TcpStream, address: SocketAddr) -> Client {
         let _ = stream.set_nodelay(true);
-        Client { stream }
+        Client { stream, address }
     }
 }
 

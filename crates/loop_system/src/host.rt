@@ -10,7 +10,7 @@ use mio::net::{TcpListener, UdpSocket};
 use mio::{Events, Interest, Poll, Token};
 use std::alloc::Global;
 use std::io::{self, ErrorKind};
-use std::net::Net;
+use std::net::{Net, SocketAddr};
 use std::random::RandomSource;
 use std::rt::Clock;
 use std::time::{Duration, Instant};
@@ -24,6 +24,13 @@ const LISTENER: Token = Token(0xffff_ffff_ffff_fffe);
 
 const DEVICES: Token = Token(0xffff_ffff_ffff_fffd);
 
+/// A client that came, under the number that its connection has if it is taken.
+#[derive(Clone, Copy)]
+pub struct Arrival {
+    pub number: u32,
+    pub address: SocketAddr,
+}
+
 /// The system, as the loop sees it.
 #[derive(Drop)]
 pub struct System<W: Clock + RandomSource + Drop> {
@@ -33,6 +40,8 @@ pub struct System<W: Clock + RandomSource + Drop> {
     events: Events,
     /// Those that weren't given yet, the last of them first.
     signs: Vec<Sign>,
+    /// Who came since that was looked at.
+    pub(crate) arrivals: Vec<Arrival>,
     begin: Instant,
     words: Words,
 }
@@ -65,6 +74,7 @@ impl<W: Clock + RandomSource + Drop> System<W> {
             listener,
             events: Events::with_capacity(alloc, SIGNS)?,
             signs: Vec::with_capacity(alloc, SIGNS)?,
+            arrivals: Vec::new(alloc),
             begin,
             words: Words::new(),
         })
@@ -85,13 +95,17 @@ fn sign_of(event: &Event) -> Sign {
 impl<W: Clock + RandomSource + Drop> Host<Client> for System<W> {
     fn accept(&mut self) -> Accepted<Client> {
         match self.listener.accept() {
-            Ok((stream, _)) => Accepted::Client(Client::new(stream)),
+            Ok((stream, address)) => Accepted::Client(Client::new(stream, address)),
             Err(error) if error.kind() == ErrorKind::WouldBlock => Accepted::Later,
             Err(_) => Accepted::Refused,
         }
     }
 
     fn watch(&mut self, number: u32, stream: &mut Client) -> bool {
+        let address = stream.address;
+        if self.arrivals.push(Arrival { number, address }).is_err() {
+            return false;
+        }
         let both = Interest::READABLE | Interest::WRITABLE;
         let token = Token(number as usize);
         self.poll

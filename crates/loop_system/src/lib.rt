@@ -4,14 +4,17 @@
 //! Readiness comes from `mio`: once for each change, so each socket is used until it gives no more.
 #![tactic(auto)]
 
+mod after;
 mod client;
 mod devices;
 mod host;
+mod notes;
 mod ports;
 mod server;
 mod shelf;
 mod words;
 
+pub use gateway_window::{Options, Payloads};
 pub use journal_archive::{Archive, NoArchive};
 pub use ports::Ports;
 pub use server::run;

@@ -1,15 +1,17 @@
 //! The gateway on the system's sockets, in one thread.
 
 ghost use Rattle.ask_model.specs.Views.{rules_of};
+ghost use Rattle.route_bank.specs.Profiles.{profile_holds, profile_takes};
 ghost use Rattle.transformers.specs.Suits.{Suits};
 
+use crate::after::After;
 use crate::client::Client;
 use crate::devices::Devices;
 use crate::host::{System, watched};
 use crate::ports::Ports;
-use crate::shelf::Shelf;
 use ask_model::Settings;
 use gateway_loop::{Gateway, Loop, Stop};
+use gateway_window::Options;
 use gateway_world::RotateFault;
 use journal_archive::Archive;
 use log::{Log, info, warn};
@@ -20,13 +22,11 @@ use std::net::{Net, SocketAddr};
 use std::random::RandomSource;
 use std::rt::Clock;
 use std::time::Instant;
-use transformers::{Bank, Relation, Stored};
+use transformers::{Bank, Stored};
 
-/// Runs the gateway at these ports, until the clock fails, signs can't be waited for, memory is
-/// refused or the numbers of its journals are spent.
+/// Runs the gateway at these ports, as the options say, until the clock fails, signs can't be waited
+/// for, memory is refused or the numbers of its journals are spent.
 ///
-/// A client may stand still in a request for so many seconds; where 256 connections are open, one
-/// that is idle for so long is closed for another one.
 /// Each time that the journal is nearly full it is turned over and given to the archive, with the
 /// number of those before it and it. All wait while the archive keeps it.
 pub fn run<W: Net + Log + Clock + RandomSource + Copy + Drop, A: Archive<Profile>>(
@@ -34,11 +34,10 @@ pub fn run<W: Net + Log + Clock + RandomSource + Copy + Drop, A: Archive<Profile
     alloc: Global,
     ports: Ports,
     settings: Settings,
-    idle: u64,
+    options: Options,
     archive: &A,
 ) -> ServeFault {
-    let idle = idle.saturating_mul(1000);
-    match run_with_bank(rt, alloc, ports, settings, idle, archive) {
+    match run_with_bank(rt, alloc, ports, settings, options, archive) {
         Ok(stop) => fault_of(stop),
         Err(fault) => fault,
     }
@@ -58,27 +57,35 @@ fn run_with_bank<W: Net + Log + Clock + RandomSource + Copy + Drop, A: Archive<P
     alloc: Global,
     ports: Ports,
     settings: Settings,
-    idle: u64,
+    options: Options,
     archive: &A,
 ) -> Result<Stop, ServeFault> {
     let mut all: Vec<Stored<Profile>> = Vec::new(alloc);
     'each: for route in settings.routes.as_slice() {
         store_for!(alloc, all, route);
     }
-    run_on(rt, alloc, ports, settings, &Bank::new(all), idle, archive)
+    run_on(
+        rt,
+        alloc,
+        ports,
+        settings,
+        &Bank::new(all),
+        options,
+        archive,
+    )
 }
 
 /// Runs the gateway with a bank that suits the settings.
-fn run_on<R: Relation, W: Net + Log + Clock + RandomSource + Copy + Drop, A: Archive<R>>(
+fn run_on<W: Net + Log + Clock + RandomSource + Copy + Drop, A: Archive<Profile>>(
     rt: W,
     alloc: Global,
     ports: Ports,
     settings: Settings,
-    bank: &Bank<R>,
-    idle: u64,
+    bank: &Bank<Profile>,
+    options: Options,
     archive: &A,
 ) -> Result<Stop, ServeFault>
-    requires { Suits R.holds R.takes (rules_of settings).routes bank.now }
+    requires { Suits profile_holds profile_takes (rules_of settings).routes bank.now }
 {
     if let (Ok(listen), Ok(udp)) = (ports.listens_at(), ports.sends_from()) {
         note_ports(&rt, listen, udp);
@@ -96,8 +103,10 @@ fn run_on<R: Relation, W: Net + Log + Clock + RandomSource + Copy + Drop, A: Arc
         Err(error) => return Err(ServeFault::Clock(error)),
     };
     let mut host = System::new(rt, alloc, poll, listener, begin)?;
-    let gateway: Gateway<R, Client, Devices> = Gateway::new(alloc, settings, devices)?;
-    Ok(go_on(&rt, Loop::new(gateway, idle)?, bank, &mut host, archive))
+    let gateway: Gateway<Profile, Client, Devices> = Gateway::new(alloc, settings, devices)?;
+    let it = Loop::new(gateway, options.idle.saturating_mul(1000))?;
+    let after = After::new(alloc, archive, options.access);
+    Ok(go_on(&rt, it, bank, &mut host, after))
 }
 
 /// Notes where the gateway is found.
@@ -106,17 +115,18 @@ fn note_ports<W: Log>(rt: &W, listen: SocketAddr, udp: SocketAddr) {
 }
 
 /// Turns until it can't go on.
-fn go_on<R: Relation, V: Log + Clock, W: Clock + RandomSource + Drop, A: Archive<R>>(
+fn go_on<V: Log + Clock, W: Clock + RandomSource + Drop, A: Archive<Profile>>(
     rt: &V,
-    it: Loop<R, Client, Devices>,
-    bank: &Bank<R>,
+    it: Loop<Profile, Client, Devices>,
+    bank: &Bank<Profile>,
     host: &mut System<W>,
-    archive: &A,
+    after: After<'_, A>,
 ) -> Stop
-    requires { Suits R.holds R.takes it.gateway.world.rules.routes bank.now }
+    requires { Suits profile_holds profile_takes it.gateway.world.rules.routes bank.now }
 {
     let mut it = it;
-    let mut shelf = Shelf::new();
+    let mut after = after;
+    after.begin(&mut it);
     'each: for _ in 0..u64::MAX {
         it = match it.turn(bank, host) {
             Ok(it) => it,
@@ -125,7 +135,8 @@ fn go_on<R: Relation, V: Log + Clock, W: Clock + RandomSource + Drop, A: Archive
                 return stop;
             }
         };
-        shelf.look(rt, archive, &mut it);
+        after.look(rt, &mut it, &host.arrivals);
+        host.arrivals.clear();
     }
     Stop::Wait
 }

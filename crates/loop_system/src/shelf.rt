@@ -1,8 +1,5 @@
 //! The journals that were turned over, one after another.
 
-ghost use Rattle.std.specs.Prelude.{◌≡◌};
-
-use gateway_loop::{Loop, Stream, Wire};
 use journal_archive::Archive;
 use journal_book::{Event, Journal};
 use log::{Log, info};
@@ -31,27 +28,27 @@ impl Shelf {
         }
     }
 
-    /// Notes that the journal is nearly full; and gives it to the archive, where it was turned over.
-    pub fn look<R: Relation, S: Stream + Drop, W: Wire + Drop, V: Log + Clock, A: Archive<R>>(
-        &mut self,
-        rt: &V,
-        archive: &A,
-        it: &mut Loop<R, S, W>,
-    )
-        ensures { it.new.gateway ≡ it.old.gateway }
-    {
-        if it.is_turning() && !self.noted {
+    /// Notes that the journal is to be turned over, where that wasn't noted.
+    pub fn look<V: Log + Clock>(&mut self, rt: &V, turning: bool) {
+        if turning && !self.noted {
             let number = self.number;
             info!(rt; target: "hcproxy", "journal {number} is nearly full: connections are closed");
             self.noted = true;
             self.begin = Instant::now(rt).ok();
         }
-        if let Some(journal) = it.take_journal() {
-            self.note(rt, &journal);
-            archive.keep(self.number, &journal);
-            self.number = self.number.saturating_add(1);
-            self.noted = false;
-        }
+    }
+
+    /// Gives the journal to the archive, which was turned over.
+    pub fn keep<R: Relation, V: Log + Clock, A: Archive<R>>(
+        &mut self,
+        rt: &V,
+        archive: &A,
+        journal: &Journal<R>,
+    ) {
+        self.note(rt, journal);
+        archive.keep(self.number, journal);
+        self.number = self.number.saturating_add(1);
+        self.noted = false;
     }
 
     /// Notes that the journal was turned over, and how long nobody was served.

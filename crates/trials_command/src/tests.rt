@@ -148,7 +148,10 @@ static COMMANDS: [(&str, Option<Command<'static>>); 50] = [
     ),
     ("serve --idle 5 --loop a.toml --journals past", LOOPED),
     ("serve --loop --idle 5 --journals past a.toml", LOOPED),
-    ("serve a.toml --loop --access", None),
+    (
+        "serve --loop --access --idle 5 a.toml --journals past",
+        LOOPED_WATCHED,
+    ),
     ("serve a.toml --loop --status 127.0.0.1:9090", None),
     ("serve a.toml --loop --idle 0", None),
     ("serve --loop --loop", None),
@@ -223,6 +226,14 @@ const BARED: Option<Command<'static>> = Some(Command::Serve(Serving {
 
 const LOOPED: Option<Command<'static>> = Some(Command::Serve(Serving {
     journals: Some("past"),
+    idle: Some(5),
+    looped: true,
+    ..PLAIN
+}));
+
+const LOOPED_WATCHED: Option<Command<'static>> = Some(Command::Serve(Serving {
+    journals: Some("past"),
+    access: true,
     idle: Some(5),
     looped: true,
     ..PLAIN

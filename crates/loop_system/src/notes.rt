@@ -1,0 +1,214 @@
+//! What is noted of connections and of answers.
+
+use crate::client::Client;
+use crate::devices::Devices;
+use crate::host::Arrival;
+use answer_log::{Given, Line, heading_of};
+use gateway_loop::{Loop, Told};
+use journal_book::{Event, Journal};
+use log::{Log, info, warn};
+use std::alloc::{AllocError, Global};
+use std::collections::VecDeque;
+use std::net::SocketAddr;
+use transformers::Relation;
+
+/// One who is connected.
+#[derive(Drop)]
+struct Seat {
+    number: u32,
+    address: SocketAddr,
+    /// the entries of its answers that weren't noted yet
+    answers: VecDeque<usize>,
+}
+
+/// Notes what the loop does, as far as that is wanted.
+#[derive(Drop)]
+pub struct Notes {
+    alloc: Global,
+    /// Answers are noted.
+    access: bool,
+    /// who is connected, where answers are noted
+    seats: Vec<Seat>,
+    /// how many entries of the journal were looked at
+    seen: usize,
+    /// The last who came was turned away.
+    turning_away: bool,
+}
+
+/// The first status that an answer has: what comes before tells a client only to go on.
+const FIRST_STATUS: u16 = 200;
+
+impl Notes {
+    /// Nothing was done yet.
+    pub fn new(alloc: Global, access: bool) -> Notes {
+        Notes {
+            alloc,
+            access,
+            seats: Vec::new(alloc),
+            seen: 0,
+            turning_away: false,
+        }
+    }
+
+    /// Whether it looks at single answers.
+    pub fn wants_told(&self) -> bool {
+        self.access
+    }
+
+    /// Notes what was done since it looked last, of which this journal tells.
+    pub fn look<R: Relation, V: Log>(
+        &mut self,
+        rt: &V,
+        it: &Loop<R, Client, Devices>,
+        arrivals: &[Arrival],
+        journal: &Journal<R>,
+    ) {
+        self.seat_all(rt, arrivals, it.count());
+        if !self.wants_told() {
+            return;
+        }
+        let count = journal.len();
+        if !it.told().is_empty() {
+            self.add_answers(journal);
+        }
+        'told: for told in it.told() {
+            self.note_told(rt, journal, told);
+        }
+        'shut: for place in self.seen..count {
+            self.unseat(journal, place);
+        }
+        self.seen = count;
+    }
+
+    /// Another journal begins, when nobody is connected.
+    pub fn begin_anew(&mut self) {
+        self.seats.clear();
+        self.seen = 0;
+    }
+
+    /// Those who came are connected or were turned away; the next has this number.
+    fn seat_all<V: Log>(&mut self, rt: &V, arrivals: &[Arrival], count: usize) {
+        'each: for (place, arrival) in arrivals.iter().enumerate() {
+            let again = match arrivals.get(place + 1) {
+                Some(next) => next.number == arrival.number,
+                None => false,
+            };
+            self.seat(rt, *arrival, !again && (arrival.number as usize) < count);
+        }
+    }
+
+    /// One is connected or was turned away. The first of some who were is noted.
+    fn seat<V: Log>(&mut self, rt: &V, arrival: Arrival, taken: bool) {
+        if taken && self.wants_told() {
+            let _ = self.sit(arrival);
+        }
+        if !taken && !self.turning_away {
+            warn!(rt; target: "hcproxy", "a connection is turned away: no place for it");
+        }
+        self.turning_away = !taken;
+    }
+
+    /// One is connected, and has no answer yet.
+    fn sit(&mut self, arrival: Arrival) -> Result<(), AllocError> {
+        self.seats.push(Seat {
+            number: arrival.number,
+            address: arrival.address,
+            answers: VecDeque::new(self.alloc),
+        })?;
+        Ok(())
+    }
+
+    /// The entries of the answers that were given out stand in the order of each connection's answers.
+    fn add_answers<R: Relation>(&mut self, journal: &Journal<R>) {
+        'each: for place in self.seen..journal.len() {
+            self.add_answer(journal, place);
+        }
+    }
+
+    /// An entry that is an answer is one of its connection.
+    fn add_answer<R: Relation>(&mut self, journal: &Journal<R>, place: usize) {
+        let Some(entry) = journal.get(place) else {
+            return;
+        };
+        let Event::Answered { conn, .. } = &entry.event else {
+            return;
+        };
+        'each: for seat in self.seats.iter_mut() {
+            if seat.number == *conn {
+                let _ = seat.answers.push_back(place);
+                return;
+            }
+        }
+    }
+
+    /// Who is connected under this number, and the entry of the next of its answers, which is noted.
+    fn take_answer(&mut self, number: u32) -> Option<(SocketAddr, usize)> {
+        'each: for seat in self.seats.iter_mut() {
+            if seat.number == number {
+                let place = seat.answers.pop_front()?;
+                return Some((seat.address, place));
+            }
+        }
+        None
+    }
+
+    /// One is connected no more whose connection was closed by this entry.
+    fn unseat<R: Relation>(&mut self, journal: &Journal<R>, place: usize) {
+        let Some(entry) = journal.get(place) else {
+            return;
+        };
+        if let Event::Shut(conn) = &entry.event {
+            let conn = *conn;
+            self.seats.retain(|seat| seat.number != conn);
+        }
+    }
+
+    /// Notes what was given out, if it is an answer: the next one of its connection.
+    fn note_told<R: Relation, V: Log>(&mut self, rt: &V, journal: &Journal<R>, told: &Told) {
+        if heading_of(&told.head).status < FIRST_STATUS {
+            return;
+        }
+        if let Some((client, place)) = self.take_answer(told.number) {
+            self.note(rt, journal, place, told, client);
+        }
+    }
+
+    /// Notes the answer with this entry.
+    fn note<R: Relation, V: Log>(
+        &self,
+        rt: &V,
+        journal: &Journal<R>,
+        place: usize,
+        told: &Told,
+        client: SocketAddr,
+    ) {
+        let Some(entry) = journal.get(place) else {
+            return;
+        };
+        let Event::Answered { conn, ask, grounds } = &entry.event else {
+            return;
+        };
+        let Some(request) = journal.get(*ask as usize) else {
+            return;
+        };
+        let Event::Asked(_, mapped) = &request.event else {
+            return;
+        };
+        let heading = heading_of(&told.head);
+        let given = Given {
+            came: mapped.came(),
+            peer: mapped.peer(),
+            grounds,
+            status: heading.status,
+            cause: heading.cause,
+            count: Some(told.count),
+        };
+        let line = Line {
+            client,
+            conn: *conn,
+            time: entry.moment.saturating_sub(request.moment),
+            given,
+        };
+        info!(rt; target: "access", "{line}");
+    }
+}
