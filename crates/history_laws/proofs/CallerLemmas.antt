@@ -4,7 +4,9 @@ pub use Rattle.history_laws.proofs.Basis.{asking-alike, blocks-alike, brought-by
 pub use Rattle.history_laws.proofs.Wholes.{end-below, ends-all, EndsAll}
 pub use Rattle.history_laws.proofs.Going.{EndsWhole, ends-whole, going-not, goes-so, GoesSo, IsGoing, MadeTurn}
 pub use Rattle.history_laws.proofs.Fetching.{AreAsked, AreGiven, asks-first, CameTo, came-to, GivenSoFar, IsMadeOf, pieces_in, progress-push, SoFar, split-push, upload_in}
-pub use Rattle.history_laws.proofs.Storing.{kept-served, rests-on-the-store, Served, served-by, stored-current, stored-shared}
+pub use Rattle.history_laws.proofs.Storing.{carried-current, carried-rests, ended-uncopied, kept-served, rests-on-the-store, Served, served-by, stored-current, stored-rests, stored-shared}
+pub use Rattle.history_laws.proofs.Carried.{served_carried-holds}
+pub use Rattle.history_laws.proofs.Carrying.{at-carried, Backs, backs, begun-uncarried, carried-at, carried-before, carried-below, carried-fit, carried-keeps, carried-own, carried-replies-own, carried-reply, CarriedAsk, carries-back, carries-keeps, copy-at, has-carried, no-carried, none-carried, reply-before, uncarried}
 pub use Rattle.history_laws.proofs.Copied.{answered_anew-holds, get-again-spelled}
 pub use Rattle.history_laws.proofs.Copying.{at-still, before-twice, ticked-newest}
 pub use Rattle.history_laws.proofs.Elements.{all-filter, all-more, all-of, all-passes, all-push, any-find, any-of, contains-filter, contains-later, contains-map, contains-mapped, contains-none, filter-by, filter-push, filtered-from, find-any, find-some, first-or-later, got-last, got-more, is-some}
@@ -35,7 +37,8 @@ pub use Rattle.history_laws.proofs.Ended.{none-after-end}
 pub use Rattle.history_laws.proofs.Outrunning.{end-before, end-keeps, end-old, end-since, ended-begun, EndsWrite, is-outrun, none-outran, not-true, outran, Outran, outrun-keeps, outrun-new, outrun-quiet, outrun-since, write-outruns}
 pub use Rattle.history_laws.proofs.Joining.{Alike, begun-early, is-joinable, joinable-is, Joined, joins-found, joins-is, joins-none, joins-same, none-joined, one-joinable, open-same, outrun-same, reader, Reader, reader-alike, ReadsAlong, reads-opened, Shared, shared-is, unoutrun-earlier, write-earlier}
 pub use Rattle.history_laws.proofs.Order.{came-next, CameNext, fetched-in-order, quiet-since, sends-next}
-pub use Rattle.history_laws.proofs.Watching.{IsRegistering, IsSaid, not-rst, registering, said, this-is, watch-fits, watch-unwaited, WatchFits, watches-few, watches-fit}
+pub use Rattle.history_laws.proofs.Registering.{IsRegistering, IsSaid, registering, said, this-is}
+pub use Rattle.history_laws.proofs.Watching.{not-rst, watch-fits, watch-unwaited, WatchFits, watches-few, watches-fit}
 pub use Rattle.history_laws.proofs.Counted.{HeldFrom, uncounted, watches-held}
 pub use Rattle.history_laws.proofs.Notified.{comes-fit, comes-since, counted, first-response, first-whole, IsCounted, IsNews, IsTold, IsUnderWatch, never-both, news-fits, news-since, news-told, news-unreplied, NewsFits, one-update, tell-fits, TellFits, under-watch, update-fits, update-news, updates-since}
 pub use Rattle.history_laws.proofs.Watched.{forgotten-holds, greatest-1-spelled, greatest-3-spelled, least-2-spelled, registers-spelled, rejected-t-holds, served-holds, watch-get-spelled}

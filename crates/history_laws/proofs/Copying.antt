@@ -21,6 +21,7 @@ all-fewer : (f : FirstSending → Bool) (n t : ℕ) (d : Deed) (note : Note) (ol
     → list_all f (firsts_by n t d note old) ≡ true → list_all f old ≡ true
 all-fewer f n t (Sends p b w) (First o m) old h = and-right _ _ h
 all-fewer f n t (Carries k mark (D.Sent p b w)) (Bygone m) old h = and-right _ _ h
+all-fewer f n t (Carries k mark (D.Sent p b w)) (First o m) old h = and-right _ _ h
 all-fewer f n t (Carries k mark (D.Sent p b w)) note old h = h
 all-fewer f n t (Carries k mark done) note old h = h
 all-fewer f n t d note old h = h

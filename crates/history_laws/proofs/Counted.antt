@@ -26,7 +26,8 @@ use Rattle.std.proofs.lemmas.Bool.{false≢true}
 use Rattle.history_laws.proofs.Places.{at-keeps, at-new, at-same, before-new}
 use Rattle.history_laws.proofs.Replies.{IsReplyTo-keeps, replies-fit}
 use Rattle.history_laws.proofs.Resting.{none-some, some-is}
-use Rattle.history_laws.proofs.Watching.{all-mapped, IsRegistering, not-rst, registering, said, turn-replies}
+use Rattle.history_laws.proofs.Registering.{all-mapped, IsRegistering, registering, said}
+use Rattle.history_laws.proofs.Watching.{not-rst, turn-replies}
 
 pub record HeldFrom (l : List Noted) (w : Watch) : Type 0 where
   pub last : Reply

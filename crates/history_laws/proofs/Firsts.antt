@@ -28,15 +28,24 @@ pub record IsBygone (l : List Noted) (f : FirstSending) : Type 0 where
   pub mark : Mark
   pub bytes : List ℕ
   pub timeout : Option ℕ
-  pub stands : at l f.number ≡ Some (noted f.moment (Carries old mark (D.Sent f.peer bytes timeout)) (Bygone f.message))
-  pub own : f.opening ≡ f.number
+  pub note : Note
+  pub stands : at l f.number ≡ Some (noted f.moment (Carries old mark (D.Sent f.peer bytes timeout)) note)
+  pub own : ((note ≡ Bygone f.message) × (f.opening ≡ f.number)) ⊎ (note ≡ First f.opening f.message)
 
 abbrev pub IsListed : List Noted → FirstSending → Type 0
 IsListed l f = IsFirst l f.moment f.opening f.number f.peer f.message ⊎ IsBygone l f
 
 listed-keeps : (x : Noted) (l : List Noted) (f : FirstSending) → IsListed l f → IsListed (x ∷ l) f
 listed-keeps x l f (inl h) = inl (IsFirst-keeps x l _ _ _ _ _ h)
-listed-keeps x l f (inr h) = inr record { old = h.old; mark = h.mark; bytes = h.bytes; timeout = h.timeout; stands = at-keeps x l f.number _ h.stands; own = h.own }
+listed-keeps x l f (inr h) = inr record {
+  old = h.old;
+  mark = h.mark;
+  bytes = h.bytes;
+  timeout = h.timeout;
+  note = h.note;
+  stands = at-keeps x l f.number _ h.stands;
+  own = h.own;
+}
 
 listed-step : (l : List Noted) (t : ℕ) (d : Deed) (note : Note) (f : FirstSending) → (Contains (firsts l) f → IsListed l f)
     → Contains (firsts_by (length l) t d note (firsts l)) f → IsListed (noted t d note ∷ l) f
@@ -49,7 +58,13 @@ listed-step l t (Sends p b w) (First o m) f ih h =
 listed-step l t (Carries k mark (D.Sent p b w)) (Bygone m) f ih h =
     let x = noted t (Carries k mark (D.Sent p b w)) (Bygone m) in
     elim (first-or-later (record { number = length l; moment = t; opening = length l; peer = p; message = m }) (firsts l) f h) [
-      | inl u ↦ subst (IsListed (x ∷ l)) u (inr (record { old = k; mark = mark; bytes = b; timeout = w; stands = at-new x l; own = refl }))
+      | inl u ↦ subst (IsListed (x ∷ l)) u (inr (record { old = k; mark = mark; bytes = b; timeout = w; note = Bygone m; stands = at-new x l; own = inl (refl, refl) }))
+      | inr u ↦ listed-keeps x l f (ih u)
+    ]
+listed-step l t (Carries k mark (D.Sent p b w)) (First o m) f ih h =
+    let x = noted t (Carries k mark (D.Sent p b w)) (First o m) in
+    elim (first-or-later (record { number = length l; moment = t; opening = o; peer = p; message = m }) (firsts l) f h) [
+      | inl u ↦ subst (IsListed (x ∷ l)) u (inr (record { old = k; mark = mark; bytes = b; timeout = w; note = First o m; stands = at-new x l; own = inr refl }))
       | inr u ↦ listed-keeps x l f (ih u)
     ]
 listed-step l t (Carries k mark (D.Sent p b w)) note f ih h = listed-keeps (noted t (Carries k mark (D.Sent p b w)) note) l f (ih h)
@@ -69,6 +84,7 @@ older-step : (n t : ℕ) (d : Deed) (note : Note) (old : List FirstSending) (i :
     → find (λ (f : FirstSending). eqb f.number i) (firsts_by n t d note old) ≡ find (λ (f : FirstSending). eqb f.number i) old
 older-step n t (Sends p b w) (First o m) old i lt = elim (eqb_tells n i) [ inl w ↦ let same = w.1 in absurd (omega (arith, lt, same)) | inr w ↦ rw (w.0) refl ]
 older-step n t (Carries k mark (D.Sent p b w)) (Bygone m) old i lt = elim (eqb_tells n i) [ inl w ↦ let same = w.1 in absurd (omega (arith, lt, same)) | inr w ↦ rw (w.0) refl ]
+older-step n t (Carries k mark (D.Sent p b w)) (First o m) old i lt = elim (eqb_tells n i) [ inl w ↦ let same = w.1 in absurd (omega (arith, lt, same)) | inr w ↦ rw (w.0) refl ]
 older-step n t (Carries k mark (D.Sent p b w)) note old i lt = refl
 older-step n t (Carries k mark done) note old i lt = refl
 older-step n t d note old i lt = refl
@@ -113,6 +129,12 @@ new-step l t (Carries k Past (D.Sent p b w)) (Bygone m) f may h =
       | inr u ↦ inr u
     ]
 new-step l t (Carries k D.Ground (D.Sent p b w)) (Bygone m) f may h = absurd may.2
+new-step l t (Carries k Past (D.Sent p b w)) (First o m) f may h = absurd may.2
+new-step l t (Carries k D.Ground (D.Sent p b w)) (First o m) f may h =
+    elim (first-or-later (record { number = length l; moment = t; opening = o; peer = p; message = m }) (firsts l) f h) [
+      | inl u ↦ inl (subst (IsNew l) u (record { number = refl; token = may.2.0.token_apart; mid = may.2.0.mid_apart }))
+      | inr u ↦ inr u
+    ]
 new-step l t (Carries k mark (D.Sent p b w)) note f may h = inr h
 new-step l t (Carries k mark done) note f may h = inr h
 new-step l t d note f may h = inr h
@@ -177,6 +199,12 @@ listed-case l t (Carries k mark (D.Sent p b w)) (Bygone m) f h =
     let new : FirstSending = record { number = length l; moment = t; opening = length l; peer = p; message = m } in
     elim (first-or-later new (firsts l) f h) [
       | inl u ↦ inl (ap (λ (g : FirstSending). g.number) (sym u), subst (λ (g : FirstSending). first_at (noted t (Carries k mark (D.Sent p b w)) (Bygone m) ∷ l) (length l) ≡ Some g) u (rw (eqb-itself (length l)) refl))
+      | inr u ↦ inr u
+    ]
+listed-case l t (Carries k mark (D.Sent p b w)) (First o m) f h =
+    let new : FirstSending = record { number = length l; moment = t; opening = o; peer = p; message = m } in
+    elim (first-or-later new (firsts l) f h) [
+      | inl u ↦ inl (ap (λ (g : FirstSending). g.number) (sym u), subst (λ (g : FirstSending). first_at (noted t (Carries k mark (D.Sent p b w)) (First o m) ∷ l) (length l) ≡ Some g) u (rw (eqb-itself (length l)) refl))
       | inr u ↦ inr u
     ]
 listed-case l t (Carries k mark (D.Sent p b w)) note f h = inr h

@@ -1,9 +1,6 @@
 -- How far an open exchange has come by its replies, and what one that ended with a whole response is made of.
-use Rattle.std.proofs.Common.{◌≡◌, ℕ, Bool, true, false, cond, eqb, List, [], ◌∷◌, ◌++◌, length, Option, Some, None, refl, sym, ap, subst, ◌∙◌}
+use Rattle.std.proofs.Common.{◌≡◌, ℕ, Bool, true, false, cond, eqb, List, [], ◌∷◌, ◌++◌, length, Option, Some, None, refl, sym, ap, subst}
 use Rattle.std.specs.Prelude.{is_none}
-use Rattle.std.specs.List.{Contains}
-use Rattle.std.proofs.lemmas.Bool.Decides.{eqb_tells}
-use Rattle.std.proofs.lemmas.List.Elements.{Contains-append_left, Contains-append_right}
 use Rattle.coap_codec.specs.Spelling.{Content}
 use Rattle.blockwise.specs.Downloads.{no_pieces}
 use Rattle.blockwise.specs.Uploads.{begun as begun_as}
@@ -11,11 +8,11 @@ use Rattle.ask_model.specs.Requests.{CoapRequest}
 use Rattle.history_laws.specs.Responses.{Response}
 use Rattle.history_laws.specs.Readings.{Noted, at, before}
 use Rattle.history_laws.specs.Progress.{Reply, Ending, Whole, NotUnderstood, Reset, TimedOut, Turned, Progress, Fetches, Gives, Ends, progress, ended_by}
-use Rattle.history_laws.specs.Exchanges.{Begun, begun, opens_by, begun_by, Turn, Nothing, Sent, Replied, Rejected, Expired, turn, replies_by, replies, End, replied_end, end_here, end_by, end_of}
+use Rattle.history_laws.specs.Exchanges.{Begun, begun, Turn, Nothing, Sent, Replied, Rejected, Expired, turn, replies_by, replies, replied_end, end_here, end_of}
 use Rattle.history_laws.specs.Justified.{Ends as EndsAs}
 use Rattle.history_laws.proofs.Fetching.{CameTo, came-first, came-to, IsMadeOf}
 use Rattle.history_laws.proofs.Openings.{ends-first}
-use Rattle.history_laws.proofs.Queue.{going-before, NoReply, replies-stay}
+use Rattle.history_laws.proofs.Queue.{going-before}
 use Rattle.history_laws.proofs.Resting.{none-is, none-some, some-is}
 use Rattle.history_laws.proofs.Sent.{begun-before, begun-keeps}
 

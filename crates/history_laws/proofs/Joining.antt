@@ -169,6 +169,9 @@ joins-ask l t (Carries k mark done) o f = absurd (never mark done f.2)
     never : (mark : Mark) (done : D.Done) → CopiedNote l t mark done (Joins o) → ⊥
     never D.Past (D.Sent p b w) h = h
     never D.Past (D.Heard p b) h = h
+    never D.Ground (D.Asked c a) h = h
+    never D.Ground (D.Sent p b w) h = h
+    never D.Ground (D.Heard p b) h = h
     never mark done h = h
 
 -- An ask reads the exchange that it opened, or one that it joined.

@@ -16,6 +16,7 @@ mod Firsts
 mod Replies
 mod Members
 mod Sent
+mod Carrying
 mod Fetching
 mod Unbegun
 mod Outrunning
@@ -28,6 +29,7 @@ mod Basis
 mod Wholes
 mod Order
 mod Missing
+mod Registering
 mod Watching
 mod Notified
 mod Counted
@@ -40,6 +42,7 @@ mod Endings
 mod Late
 mod Spoiled
 mod Copied
+mod Carried
 mod Readers
 mod Store
 mod Pieces

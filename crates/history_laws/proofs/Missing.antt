@@ -9,6 +9,7 @@ use Rattle.history_laws.specs.Progress.{Reply, Ending, Whole}
 use Rattle.history_laws.specs.Exchanges.{Begun, begun, openings, End, end_of}
 use Rattle.history_laws.specs.Joining.{asks_the_same, is_joinable}
 use Rattle.history_laws.specs.Storing.{content, EndsSo, MissesAlone, UpdatesSo, IsCrowdedOut}
+use Rattle.history_laws.proofs.Carrying.{has-carried, no-carried}
 use Rattle.history_laws.proofs.Elements.{any-of}
 use Rattle.history_laws.proofs.Openings.{begun-listed}
 use Rattle.history_laws.proofs.Places.{at-old}
@@ -51,11 +52,12 @@ any-at p (y ∷ older) n x e h =
 pub no-updates : (l : List Noted) (o e : ℕ) (w : Response) (rs : List Reply) → has-update l ≡ false → UpdatesSo l o e w rs → ⊥
 no-updates l o e w rs none u = false≢true (sym none ∙ any-at (λ (x : Noted). updates x.note) l e _ u.stands refl)
 
-pub none-stored : (l : List Noted) (t : ℕ) (q : CoapRequest) → (list_any (might-answer l q) (openings l) || has-update l) ≡ false → MissesAlone l t q
-none-stored l t q none s a fresh = elim a.comes [ inl it ↦ not-ended it | inr it ↦ absurd (no-updates l _ _ _ _ both.1 it) ]
+pub none-stored : (l : List Noted) (t : ℕ) (q : CoapRequest) → (list_any (might-answer l q) (openings l) || (has-update l || has-carried l)) ≡ false → MissesAlone l t q
+none-stored l t q none s (inr a) fresh = absurd (no-carried l a.opening s.response (a.first ∷ a.more) (or_parts (has-update l) (has-carried l) (or_parts (list_any (might-answer l q) (openings l)) _ none).1).1 a.carries)
+none-stored l t q none s (inl a) fresh = elim a.comes [ inl it ↦ not-ended it | inr it ↦ absurd (no-updates l _ _ _ _ both.1 it) ]
   where
     both : (list_any (might-answer l q) (openings l) ≡ false) × (has-update l ≡ false)
-    both = or_parts (list_any (might-answer l q) (openings l)) (has-update l) none
+    both = let p = or_parts (list_any (might-answer l q) (openings l)) _ none in (p.0, (or_parts (has-update l) (has-carried l) p.1).0)
 
     same : asks_the_same q (begun l a.opening) ≡ true
     same = (and_parts (asks_the_same q (begun l a.opening)) _ a.shared).0

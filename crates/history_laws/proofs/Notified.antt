@@ -22,7 +22,8 @@ use Rattle.history_laws.specs.Observing.{Watch, as_first, counts, first_reply, i
 use Rattle.history_laws.specs.Hearing.{counts_as, is_such, is_this, may_register, notified, observation_by, observation_of, registers, answers}
 use Rattle.history_laws.specs.Storing.{ComesSo, EndsSo, UpdatesSo}
 use Rattle.history_laws.specs.Justified.{Legal, MaySay}
-use Rattle.history_laws.specs.Laws.{IsFirst, IsReplyKind, IsReplyTo}
+use Rattle.history_laws.specs.Hearing.{IsReplyKind}
+use Rattle.history_laws.specs.Laws.{IsFirst, IsReplyTo}
 use Rattle.history_laws.proofs.Basis.{made-of}
 use Rattle.history_laws.proofs.Copying.{before-twice}
 use Rattle.history_laws.proofs.Elements.{contains-none, find-some, first-or-later}
@@ -32,7 +33,8 @@ use Rattle.history_laws.proofs.Firsts.{first-found, first-is, firsts-tokens}
 use Rattle.history_laws.proofs.Outrunning.{end-since}
 use Rattle.history_laws.proofs.Places.{at-below}
 use Rattle.history_laws.proofs.Replies.{found, replies-fit}
-use Rattle.history_laws.proofs.Watching.{not-rst, said, watch-fits, WatchFits, says-to}
+use Rattle.history_laws.proofs.Registering.{said, says-to}
+use Rattle.history_laws.proofs.Watching.{not-rst, watch-fits, WatchFits}
 use Rattle.history_laws.proofs.Turns.{turn-replied, waits-first}
 use Rattle.history_laws.proofs.Going.{ends-whole}
 use Rattle.history_laws.proofs.Resting.{some-is}

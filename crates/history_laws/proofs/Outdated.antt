@@ -56,6 +56,9 @@ says-hears l t (Carries k mark done) m to notice f = absurd (never mark done f.2
     never : (mark : Mark) (done : D.Done) → CopiedNote l t mark done (Says m to notice) → ⊥
     never D.Past (D.Sent p b w) h = h
     never D.Past (D.Heard p b) h = h
+    never D.Ground (D.Asked c a) h = h
+    never D.Ground (D.Sent p b w) h = h
+    never D.Ground (D.Heard p b) h = h
     never mark done h = h
 
 counting-is : (l : List Noted) (note : Note) (w : Watch) → counting l note ≡ Some w

@@ -19,7 +19,8 @@ use Rattle.history_laws.specs.Transmissions.{FirstSending, first_at}
 use Rattle.history_laws.specs.Exchanges.{Turn, Nothing, Sent, Replied, Rejected, Expired, turn, replies_by, replies, awaited}
 use Rattle.history_laws.specs.Hearing.{went_under, went_as, is_under, is_as, open_at, expected, answers_by, answers}
 use Rattle.history_laws.specs.Justified.{Follows, Legal, MaySay}
-use Rattle.history_laws.specs.Laws.{IsFirst, IsReplyKind, IsReplyTo}
+use Rattle.history_laws.specs.Hearing.{IsReplyKind}
+use Rattle.history_laws.specs.Laws.{IsFirst, IsReplyTo}
 use Rattle.history_laws.proofs.Places.{at-new, at-keeps, at-below, before-keeps, before-new}
 use Rattle.history_laws.proofs.Facts.{IsFirst-keeps, IsFirst-below, eqb-same}
 use Rattle.history_laws.proofs.Elements.{contains-none, find-some}

@@ -27,6 +27,7 @@ any-more : (f : FirstSending → Bool) (n t : ℕ) (d : Deed) (note : Note) (old
 any-more f n t (Sends p b w) (First o m) old h = or_right (f (record { number = n; moment = t; opening = o; peer = p; message = m })) _ h
 any-more f n t (Sends p b w) note old h = h
 any-more f n t (Carries k mark (D.Sent p b w)) (Bygone m) old h = or_right (f (record { number = n; moment = t; opening = n; peer = p; message = m })) _ h
+any-more f n t (Carries k mark (D.Sent p b w)) (First o m) old h = or_right (f (record { number = n; moment = t; opening = o; peer = p; message = m })) _ h
 any-more f n t (Carries k mark (D.Sent p b w)) note old h = h
 any-more f n t (Carries k mark done) note old h = h
 any-more f n t d note old h = h

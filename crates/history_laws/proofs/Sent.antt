@@ -104,6 +104,9 @@ begins-ask l t (Carries k mark done) q f = absurd (never mark done f.2)
     never : (mark : Mark) (done : D.Done) → CopiedNote l t mark done (Begins q) → ⊥
     never D.Past (D.Sent p b w) h = h
     never D.Past (D.Heard p b) h = h
+    never D.Ground (D.Asked c a) h = h
+    never D.Ground (D.Sent p b w) h = h
+    never D.Ground (D.Heard p b) h = h
     never mark done h = h
 
 pub record AskedFor (l : List Noted) (o : ℕ) (b : Begun) : Type 0 where

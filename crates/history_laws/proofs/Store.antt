@@ -14,13 +14,14 @@ use Rattle.history_laws.specs.Readings.{Noted, Plain, Serves, at, noted}
 use Rattle.history_laws.specs.Progress.{Reply, numbers, Ending, Whole}
 use Rattle.history_laws.specs.Exchanges.{begun, openings, End, end_of}
 use Rattle.history_laws.specs.Joining.{is_joinable}
-use Rattle.history_laws.specs.Storing.{ComesSo, EndsSo, IsStored, IsUse, IsUsedSince}
+use Rattle.history_laws.specs.Storing.{ComesSo, EndsSo, IsBrought, IsUse, IsUsedSince}
 use Rattle.history_laws.specs.Justified.{Legal}
 use Rattle.history_laws.specs.Worked.{Holds, Refused}
 use Rattle.history_laws.specs.WorkedMessages.{get_light, all_answered}
 use Rattle.history_laws.specs.WorkedEndings.{non_message}
 use Rattle.history_laws.specs.WorkedCopies.{content_again}
 use Rattle.history_laws.specs.WorkedStore.{read_once, read_from_store, fetched_when_stale, fetched_though_fresh, read_expired, kept_late, get_bright, get_json, other_query, other_accept, read_outdated, read_twice, read_older}
+use Rattle.history_laws.proofs.Carrying.{uncarried}
 use Rattle.history_laws.proofs.Copied.{get-again-spelled}
 use Rattle.history_laws.proofs.Elements.{contains-none, first-or-later}
 use Rattle.history_laws.proofs.Endings.{non-spelled}
@@ -76,7 +77,7 @@ ended-once : (o e : ℕ) (w : Response) (rs : List Reply) → ComesSo read_once 
 ended-once o e w rs (inl it) = it
 ended-once o e w rs (inr u) = absurd (no-updates read_once o e w rs refl u)
 
-is-stored-once : IsStored read_once get_light stored-once
+is-stored-once : IsBrought read_once get_light stored-once
 is-stored-once =
     record {
       opening = 1;
@@ -99,7 +100,7 @@ is-stored-once =
 pub read_from_store-holds : Holds read_from_store
 read_from_store-holds = (
   (
-    (legal-once, lit≤ tt, (may-come _ refl refl, refl, refl, (stored-once, is-stored-once, refl, refl), tt)),
+    (legal-once, lit≤ tt, (may-come _ refl refl, refl, refl, (stored-once, inl is-stored-once, refl, refl), tt)),
     lit≤ tt,
     (refl, refl, refl, (0, _, refl), tt),
   ),
@@ -107,7 +108,7 @@ read_from_store-holds = (
 )
 
 -- what that journal has stored
-only-stored : (q : CoapRequest) (s : Stored) → IsStored read_once q s → (s.heard ≡ 700) × (s.response ≡ response_of non_message)
+only-stored : (q : CoapRequest) (s : Stored) → IsBrought read_once q s → (s.heard ≡ 700) × (s.response ≡ response_of non_message)
 only-stored q s is =
     let how = (ends-once is.opening is.ending _ (opened-one read_once q 1 is.opening refl is.shared) (ended-once _ _ _ _ is.comes).ended).1 in
     let first = first-of _ _ (replies-same _ _ _ _ how) in
@@ -124,7 +125,7 @@ only-stored q s is =
     first-of x y e = cc
 
 -- which is stale then
-stale-once : (q : CoapRequest) (s : Stored) → IsStored read_once q s → is_fresh 60700 s ≡ true → ⊥
+stale-once : (q : CoapRequest) (s : Stored) → IsBrought read_once q s → is_fresh 60700 s ≡ true → ⊥
 stale-once q s is fresh =
     let it = only-stored q s is in
     let late : nat_lt 60700 (700 + lifetime (response_of non_message).max_age) ≡ true =
@@ -138,7 +139,7 @@ fetched_when_stale-holds = (
     (
       legal-once,
       lit≤ tt,
-      (may-come _ refl refl, refl, refl, (refl, refl, refl), λ s is fresh. absurd (stale-once get_light s is fresh)),
+      (may-come _ refl refl, refl, refl, (refl, refl, refl), λ s is fresh. absurd (stale-once get_light s (uncarried read_once get_light s refl is) fresh)),
     ),
     lit≤ tt,
     (
@@ -205,14 +206,18 @@ used-once =
     })
 
 pub fetched_though_fresh-refused : Refused fetched_though_fresh
-fetched_though_fresh-refused h = let it = h.2.4 stored-once is-stored-once refl in by it.others it.many it.since
+fetched_though_fresh-refused h = let it = h.2.4 stored-once (inl is-stored-once) refl in by it.others it.many it.since
   where
     by : (keys : List CacheKey) → MAX_STORED ≤ length keys → AllByRecursion (IsUsedSince read_once (asked_key get_light)) keys → ⊥
     by [] many since = let none : 256 ≤ 0 = many in absurd (omega (arith, none))
-    by (key ∷ keys) many since = let it = since.0 in unused it.0 key it.1 (it.2 3 used-once)
+    by (key ∷ keys) many since = used since.0
+      where
+        used : IsUsedSince read_once (asked_key get_light) key → ⊥
+        used (inl it) = unused it.0 key it.1 (it.2 3 used-once)
+        used (inr it) = it.1.1 3 used-once
 
 pub read_expired-refused : Refused read_expired
-read_expired-refused h = stale-once get_light h.0.2.3.0 h.0.2.3.1 h.0.2.3.2
+read_expired-refused h = stale-once get_light h.0.2.3.0 (uncarried read_once get_light h.0.2.3.0 refl h.0.2.3.1) h.0.2.3.2
 
 pub kept_late-refused : Refused kept_late
 kept_late-refused h =
@@ -221,13 +226,17 @@ kept_late-refused h =
 
 -- no exchange of that journal may answer it
 pub other_query-refused : Refused other_query
-other_query-refused h = false≢true (subst (λ (o : ℕ). is_joinable read_once get_bright o ≡ true) (sym (opened-one read_once get_bright 1 _ refl h.2.3.1.shared)) h.2.3.1.shared)
+other_query-refused h =
+    let is = uncarried read_once get_bright h.2.3.0 refl h.2.3.1 in
+    false≢true (subst (λ (o : ℕ). is_joinable read_once get_bright o ≡ true) (sym (opened-one read_once get_bright 1 _ refl is.shared)) is.shared)
 
 pub other_accept-refused : Refused other_accept
-other_accept-refused h = false≢true (subst (λ (o : ℕ). is_joinable read_once get_json o ≡ true) (sym (opened-one read_once get_json 1 _ refl h.2.3.1.shared)) h.2.3.1.shared)
+other_accept-refused h =
+    let is = uncarried read_once get_json h.2.3.0 refl h.2.3.1 in
+    false≢true (subst (λ (o : ℕ). is_joinable read_once get_json o ≡ true) (sym (opened-one read_once get_json 1 _ refl is.shared)) is.shared)
 
 pub read_outdated-refused : Refused read_outdated
-read_outdated-refused h = by h.0.2.3.1.opening h.0.2.3.1.shared
+read_outdated-refused h = let is = uncarried all_answered get_light h.0.2.3.0 refl h.0.2.3.1 in by is.opening is.shared
   where
     by : (o : ℕ) → is_joinable all_answered get_light o ≡ true → ⊥
     by o may =
@@ -243,7 +252,7 @@ read_outdated-refused h = by h.0.2.3.1.opening h.0.2.3.1.shared
 pub read_older-refused : Refused read_older
 read_older-refused h =
     let s : Stored = h.2.3.0 in
-    let is : IsStored read_twice get_light s = h.2.3.1 in
+    let is : IsBrought read_twice get_light s = uncarried read_twice get_light s refl h.2.3.1 in
     let latest : 7 ≤ is.ending = is.latest 5 7 (response_of content_again) (record { number = 7; sending = 6; message = content_again }) [] (inl (record { ended = refl; code = refl })) refl refl in
     let all = ends-all read_twice is.opening is.ending s.response (is.first ∷ is.more) (ended-twice is.comes).ended in
     let numbered : numbers (all.others ++ all.last ∷ []) ≡ 3 ∷ [] = sym (ap numbers all.all) ∙ (sym is.list ∙ h.2.3.3) in

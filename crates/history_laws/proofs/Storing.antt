@@ -1,22 +1,30 @@
 -- An answer from the store: what it rests on, and that no write has outrun that.
-use Rattle.std.proofs.Common.{◌≡◌, ℕ, ◌<◌, ◌≤◌, true, List, ◌∷◌, Some, refl, sym, subst, arith, length}
+use Rattle.std.proofs.Common.{◌≡◌, ℕ, ◌<◌, ◌≤◌, ◌⊎◌, inl, inr, true, List, ◌∷◌, Some, refl, sym, ap, subst, ◌∙◌, arith, length}
+use Rattle.std.proofs.lemmas.Bool.Decides.{eqb_tells, leb_tells}
+use Rattle.std.proofs.lemmas.Bool.{false≢true}
 use Rattle.std.specs.List.{Contains}
 use Rattle.resp_cache.specs.Stored.{Stored, is_fresh}
 use Rattle.ask_model.specs.Requests.{CoapRequest, Sense, Requests, Refuses}
 use Rattle.ask_model.specs.Views.{Ask}
 use Rattle.ask_model.proofs.CallerLemmas.{asks-alike}
-use Rattle.journal_book.specs.Entries.{Live, Kept, Fault, Asks, Hears, Answers}
-use Rattle.history_laws.specs.Readings.{Noted, Note, Says, Serves, at, before, noted}
-use Rattle.history_laws.specs.Progress.{Reply}
-use Rattle.history_laws.specs.Storing.{IsStored}
-use Rattle.history_laws.specs.Justified.{HasGrounds, AskNote, Legal}
-use Rattle.history_laws.specs.Laws.{IsWriteEnd, RestsOnStored, RestsOnTheStore, NothingOutrun}
+use Rattle.journal_book.specs.Entries.{Live, Kept, Fault, Deed, Opens, Asks, Sends, Hears, Passes, Answers, Shuts, Seals, Carries}
+use Rattle.journal_book.specs.Entries as D
+use Rattle.history_laws.specs.Readings.{Noted, Note, Says, Serves, carries, at, before, noted}
+use Rattle.history_laws.specs.Progress.{Reply, Ending}
+use Rattle.history_laws.specs.Exchanges.{Nothing, begun, end_here, replies, turn, turn_by, waits_for}
+use Rattle.history_laws.specs.Storing.{IsBrought, IsCarried, IsStored}
+use Rattle.history_laws.specs.Justified.{IsAsk, Ends, HasGrounds, AskNote, Follows, Legal}
+use Rattle.history_laws.specs.Laws.{IsReplyTo, IsWriteEnd, RestsOnStored, RestsOnCarried, RestsOnTheStore, NothingOutrun}
 use Rattle.history_laws.proofs.Basis.{brought-by, grounds-of, number-of, requests-same, rests-on-its-own}
+use Rattle.history_laws.proofs.Carrying.{carried-at, carried-fit, copy-at, reply-before}
+use Rattle.history_laws.proofs.Copying.{at-still}
 use Rattle.history_laws.proofs.Elements.{contains-none}
 use Rattle.history_laws.proofs.Facts.{at-before, follows-at, legal-before, length-before}
 use Rattle.history_laws.proofs.Joining.{Shared, shared-is, reader, unoutrun-earlier, write-earlier}
 use Rattle.history_laws.proofs.Notified.{comes-fit, comes-since}
-use Rattle.history_laws.proofs.Places.{at-below}
+use Rattle.history_laws.proofs.Openings.{ends-first}
+use Rattle.history_laws.proofs.Places.{at-below, at-same}
+use Rattle.history_laws.proofs.Resting.{none-some}
 use Rattle.history_laws.proofs.Sent.{begun-before}
 
 -- what an ask was served
@@ -45,27 +53,71 @@ kept-served l n t c k note js legal stands =
     (g.0, g.1, served-by l t k g.0 g.1 js legal (at-before l n k _ g.2))
 
 -- No write to the place ended between the opening of what is stored and the ask.
-pub stored-current : (l : List Noted) (k e : ℕ) (q : CoapRequest) (s : Stored) → Legal l → k < length l → (is : IsStored (before l k) q s)
+pub stored-current : (l : List Noted) (k e : ℕ) (q : CoapRequest) (s : Stored) → Legal l → k < length l → (is : IsBrought (before l k) q s)
     → IsWriteEnd l q.peer q.target.path e → e < k → e ≤ is.opening
 stored-current l k e q s legal below is write lt =
     unoutrun-earlier l k is.opening e q legal below (shared-is (before l k) q is.opening is.shared).fresh write lt
 
+-- No write ends in a copy.
+
+copied-nothing : (l : List Noted) (o : ℕ) (x : Noted) → carries x.written.deed ≡ true → turn l o x ≡ Nothing
+copied-nothing l o x h = by x.written.deed h
+  where
+    by : (d : Deed) → carries d ≡ true → turn_by l o x.written.moment d x.note (waits_for l o) ≡ Nothing
+    by (Carries k mark done) h = refl
+    by (Opens c) h = absurd (false≢true h)
+    by (Asks c a) h = absurd (false≢true h)
+    by (Sends p b w) h = absurd (false≢true h)
+    by (Hears p b) h = absurd (false≢true h)
+    by Passes h = absurd (false≢true h)
+    by (Answers c a g) h = absurd (false≢true h)
+    by (Shuts c) h = absurd (false≢true h)
+    by Seals h = absurd (false≢true h)
+
+pub ended-uncopied : (l : List Noted) (o e : ℕ) (how : Ending) (y : Noted) → Ends l o e how → at l e ≡ Some y → carries y.written.deed ≡ true → ⊥
+ended-uncopied l o e how y ended stands copied =
+    let it = ends-first l o e how ended in
+    let same : it.0 ≡ y = at-same l e _ _ it.1 stands in
+    let none : turn (before l e) o it.0 ≡ Nothing = copied-nothing (before l e) o it.0 (ap (λ (v : Noted). carries v.written.deed) same ∙ copied) in
+    none-some how (ap (end_here (begun (before l e) o) e (replies (before l e) o)) (sym none) ∙ it.3)
+
+-- So none ended, before the ask, at the place of what is carried.
+pub carried-current : (l : List Noted) (k e : ℕ) (q : CoapRequest) (s : Stored) → Legal l → k < length l → (is : IsCarried (before l k) q s)
+    → IsWriteEnd l q.peer q.target.path e → e < k → ⊥
+carried-current l k e q s legal below is write lt =
+    let ask = carried-at (before l k) is.opening is.carries.exchange is.carries.asked in
+    let copy : Noted = noted is.carries.exchange.since (Carries ask.old D.Ground (D.Asked ask.conn ask.ask)) ask.note in
+    let stands = at-before l k is.opening copy ask.stands in
+    let first = ends-first l write.opening e write.how write.ended in
+    let early : e ≤ is.opening = unoutrun-earlier l k is.opening e q legal below is.current write lt in
+    elim (eqb_tells e is.opening) [
+      | inl w ↦ ended-uncopied l write.opening e write.how copy write.ended (subst (λ (n : ℕ). at l n ≡ Some copy) (sym w.1) stands) refl
+      | inr w ↦
+          let copies : Follows (before l is.opening) is.carries.exchange.since (Carries ask.old D.Ground (D.Asked ask.conn ask.ask)) ask.note =
+          follows-at l is.opening _ legal stands in
+          let there = at-still l is.opening e _ first.0 stands (less e is.opening w.1 early) first.1 in
+          ended-uncopied l write.opening e write.how first.0 write.ended first.1 (copy-at (before l is.opening) e first.0 copies.0 there)
+    ]
+  where
+    less : (a b : ℕ) → (a ≡ b → ⊥) → a ≤ b → a < b
+    less a b apart le = elim (leb_tells b a) [ inl w ↦ absurd (apart (let ge = w.1 in omega (arith, le, ge))) | inr w ↦ let lt = w.1 in omega (arith, lt) ]
+
 module _ (l : List Noted) (t k c : ℕ) (a : Ask) (js : List ℕ) (legal : Legal l) (it : Served l t k c a js) where
   -- the exchange that it came of
-  pub stored-shared : Shared (before l k) it.request it.is.opening
-  stored-shared = shared-is (before l k) it.request it.is.opening it.is.shared
+  pub stored-shared : (is : IsBrought (before l k) it.request it.stored) → Shared (before l k) it.request is.opening
+  stored-shared is = shared-is (before l k) it.request is.opening is.shared
 
-  pub stored-rests : (j : ℕ) → Contains js j → (r : RestsOnStored l k j) × (r.asked.moment ≡ t) × (r.stored.list ≡ js)
-  stored-rests j has =
-      let ws : List Reply = it.is.first ∷ it.is.more in
+  pub stored-rests : IsBrought (before l k) it.request it.stored → (j : ℕ) → Contains js j → (r : RestsOnStored l k j) × (r.asked.moment ≡ t) × (r.stored.list ≡ js)
+  stored-rests is j has =
+      let ws : List Reply = is.first ∷ is.more in
       let has_it = subst (λ (ns : List ℕ). Contains ns j) (sym it.list) has in
-      let found = number-of ws j (subst (λ (ns : List ℕ). Contains ns j) it.is.list has_it) in
+      let found = number-of ws j (subst (λ (ns : List ℕ). Contains ns j) is.list has_it) in
       let r : Reply = found.0 in
-      let o : ℕ = it.is.opening in
-      let was = comes-fit (before l k) o it.is.ending it.stored.response ws r (legal-before l k legal) it.is.comes found.1 in
-      let now = comes-fit l o it.is.ending it.stored.response ws r legal (comes-since l k _ o it.is.ending it.stored.response ws it.stands it.is.comes) found.1 in
+      let o : ℕ = is.opening in
+      let was = comes-fit (before l k) o is.ending it.stored.response ws r (legal-before l k legal) is.comes found.1 in
+      let now = comes-fit l o is.ending it.stored.response ws r legal (comes-since l k _ o is.ending it.stored.response ws it.stands is.comes) found.1 in
       let below = at-below (before l k) r.number (noted was.moment (Hears was.peer was.bytes) (Says r.message (Some r.sending) was.notice)) was.heard in
-      let exchange = stored-shared in
+      let exchange = stored-shared is in
       let came = brought-by l o exchange.exchange it.request r legal (begun-before l k o exchange.exchange exchange.opened)
       (asks-alike it.request exchange.exchange.request exchange.same) now in
       let same = found.2 in
@@ -77,7 +129,7 @@ module _ (l : List Noted) (t k c : ℕ) (a : Ask) (js : List ℕ) (legal : Legal
           asked = record { moment = t; note = Serves js; stands = it.stands };
           sense = it.sense;
           stored = it.stored;
-          is = it.is;
+          is = is;
           fresh = it.fresh;
           listed = has_it;
           reply = r;
@@ -96,10 +148,45 @@ module _ (l : List Noted) (t k c : ℕ) (a : Ask) (js : List ℕ) (legal : Legal
         it.list,
       )
 
+  -- or the copies that it came of
+  pub carried-rests : IsCarried (before l k) it.request it.stored → (j : ℕ) → Contains js j → (r : RestsOnCarried l k j) × (r.asked.moment ≡ t) × (r.stored.list ≡ js)
+  carried-rests is j has =
+      let ws : List Reply = is.first ∷ is.more in
+      let has_it = subst (λ (ns : List ℕ). Contains ns j) (sym it.list) has in
+      let found = number-of ws j (subst (λ (ns : List ℕ). Contains ns j) is.list has_it) in
+      let r : Reply = found.0 in
+      let was = carried-fit (before l k) is.opening is.carries.exchange r (legal-before l k legal) is.carries.asked
+      (subst (λ (rs : List Reply). Contains rs r) (sym is.carries.replies) found.1) in
+      let below = at-below (before l k) r.number _ was.heard in
+      let same = found.2 in
+      let len = length-before l k _ it.stands in (
+        record {
+          conn = c;
+          ask = a;
+          request = it.request;
+          asked = record { moment = t; note = Serves js; stands = it.stands };
+          sense = it.sense;
+          stored = it.stored;
+          is = is;
+          fresh = it.fresh;
+          listed = has_it;
+          reply = r;
+          number = same;
+          earlier = omega (arith, below, len, same);
+          fits = reply-before l k is.opening is.carries.exchange.request r was;
+        },
+        refl,
+        it.list,
+      )
+
 pub rests-on-the-store : RestsOnTheStore
 rests-on-the-store l n t c k j note js legal stands has =
-    let it = kept-served l n t c k note js legal stands in
-    stored-rests l t k it.0 it.1 js legal it.2 j has
+    let it = kept-served l n t c k note js legal stands in by it.0 it.1 it.2 it.2.is
+  where
+    by : (d : ℕ) (a : Ask) (it : Served l t k d a js) → IsStored (before l k) it.request it.stored
+        → ((r : RestsOnStored l k j) × (r.asked.moment ≡ t) × (r.stored.list ≡ js)) ⊎ ((r : RestsOnCarried l k j) × (r.asked.moment ≡ t) × (r.stored.list ≡ js))
+    by d a it (inl is) = inl (stored-rests l t k d a js legal it is j has)
+    by d a it (inr is) = inr (carried-rests l t k d a js legal it is j has)
 
 -- The replies that an answer rests on came to messages that were sent after the last write to the resource.
 pub nothing-outrun : NothingOutrun
@@ -111,11 +198,20 @@ nothing-outrun l n c k j e (Live js) a q legal answer has ask sense get write lt
     let after = h.after in
     (h.opening, h.reply, h.fits, h.number, omega (arith, earlier, after))
 nothing-outrun l n c k j e (Kept js) a q legal answer has ask sense get write lt =
-    let it = kept-served l n answer.moment c k answer.note js legal answer.stands in
-    let h = (stored-rests l answer.moment k it.0 it.1 js legal it.2 j has).0 in
-    let same = requests-same l k c h.conn a h.ask q h.request ask h.asked sense h.sense in
-    let there = subst (λ (q : CoapRequest). IsWriteEnd l q.peer q.target.path e) same write in
-    let earlier = stored-current l k e h.request h.stored legal (at-below l k _ h.asked.stands) h.is there lt in
-    let after = h.after in
-    (h.is.opening, h.reply, h.fits, h.number, omega (arith, earlier, after))
+    let it = kept-served l n answer.moment c k answer.note js legal answer.stands in by it.0 it.1 it.2 it.2.is
+  where
+    there : (d : ℕ) (b : Ask) (r : CoapRequest) → IsAsk l k d b → b.sense ≡ Requests r → IsWriteEnd l r.peer r.target.path e
+    there d b r asked means =
+        subst (λ (q : CoapRequest). IsWriteEnd l q.peer q.target.path e) (requests-same l k c d a b q r ask asked sense means) write
+
+    by : (d : ℕ) (b : Ask) (it : Served l answer.moment k d b js) → IsStored (before l k) it.request it.stored
+        → (o : ℕ) × (r : Reply) × IsReplyTo l o r × (r.number ≡ j) × (e < r.sending)
+    by d b it (inl is) =
+        let h = (stored-rests l answer.moment k d b js legal it is j has).0 in
+        let earlier = stored-current l k e h.request h.stored legal (at-below l k _ h.asked.stands) h.is (there h.conn h.ask h.request h.asked h.sense) lt in
+        let after = h.after in
+        (h.is.opening, h.reply, h.fits, h.number, omega (arith, earlier, after))
+    by d b it (inr is) =
+        absurd (carried-current l k e it.request it.stored legal (at-below l k _ it.stands) is
+        (there d b it.request (record { moment = answer.moment; note = Serves js; stands = it.stands }) it.sense) lt)
 nothing-outrun l n c k j e (Fault cause i) a q legal answer has ask sense get write lt = absurd (contains-none j has)

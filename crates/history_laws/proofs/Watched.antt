@@ -1,24 +1,26 @@
 -- The worked journals of a resource that is observed.
-use Rattle.std.proofs.Common.{◌≡◌, ℕ, ◌≤◌, ◌<◌, Bool, true, false, inl, inr, List, [], ◌∷◌, Option, Some, None, is_some, refl, sym, ap, subst, ◌∙◌, arith, lit≤}
+use Rattle.std.proofs.Common.{◌≡◌, ℕ, ◌≤◌, ◌<◌, Bool, true, false, ◌&&◌, inl, inr, List, [], ◌∷◌, Option, Some, None, is_some, refl, sym, ap, subst, ◌∙◌, arith, lit≤}
 use Rattle.std.proofs.lemmas.Bool.{false≢true, and_parts}
 use Rattle.std.proofs.lemmas.Bool.Decides.{eqb_tells, leb_tells}
 use Rattle.coap_codec.specs.declared.message.MsgType.TheVariants.{Rst}
 use Rattle.coap_codec.specs.Spelling.{Content, Spells, Entry}
 use Rattle.coap_codec.specs.Reading.{message_at}
 use Rattle.coap_codec.specs.Reading as X
+use Rattle.cache_key.specs.Keys.{same_key}
 use Rattle.resp_cache.specs.Stored.{Stored}
 use Rattle.ask_model.specs.Requests.{CoapRequest, request_message}
-use Rattle.ask_model.specs.Sharing.{is_get}
+use Rattle.ask_model.specs.Sharing.{asked_key, is_get}
 use Rattle.history_laws.specs.Confirmations.{empty}
 use Rattle.history_laws.specs.Responses.{Response, joined}
 use Rattle.history_laws.specs.Readings.{Noted, Note, Says, Observation, Updates, at, Notice, Unobserved}
 use Rattle.history_laws.specs.Progress.{Reply, numbers, Ending, Whole, next_message, progress}
 use Rattle.history_laws.specs.Exchanges.{Begun, begun, End, end_of}
 use Rattle.history_laws.specs.Joining.{asks_the_same, is_joinable}
-use Rattle.history_laws.specs.Storing.{ComesSo, IsStored, MissesAlone, UpdatesSo}
+use Rattle.history_laws.specs.Storing.{ComesSo, IsBrought, MissesAlone, UpdatesSo}
 use Rattle.history_laws.specs.Justified.{Legal}
 use Rattle.history_laws.specs.Worked.{Holds, Refused, server, empty_rst, token}
 use Rattle.history_laws.specs.WorkedWatches.{get_t, put_t, get_bytes, get_message, registers_bytes, registers_message, greatest_bytes, greatest, least_bytes, least, sent, registered, updated, outrun_late, served, unasked, left_out, not_newer, older_served, put_bytes, put_message, changed_bytes, changed_message, written, rejected, served_after, counted_after, forgotten}
+use Rattle.history_laws.proofs.Carrying.{uncarried}
 use Rattle.history_laws.proofs.Elements.{contains-none, first-or-later}
 use Rattle.history_laws.proofs.Joining.{shared-is}
 use Rattle.history_laws.proofs.Missing.{none-stored}
@@ -27,7 +29,7 @@ use Rattle.history_laws.proofs.Openings.{begun-listed}
 use Rattle.history_laws.proofs.Places.{at-below}
 use Rattle.history_laws.proofs.Resting.{at-rest, may-come, some-is}
 use Rattle.history_laws.proofs.Spelled.{spelled}
-use Rattle.history_laws.proofs.Watching.{says-notice}
+use Rattle.history_laws.proofs.Registering.{says-notice}
 
 pub watch-get-spelled : Spells get_message get_bytes
 unfolding message_at X.options_at X.option_at
@@ -197,7 +199,7 @@ last-update = record {
   code = refl;
 }
 
-is-last-stored : IsStored outrun_late get_t last-stored
+is-last-stored : IsBrought outrun_late get_t last-stored
 is-last-stored = record {
   opening = 1;
   ending = 6;
@@ -216,7 +218,7 @@ is-last-stored = record {
 
 legal-served : Legal served
 legal-served = (
-  (legal-outrun-late, lit≤ tt, (may-come _ refl refl, refl, refl, (last-stored, is-last-stored, refl, refl), tt)),
+  (legal-outrun-late, lit≤ tt, (may-come _ refl refl, refl, refl, (last-stored, inl is-last-stored, refl, refl), tt)),
   lit≤ tt,
   (refl, refl, refl, (1, _, refl), tt),
 )
@@ -234,7 +236,8 @@ never-shared l q o write may = by (begun l o) (and_parts (asks_the_same q (begun
     by (Some b) e = false≢true (sym write ∙ (and_parts (is_get q) _ e).0)
 
 misses-put : (l : List Noted) (t : ℕ) → MissesAlone l t put_t
-misses-put l t s is fresh = absurd (never-shared l put_t is.opening refl is.shared)
+misses-put l t s (inl is) fresh = absurd (never-shared l put_t is.opening refl is.shared)
+misses-put l t s (inr is) fresh = absurd (false≢true (and_parts (is_get put_t) (is_get is.carries.exchange.request && same_key (asked_key put_t) (asked_key is.carries.exchange.request)) is.same).0)
 
 legal-written : Legal written
 legal-written = (
@@ -348,7 +351,7 @@ not_newer-refused h =
 
 pub older_served-refused : Refused older_served
 older_served-refused h =
-    let is : IsStored outrun_late get_t h.2.3.0 = h.2.3.1 in
+    let is : IsBrought outrun_late get_t h.2.3.0 = uncarried outrun_late get_t h.2.3.0 refl h.2.3.1 in
     let latest : 6 ≤ is.ending = is.latest 1 6 (joined (least 2) []) last-reply [] (inr last-update) refl refl in
     by is.opening is.ending h.2.3.0.response (is.first ∷ is.more) is.shared is.comes latest (sym is.list ∙ h.2.3.3)
   where
@@ -363,7 +366,7 @@ older_served-refused h =
         same a b e = cc
 
 pub served_after-refused : Refused served_after
-served_after-refused h = by h.2.3.1.opening h.2.3.1.shared
+served_after-refused h = let is = uncarried written get_t h.2.3.0 refl h.2.3.1 in by is.opening is.shared
   where
     by : (o : ℕ) → is_joinable written get_t o ≡ true → ⊥
     by o may =

@@ -1,7 +1,6 @@
 -- What a whole response is made of: replies to the exchange, which the last of them ends.
-use Rattle.std.proofs.Common.{◌≡◌, ℕ, zero, ◌<◌, List, [], ◌∷◌, ◌++◌, Option, Some, None, length, refl, sym, ap, subst, ◌∙◌, arith, append_assoc}
+use Rattle.std.proofs.Common.{◌≡◌, ℕ, ◌<◌, List, [], ◌∷◌, ◌++◌, Some, length, sym, ap, ◌∙◌, append_assoc}
 use Rattle.std.specs.List.{Contains}
-use Rattle.std.proofs.lemmas.List.Elements.{Contains-append_right}
 use Rattle.history_laws.specs.Responses.{Response, whole_of}
 use Rattle.history_laws.specs.Readings.{Noted}
 use Rattle.history_laws.specs.Progress.{Reply, messages, Ending, Whole}

@@ -9,12 +9,13 @@ use Rattle.uri_map.specs.declared.peer.Peer.{Peer}
 abbrev pub empty : MsgType → ℕ → Content
 empty kind mid = record { kind = kind; code = 0; mid = mid; token = []; options = []; payload = [] }
 
--- The kind of the message that answers one that is no repeat. A CON is acknowledged where it is a response
--- that is matched, and rejected by a RST where it is any other message or can't be processed; a NON is
--- rejected likewise, but for an empty one.
+-- The kind of the message that answers one that is no repeat. A CON is acknowledged where it is a
+-- response that is matched, and rejected by a RST where it is any other message or can't be
+-- processed; a NON is rejected likewise, but for an empty one.
 abbrev pub answer_by : MsgType → Bool → Bool → Bool → Option MsgType
 answer_by Con matched rejected vain = if matched && not rejected then Some Ack else Some Rst
-answer_by Non matched rejected vain = if matched then (if rejected then Some Rst else None) else (if vain then None else Some Rst)
+answer_by Non matched rejected vain =
+    if matched then (if rejected then Some Rst else None) else (if vain then None else Some Rst)
 answer_by _ matched rejected vain = None
 
 -- what is given: to whom, of which kind, and with which ID
@@ -29,5 +30,6 @@ given p mid (Some kind) = Some (record { peer = p; kind = kind; mid = mid })
 
 -- A datagram that is no message, but begins as a CON does, is rejected (RFC 7252 section 4.2).
 abbrev pub rejects_bytes : Peer → List ℕ → Option Confirmation
-rejects_bytes p (first ∷ code ∷ high ∷ low ∷ more) = if first / 16 == 4 then given p (256 * high + low) (Some Rst) else None
+rejects_bytes p (first ∷ code ∷ high ∷ low ∷ more) =
+    if first / 16 == 4 then given p (256 * high + low) (Some Rst) else None
 rejects_bytes p _ = None

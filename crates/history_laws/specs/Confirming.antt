@@ -7,8 +7,8 @@ use Rattle.journal_book.specs.Entries.{Deed, Hears}
 use Rattle.history_laws.specs.Confirmations.{answer_by, Confirmation, given, rejects_bytes}
 use Rattle.history_laws.specs.Readings.{Noted, Note, Says, Repeats, Garbled, Recalls, Answered, Acknowledged, Rejected, Ignored, at}
 
--- The kind of the message that answers what repeats no other: a CON is acknowledged where it answers
--- a first sending and can be processed.
+-- The kind of the message that answers what repeats no other: a CON is acknowledged where it
+-- answers a first sending and can be processed.
 abbrev pub answer_kind : Answered → Option MsgType
 answer_kind Acknowledged = Some Ack
 answer_kind Rejected = Some Rst

@@ -1,5 +1,5 @@
 -- What a datagram is: what it repeats, and which first sending it answers.
-use Rattle.std.specs.Prelude.{ℕ, ◌+◌, ◌-◌, Bool, true, false, not, ◌&&◌, ◌||◌, List, [], ◌∷◌, ◌++◌, length, find, Option, Some, None, option_map, option_to_list, is_some, ◌==◌, nat_le, nat_lt, if◌then◌else◌}
+use Rattle.std.specs.Prelude.{◌≡◌, ⊤, ℕ, ◌+◌, ◌-◌, Bool, true, false, not, ◌&&◌, ◌||◌, List, [], ◌∷◌, ◌++◌, length, find, Option, Some, None, option_map, option_to_list, is_some, ◌==◌, nat_le, nat_lt, if◌then◌else◌}
 use Rattle.std.specs.List.{list_any}
 use Rattle.std.specs.Str.{bytes_eq}
 use Rattle.limits.specs.declared.TheConstants.{EXCHANGE_LIFETIME, MAX_EXCHANGES, MAX_MESSAGE_IDS, MAX_REMEMBERED, MAX_WAITING}
@@ -97,8 +97,8 @@ abbrev pub open_at : List Noted → Peer → List ℕ
 open_at l p = option_to_list (option_map (λ (f : FirstSending). f.number) (outstanding l p))
 
 -- The first sending that a message answers, by its kind, and whether it is empty or a response. A
--- response bears the token; in an ACK it bears the ID too, and so does an empty ACK or RST (RFC 7252
--- sections 4.2, 5.3.2).
+-- response bears the token; in an ACK it bears the ID too, and so does an empty ACK or RST (RFC
+-- 7252 sections 4.2, 5.3.2).
 abbrev pub answers_by : List Noted → Peer → Content → MsgType → Bool → Bool → Option ℕ
 answers_by l p m Con empty true = find (is_under l p m) (expected l)
 answers_by l p m Non empty true = find (is_under l p m) (expected l)
@@ -111,8 +111,15 @@ answers_by l p m kind empty response = None
 abbrev pub answers : List Noted → Peer → Content → Option ℕ
 answers l p m = answers_by l p m m.kind (m.code == 0) (nat_le 32 m.code)
 
--- Where the message was outstanding that is answered, the first that waits at the peer goes out. After
--- that, what the exchange sends next finds a place among those that wait, and a message ID.
+-- a piggybacked response has the ID of the request, a separate one any, and a RST is no response
+abbrev pub IsReplyKind : MsgType → ℕ → ℕ → Type 0
+IsReplyKind Con mid sent = ⊤
+IsReplyKind Non mid sent = ⊤
+IsReplyKind Ack mid sent = mid ≡ sent
+IsReplyKind Rst mid sent = ⊥
+
+-- Where the message was outstanding that is answered, the first that waits at the peer goes out.
+-- After that, what the exchange sends next finds a place among those that wait, and a message ID.
 abbrev pub let_go : List Noted → ℕ → ℕ
 let_go l i = if is_some (transmission l i) then 1 else 0
 
@@ -123,7 +130,8 @@ has_place l t p (Some i) =
     && nat_lt (mids_used l t p + length (waiting l p)) MAX_MESSAGE_IDS
 
 -- By its first reply an exchange registers the proxy as an observer, where it asked for that, the
--- reply is an update, no write outran it, and one resource more may be observed (RFC 7641 section 4.1).
+-- reply is an update, no write outran it, and one resource more may be observed (RFC 7641 section
+-- 4.1).
 abbrev pub is_update : Shared.Notice → Bool
 is_update (Update v) = true
 is_update (Other v) = false
@@ -140,8 +148,8 @@ abbrev pub registers : Bool → Observation
 registers true = Registers
 registers false = Unobserved
 
--- A CON or NON under the token of a watch is a notification. It counts where it is newer than what counted
--- last (RFC 7641 section 3.4).
+-- A CON or NON under the token of a watch is a notification. It counts where it is newer than what
+-- counted last (RFC 7641 section 3.4).
 abbrev pub counts_as : Shared.Notice → Progress → Observation
 counts_as (Other v) progress = Cancels
 counts_as (Update v) (Ends how) = Updates
@@ -173,8 +181,8 @@ abbrev pub notice_of : List Noted → ℕ → Peer → Content → Option ℕ �
 notice_of l t p m to =
     record { place = has_place l t p to; observation = observation_of l t m to }
 
--- There is room for one exchange more: a place among the open ones, one among those that wait at its
--- peer, and a message ID.
+-- There is room for one exchange more: a place among the open ones, one among those that wait at
+-- its peer, and a message ID.
 abbrev pub has_room : List Noted → ℕ → CoapRequest → Bool
 has_room l t q =
     nat_lt (length (open_exchanges l)) MAX_EXCHANGES

@@ -1,5 +1,5 @@
--- Which open exchange a GET reads along: that of an equal GET, where no write to its place has ended since it was
--- opened.
+-- Which open exchange a GET reads along: that of an equal GET, where no write to its place has
+-- ended since it was opened.
 use Rattle.std.specs.Prelude.{ℕ, Bool, false, not, ◌&&◌, List, find, Option, Some, None, ◌==◌, nat_lt}
 use Rattle.std.specs.Option.{option_map_or}
 use Rattle.std.specs.List.{list_any}
@@ -24,7 +24,8 @@ ended_after n (Some e) = nat_lt n e.number
 abbrev pub outruns : List Noted → Place → ℕ → ℕ → Bool
 outruns l place n w = is_write_at place (begun l w) && ended_after n (end_of l w)
 
--- A write to the place ended after the entry with this number: what was read of it before may be out of date.
+-- A write to the place ended after the entry with this number: what was read of it before may be
+-- out of date.
 abbrev pub outrun : List Noted → Place → ℕ → Bool
 outrun l place n = list_any (outruns l place n) (openings l)
 

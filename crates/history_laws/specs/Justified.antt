@@ -5,12 +5,14 @@ use Rattle.std.specs.List.{AllByRecursion, list_all, range_with_len}
 use Rattle.limits.specs.declared.TheConstants.{ACK_TIMEOUT, LONGEST_ACK_TIMEOUT, MAX_DATAGRAM_LEN, MAX_RETRANSMIT}
 use Rattle.coap_codec.specs.Spelling.{Content, Spells}
 use Rattle.uri_map.specs.declared.peer.Peer.{Peer}
-use Rattle.ask_model.specs.Requests.{CoapRequest, Sense, Requests, Refuses}
+use Rattle.coap_codec.specs.declared.block.Block.{Block}
+use Rattle.ask_model.specs.Requests.{CoapRequest, Sense, Requests, Refuses, asking}
+use Rattle.ask_model.specs.Sharing.{asks_same, is_get}
 use Rattle.ask_model.specs.Views.{Ask}
 use Rattle.resp_cache.specs.Stored.{Stored, is_fresh}
 use Rattle.ask_model.specs.declared.cause.Cause.{Cause}
 use Rattle.ask_model.specs.declared.cause.Cause.TheVariants as C
-use Rattle.journal_book.specs.Entries.{Grounds, Live, Kept, Fault, Mark, Past, Done, Sent, Heard, Deed, Opens, Asks, Sends, Hears, Passes, Answers, Shuts, Seals, Carries, Written}
+use Rattle.journal_book.specs.Entries.{Grounds, Live, Kept, Fault, Mark, Ground, Past, Done, Asked, Sent, Heard, Deed, Opens, Asks, Sends, Hears, Passes, Answers, Shuts, Seals, Carries, Written}
 use Rattle.history_laws.specs.Responses.{Response}
 use Rattle.history_laws.specs.Confirmations.{empty, Confirmation}
 use Rattle.history_laws.specs.Causes.{IsRefusal}
@@ -21,8 +23,9 @@ use Rattle.history_laws.specs.Transmissions.{FirstSending, firsts, sent_last, be
 use Rattle.history_laws.specs.Exchanges.{Begun, begun, is_late, waits_for, replies, end_of, is_going, open_exchanges, waiting}
 use Rattle.history_laws.specs.Joining.{joins}
 use Rattle.history_laws.specs.Observing.{Watch, idles, watches, observes}
+use Rattle.history_laws.specs.Carrying.{carried, replied_by}
 use Rattle.history_laws.specs.Storing.{IsStored, MissesAlone}
-use Rattle.history_laws.specs.Hearing.{is_such, knows, repeated, can_be_remembered, answers, notice_of, has_room}
+use Rattle.history_laws.specs.Hearing.{IsReplyKind, is_such, knows, repeated, can_be_remembered, answers, notice_of, has_room}
 use Rattle.history_laws.specs.Confirming.{owed}
 use Rattle.history_laws.specs.Sealing.{MaySeal}
 
@@ -96,10 +99,11 @@ HasGrounds l t k (Live js) =
 HasGrounds l t k (Kept js) = (c : ℕ) × (a : Ask) × (at l k ≡ Some (noted t (Asks c a) (Serves js)))
 HasGrounds l t k (Fault cause n) = Caused l t k cause n
 
--- A GET is served a stored response while it is fresh, or joins the exchange of an equal one. Whatever else asks for
--- something opens an exchange, but where there is no room.
+-- A GET is served a stored response while it is fresh, or joins the exchange of an equal one.
+-- Whatever else asks for something opens an exchange, but where there is no room.
 abbrev pub AskNote : List Noted → ℕ → Sense → Note → Type 0
-AskNote l t (Requests q) (Serves js) = (s : Stored) × IsStored l q s × (is_fresh t s ≡ true) × (s.list ≡ js)
+AskNote l t (Requests q) (Serves js) = (s : Stored) × IsStored l q s × (is_fresh t s ≡ true)
+    × (s.list ≡ js)
 AskNote l t (Requests q) (Joins o) = joins l q ≡ Some o
 AskNote l t (Requests q) (Begins r) = (r ≡ q) × (joins l q ≡ None) × (has_room l t q ≡ true)
 AskNote l t (Requests q) Plain = (joins l q ≡ None) × (has_room l t q ≡ false)
@@ -112,10 +116,11 @@ UnservedNote l t (Requests q) (Serves js) = ⊤
 UnservedNote l t (Requests q) note = MissesAlone l t q
 UnservedNote l t (Refuses cause status) note = ⊤
 
--- What a first sending owes: it is the next message of an exchange whose turn it is at its peer, under
--- a token and an ID of its own.
+-- What a first sending owes: it is the next message of an exchange whose turn it is at its peer,
+-- under a token and an ID of its own.
 pub record MayBeFirst
-    (l : List Noted) (t o : ℕ) (p : Peer) (bytes : List ℕ) (m : Content) (timeout : Option ℕ) : Type 0 where
+    (l : List Noted) (t o : ℕ) (p : Peer) (bytes : List ℕ) (m : Content) (timeout : Option ℕ)
+    : Type 0 where
   pub since : ℕ
   pub request : CoapRequest
   pub opening : begun l o ≡ Some (record { since = since; request = request })
@@ -123,7 +128,8 @@ pub record MayBeFirst
   pub first : waiting l p ≡ o ∷ others
   pub free : outstanding l p ≡ None
   pub peer : p ≡ request.peer
-  pub message : next_message (observes l o) request (progress request (replies l o)) m.mid m.token ≡ Some m
+  pub message : next_message (observes l o) request (progress request (replies l o)) m.mid m.token
+      ≡ Some m
   pub spelled : Spells m bytes
   pub token_size : length m.token ≡ 8
   pub token_apart : bears_token l m.token ≡ false
@@ -133,8 +139,8 @@ pub record MayBeFirst
   pub least : ACK_TIMEOUT ≤ wait
   pub greatest : wait ≤ LONGEST_ACK_TIMEOUT
 
--- What a copy owes: the message is outstanding, four copies weren't sent, and a tick saw that one is
--- due.
+-- What a copy owes: the message is outstanding, four copies weren't sent, and a tick saw that one
+-- is due.
 pub record MayBeCopy (l : List Noted) (i : ℕ) (p : Peer) (bytes : List ℕ) : Type 0 where
   pub opening : ℕ
   pub message : Content
@@ -226,8 +232,8 @@ pub record AtRest (l : List Noted) : Type 0 where
   pub given : is_sealed l ≡ false → owed l ≡ None
   -- no message waits where none is outstanding,
   pub sent : is_sealed l ≡ false → list_all (is_under_way l) (open_exchanges l) ≡ true
-  -- and what was due at the last tick is done: copies, deadlines of exchanges, and the end of watches
-  -- of what nobody asks for
+  -- and what was due at the last tick is done: copies, deadlines of exchanges, and the end of
+  -- watches of what nobody asks for
   pub copied : is_sealed l ≡ false → list_all (is_done l) (firsts l) ≡ true
   pub ended : is_sealed l ≡ false → list_all (is_in_time l) (open_exchanges l) ≡ true
   pub forgotten : is_sealed l ≡ false → list_all (is_asked_for l) (watches l) ≡ true
@@ -237,7 +243,8 @@ abbrev pub MayCome : List Noted → Type 0
 MayCome l = (is_sealed l ≡ false) × AtRest l
 
 -- What a first sending owes that is copied: a token and an ID of its own here too.
-pub record IsApart (l : List Noted) (t : ℕ) (p : Peer) (bytes : List ℕ) (m : Content) (timeout : Option ℕ) : Type 0 where
+pub record IsApart (l : List Noted) (t : ℕ) (p : Peer) (bytes : List ℕ) (m : Content)
+    (timeout : Option ℕ) : Type 0 where
   pub spelled : Spells m bytes
   pub token_size : length m.token ≡ 8
   pub token_apart : bears_token l m.token ≡ false
@@ -245,16 +252,50 @@ pub record IsApart (l : List Noted) (t : ℕ) (p : Peer) (bytes : List ℕ) (m :
   pub first_wait : is_some timeout ≡ true
 
 -- what is remembered of what was heard
-pub record MayRecall (l : List Noted) (t : ℕ) (p : Peer) (bytes : List ℕ) (m : Content) : Type 0 where
+pub record MayRecall (l : List Noted) (t : ℕ) (p : Peer) (bytes : List ℕ)
+    (m : Content) : Type 0 where
   pub spelled : Spells m bytes
   pub such : is_such m.kind ≡ true
   pub unheard : repeated l t p m ≡ None
   pub remembered : can_be_remembered l t p m ≡ true
 
+-- What a copy of a first sending owes that an answer may rest on: it asks for what the ask did that
+-- is copied too, or for a block of that.
+pub record IsSentForCopied (l : List Noted) (o : ℕ) (p : Peer) (m : Content) : Type 0 where
+  pub exchange : Begun
+  pub asked : carried l o ≡ Some exchange
+  pub peer : p ≡ exchange.request.peer
+  pub observes : Bool
+  pub block : Option Block
+  pub asks : m ≡ asking observes exchange.request block m.mid m.token
+
+-- What a copy of a reply owes: the message to which it came is copied too, and was sent for such an
+-- ask.
+pub record RepliesToCopied (l : List Noted) (t : ℕ) (p : Peer) (bytes : List ℕ)
+    (m : Content) : Type 0 where
+  pub spelled : Spells m bytes
+  pub response : 32 ≤ m.code
+  pub unheard : repeated l t p m ≡ None
+  pub remembered : can_be_remembered l t p m ≡ true
+  pub first : FirstSending
+  pub under : replied_by l p m ≡ Some first
+  pub kind : IsReplyKind m.kind m.mid first.message.mid
+  pub exchange : Begun
+  pub asked : carried l first.opening ≡ Some exchange
+
+-- No other ask that is copied asks for the same.
+abbrev pub IsCopiedOnce : List Noted → CoapRequest → Type 0
+IsCopiedOnce l q = (o : ℕ) (b : Begun) → carried l o ≡ Some b → asks_same q b.request ≡ false
+
 -- A copy stands before all that is the journal's own, in the order of the journal given out.
 abbrev pub CopiedNote : List Noted → ℕ → Mark → Done → Note → Type 0
 CopiedNote l t Past (Sent p bytes w) (Bygone m) = IsApart l t p bytes m w
 CopiedNote l t Past (Heard p bytes) (Recalls m answer) = MayRecall l t p bytes m
+CopiedNote l t Ground (Asked c a) Plain =
+    (q : CoapRequest) × (a.sense ≡ Requests q) × (is_get q ≡ true) × IsCopiedOnce l q
+CopiedNote l t Ground (Sent p bytes w) (First o m) =
+    IsApart l t p bytes m w × IsSentForCopied l o p m
+CopiedNote l t Ground (Heard p bytes) (Recalls m answer) = RepliesToCopied l t p bytes m
 CopiedNote l t mark done note = ⊥
 
 abbrev pub copied_by : Deed → ℕ → ℕ

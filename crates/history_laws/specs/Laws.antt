@@ -3,7 +3,7 @@ use Rattle.std.specs.Prelude.{◌≡◌, ◌≢◌, ◌↔◌, ◌⊎◌, ℕ, �
 use Rattle.std.specs.List.{Contains}
 use Rattle.limits.specs.declared.TheConstants.{MAX_RETRANSMIT, MESSAGE_ID_LIFETIME}
 use Rattle.coap_codec.specs.declared.message.MsgType.{MsgType}
-use Rattle.coap_codec.specs.declared.message.MsgType.TheVariants.{Con, Non, Ack, Rst}
+use Rattle.coap_codec.specs.declared.message.MsgType.TheVariants.{Ack, Rst}
 use Rattle.coap_codec.specs.Spelling.{Content, Spells}
 use Rattle.coap_codec.specs.declared.block.Block.{Block}
 use Rattle.uri_map.specs.declared.peer.Peer.{Peer}
@@ -14,9 +14,10 @@ use Rattle.ask_model.specs.Sharing.{asked_key, asked_place, asks_same}
 use Rattle.ask_model.specs.Observing.{may_observe}
 use Rattle.ask_model.specs.Views.{Ask}
 use Rattle.resp_cache.specs.Stored.{Stored, is_fresh}
-use Rattle.journal_book.specs.Entries.{Grounds, Live, Kept, Fault, Deed, Asks, Sends, Hears, Passes, Answers, Shuts}
+use Rattle.journal_book.specs.Entries.{Grounds, Live, Kept, Fault, Ground, Deed, Asks, Sends, Hears, Passes, Answers, Shuts, Carries}
+use Rattle.journal_book.specs.Entries as D
 use Rattle.history_laws.specs.Confirmations.{empty}
-use Rattle.history_laws.specs.Readings.{Noted, Note, Begins, First, Copies, Says, Notice, noted, at, before, ticked}
+use Rattle.history_laws.specs.Readings.{Noted, Note, Begins, First, Copies, Says, Recalls, Answered, Notice, noted, at, before, ticked}
 use Rattle.history_laws.specs.Responses.{Response}
 use Rattle.history_laws.specs.Connections.{is_open, asks_of, answers_of, is_sealed}
 use Rattle.blockwise.specs.Reading.{offset_in}
@@ -26,11 +27,13 @@ use Rattle.history_laws.specs.Transmissions.{FirstSending, firsts, Transmission,
 use Rattle.history_laws.specs.Exchanges.{Begun, begun, turn, waits_for, replies, end_here, end_of, open_exchanges}
 use Rattle.history_laws.specs.Joining.{outrun, is_joinable, joins}
 use Rattle.history_laws.specs.Observing.{Watch, most_watches, observes, watches}
-use Rattle.history_laws.specs.Storing.{IsStored, MissesAlone}
-use Rattle.history_laws.specs.Hearing.{repeated, has_room}
+use Rattle.history_laws.specs.Carrying.{carried, carried_replies}
+use Rattle.history_laws.specs.Storing.{IsBrought, IsCarried, IsStored, MissesAlone}
+use Rattle.history_laws.specs.Hearing.{IsReplyKind, repeated, has_room}
 use Rattle.history_laws.specs.Justified.{IsAsk, Ends, reads, Legal, AtRest}
 
--- The entry with this number is a first sending of the exchange, at this moment: of this message, to this peer.
+-- The entry with this number is a first sending of the exchange, at this moment: of this message,
+-- to this peer.
 pub record IsFirst (l : List Noted) (t o i : ℕ) (p : Peer) (m : Content) : Type 0 where
   pub bytes : List ℕ
   pub timeout : Option ℕ
@@ -57,7 +60,8 @@ pub record IsAnswer (l : List Noted) (n c k : ℕ) (g : Grounds) : Type 0 where
 
 -- A connection's answers are to its first asks, in their order.
 abbrev pub AnsweredInOrder : Type 0
-AnsweredInOrder = (l : List Noted) (c : ℕ) → Legal l → answers_of l c ≡ take (length (answers_of l c)) (asks_of l c)
+AnsweredInOrder = (l : List Noted) (c : ℕ) → Legal l
+    → answers_of l c ≡ take (length (answers_of l c)) (asks_of l c)
 
 -- An ask is answered at most once.
 abbrev pub AnsweredOnce : Type 0
@@ -68,7 +72,8 @@ AnsweredOnce =
 -- To one peer, one message is outstanding.
 abbrev pub OneOutstanding : Type 0
 OneOutstanding =
-    (l : List Noted) (s t o i q j : ℕ) (p : Peer) (m n : Content) → Legal l → IsFirst l s o i p m → IsFirst l t q j p n
+    (l : List Noted) (s t o i q j : ℕ) (p : Peer) (m n : Content) → Legal l → IsFirst l s o i p m
+    → IsFirst l t q j p n
     → is_some (transmission l i) ≡ true → is_some (transmission l j) ≡ true → i ≡ j
 
 -- A message is copied four times at most.
@@ -84,8 +89,8 @@ IsDone (Answers c k g) = ⊤
 IsDone (Shuts c) = ⊤
 IsDone _ = ⊥
 
--- The copy with this number goes out in the step of the first tick that finds it due: the tick before that one came
--- too early.
+-- The copy with this number goes out in the step of the first tick that finds it due: the tick
+-- before that one came too early.
 pub record IsInTime (l : List Noted) (n i : ℕ) : Type 0 where
   pub way : Transmission
   pub is_outstanding : transmission (before l n) i ≡ Some way
@@ -103,7 +108,8 @@ CopiedInTime =
     (l : List Noted) (n t i : ℕ) (p : Peer) (bytes : List ℕ) (w : Option ℕ) → Legal l
     → at l n ≡ Some (noted t (Sends p bytes w) (Copies i)) → IsInTime l n i
 
--- At rest, nothing that is outstanding was due at the last tick: its copy is out, or it is given up.
+-- At rest, nothing that is outstanding was due at the last tick: its copy is out, or it is given
+-- up.
 abbrev pub NoneLeft : Type 0
 NoneLeft =
     (l : List Noted) (i : ℕ) (way : Transmission) → AtRest l → is_sealed l ≡ false
@@ -112,14 +118,16 @@ NoneLeft =
 -- The open exchanges are just those that were opened and have not ended.
 abbrev pub OpenExactly : Type 0
 OpenExactly =
-    (l : List Noted) (o : ℕ) → Contains (open_exchanges l) o ↔ (is_some (begun l o) ≡ true) × (end_of l o ≡ None)
+    (l : List Noted) (o : ℕ) → Contains (open_exchanges l) o ↔ (is_some (begun l o) ≡ true)
+    × (end_of l o ≡ None)
 
 -- An exchange ends at the first entry that ends it, and in the way of that entry.
 abbrev pub EndsFirst : Type 0
 EndsFirst =
     (l : List Noted) (o e : ℕ) (how : Ending) → Ends l o e how
     → (x : Noted) × (at l e ≡ Some x) × (end_of (before l e) o ≡ None)
-    × (end_here (begun (before l e) o) e (replies (before l e) o) (turn (before l e) o x) ≡ Some how)
+    × (end_here (begun (before l e) o) e (replies (before l e) o) (turn (before l e) o x)
+    ≡ Some how)
 
 -- After an exchange's end nothing goes out for it but copies: its first sending stands before that.
 abbrev pub NoneAfterEnd : Type 0
@@ -127,15 +135,8 @@ NoneAfterEnd =
     (l : List Noted) (t o i e : ℕ) (p : Peer) (m : Content) (how : Ending) → Legal l
     → IsFirst l t o i p m → Ends l o e how → i < e
 
--- a piggybacked response has the ID of the request, a separate one any, and a RST is no response
-abbrev pub IsReplyKind : MsgType → ℕ → ℕ → Type 0
-IsReplyKind Con mid sent = ⊤
-IsReplyKind Non mid sent = ⊤
-IsReplyKind Ack mid sent = mid ≡ sent
-IsReplyKind Rst mid sent = ⊥
-
--- The reply was heard after that first sending of the exchange, from the peer that it went to, is a response with
--- its token, and no repeat.
+-- The reply was heard after that first sending of the exchange, from the peer that it went to, is a
+-- response with its token, and no repeat.
 pub record IsReplyTo (l : List Noted) (o : ℕ) (r : Reply) : Type 0 where
   pub peer : Peer
   pub sent : Content
@@ -144,7 +145,8 @@ pub record IsReplyTo (l : List Noted) (o : ℕ) (r : Reply) : Type 0 where
   pub moment : ℕ
   pub bytes : List ℕ
   pub notice : Notice
-  pub heard : at l r.number ≡ Some (noted moment (Hears peer bytes) (Says r.message (Some r.sending) notice))
+  pub heard : at l r.number ≡ Some
+      (noted moment (Hears peer bytes) (Says r.message (Some r.sending) notice))
   pub spelled : Spells r.message bytes
   pub after : r.sending < r.number
   pub token : r.message.token ≡ sent.token
@@ -153,17 +155,21 @@ pub record IsReplyTo (l : List Noted) (o : ℕ) (r : Reply) : Type 0 where
   pub unheard : repeated (before l r.number) moment peer r.message ≡ None
 
 abbrev pub RepliesFit : Type 0
-RepliesFit = (l : List Noted) (o : ℕ) (r : Reply) → Legal l → Contains (replies l o) r → IsReplyTo l o r
+RepliesFit = (l : List Noted) (o : ℕ) (r : Reply) → Legal l → Contains (replies l o) r
+    → IsReplyTo l o r
 
 -- Each first sending of an exchange is its next message after the replies before.
 abbrev pub SendsNext : Type 0
 SendsNext =
-    (l : List Noted) (t o i : ℕ) (p : Peer) (m : Content) (b : Begun) → Legal l → IsFirst l t o i p m
+    (l : List Noted) (t o i : ℕ) (p : Peer) (m : Content) (b : Begun) → Legal l
+    → IsFirst l t o i p m
     → begun l o ≡ Some b
-    → next_message (observes (before l i) o) b.request (progress b.request (replies (before l i) o)) m.mid m.token ≡ Some m
+    → next_message (observes (before l i) o) b.request
+    (progress b.request (replies (before l i) o)) m.mid m.token ≡ Some m
 
 -- The reply came to a message for this block: one of its representation, or of its body.
-pub record IsFetched (l : List Noted) (o : ℕ) (q : CoapRequest) (block : Option Block) (r : Reply) : Type 0 where
+pub record IsFetched (l : List Noted) (o : ℕ) (q : CoapRequest) (block : Option Block)
+    (r : Reply) : Type 0 where
   pub fits : IsReplyTo l o r
   pub moment : ℕ
   pub mid : ℕ
@@ -177,12 +183,14 @@ AreFetched l o q point [] = ⊤
 AreFetched l o q point (r ∷ rs) =
     IsFetched l o q (block_for point) r × AreFetched l o q (point_after point r.message) rs
 
--- What an exchange ends with as a whole came piece by piece, each one after those before: the pieces of its
--- representation (RFC 7959 section 2.4), or the answers to the pieces of its body (section 2.3).
+-- What an exchange ends with as a whole came piece by piece, each one after those before: the
+-- pieces of its representation (RFC 7959 section 2.4), or the answers to the pieces of its body
+-- (section 2.3).
 abbrev pub FetchedInOrder : Type 0
 FetchedInOrder =
     (l : List Noted) (o e : ℕ) (b : Begun) (w : Response) (rs : List Reply) → Legal l
-    → begun l o ≡ Some b → Ends l o e (Whole w rs) → AreFetched l o b.request (first_point b.request) rs
+    → begun l o ≡ Some b → Ends l o e (Whole w rs)
+    → AreFetched l o b.request (first_point b.request) rs
 
 -- The exchange has a first sending in the entry with this number.
 abbrev pub IsSending : List Noted → ℕ → ℕ → Type 0
@@ -199,25 +207,31 @@ block_sent l o q i = brings (progress q (replies (before l i) o))
 abbrev pub bytes_sent : List Noted → ℕ → CoapRequest → ℕ → ℕ
 bytes_sent l o q i = length (carried_by q.method (block_sent l o q i) q.body)
 
--- It is the exchange's first and begins with the first byte of the body, or it begins where the one before it ends.
+-- It is the exchange's first and begins with the first byte of the body, or it begins where the one
+-- before it ends.
 abbrev pub IsPart : List Noted → ℕ → CoapRequest → ℕ → Type 0
 IsPart l o q i =
     (((j : ℕ) → IsSending l o j → i ≤ j) × (offset_in (block_sent l o q i) ≡ 0))
     ⊎ ((j : ℕ) × IsSending l o j × (j < i) × ((k : ℕ) → IsSending l o k → k < i → k ≤ j)
     × (offset_in (block_sent l o q j) + bytes_sent l o q j ≡ offset_in (block_sent l o q i)))
 
--- What a write sends are one message, or blocks of its body, in order, without a gap and without an overlap.
+-- What a write sends are one message, or blocks of its body, in order, without a gap and without an
+-- overlap.
 abbrev pub WritesInOrder : Type 0
 WritesInOrder =
-    (l : List Noted) (t o i : ℕ) (p : Peer) (m : Content) (b : Begun) → Legal l → begun l o ≡ Some b → b.request.method ≢ 1
-    → IsFirst l t o i p m → (m ≡ block_message b.request (block_sent l o b.request i) m.mid m.token) × IsPart l o b.request i
+    (l : List Noted) (t o i : ℕ) (p : Peer) (m : Content) (b : Begun) → Legal l
+    → begun l o ≡ Some b → b.request.method ≢ 1
+    → IsFirst l t o i p m
+    → (m ≡ block_message b.request (block_sent l o b.request i) m.mid m.token)
+    × IsPart l o b.request i
 
 -- The exchange that an ask reads was opened by it, or before it.
 abbrev pub ReadsOpened : Type 0
-ReadsOpened = (l : List Noted) (k o : ℕ) → Legal l → reads l k ≡ Some o → (o ≤ k) × (is_some (begun l o) ≡ true)
+ReadsOpened = (l : List Noted) (k o : ℕ) → Legal l → reads l k ≡ Some o → (o ≤ k)
+    × (is_some (begun l o) ≡ true)
 
--- The entry with this number is a reply to the exchange that the ask reads, and came to a message that asks just
--- what the ask means, sent after that was opened.
+-- The entry with this number is a reply to the exchange that the ask reads, and came to a message
+-- that asks just what the ask means, sent after that was opened.
 pub record RestsOn (l : List Noted) (k j : ℕ) : Type 0 where
   pub conn : ℕ
   pub ask : Ask
@@ -236,15 +250,18 @@ pub record RestsOn (l : List Noted) (k j : ℕ) : Type 0 where
   pub token : List ℕ
   pub block : Option Block
   pub observes : Bool
-  pub first : IsFirst l moment opening reply.sending request.peer (asking observes request block mid token)
+  pub first : IsFirst l moment opening reply.sending request.peer
+      (asking observes request block mid token)
 
 -- An answer rests on replies to the exchange that its ask reads alone.
 abbrev pub RestsOnItsOwn : Type 0
 RestsOnItsOwn =
-    (l : List Noted) (n c k j : ℕ) (js : List ℕ) → Legal l → IsAnswer l n c k (Live js) → Contains js j → RestsOn l k j
+    (l : List Noted) (n c k j : ℕ) (js : List ℕ) → Legal l → IsAnswer l n c k (Live js)
+    → Contains js j → RestsOn l k j
 
--- What was stored before the ask for a request equal to it, fresh at its moment, has this reply, which came to a
--- message that asks just what the ask means, sent after the exchange for that was opened.
+-- What was stored before the ask for a request equal to it, fresh at its moment, has this reply,
+-- which came to a message that asks just what the ask means, sent after the exchange for that was
+-- opened.
 pub record RestsOnStored (l : List Noted) (k j : ℕ) : Type 0 where
   pub conn : ℕ
   pub ask : Ask
@@ -252,7 +269,7 @@ pub record RestsOnStored (l : List Noted) (k j : ℕ) : Type 0 where
   pub asked : IsAsk l k conn ask
   pub sense : ask.sense ≡ Requests request
   pub stored : Stored
-  pub is : IsStored (before l k) request stored
+  pub is : IsBrought (before l k) request stored
   pub fresh : is_fresh asked.moment stored ≡ true
   pub listed : Contains stored.list j
   pub reply : Reply
@@ -265,17 +282,70 @@ pub record RestsOnStored (l : List Noted) (k j : ℕ) : Type 0 where
   pub token : List ℕ
   pub block : Option Block
   pub observes : Bool
-  pub first : IsFirst l moment is.opening reply.sending request.peer (asking observes request block mid token)
+  pub first : IsFirst l moment is.opening reply.sending request.peer
+      (asking observes request block mid token)
 
--- An answer from the store rests on a response that is stored for what its ask means, and is given in the moment of
--- the ask.
+-- The reply is a copy of one to a message of which a copy stands before it: to one that asked for
+-- this, or for a block of it, under its token. It was sent for the ask that the entry o copies.
+pub record IsCarriedReply (l : List Noted) (o : ℕ) (q : CoapRequest) (r : Reply) : Type 0 where
+  pub observes : Bool
+  pub block : Option Block
+  pub mid : ℕ
+  pub sent_at : ℕ
+  pub old : ℕ
+  pub text : List ℕ
+  pub timeout : Option ℕ
+  pub sent : at l r.sending
+      ≡ Some (noted sent_at (Carries old Ground (D.Sent q.peer text timeout))
+      (First o (asking observes q block mid r.message.token)))
+  pub asks : Spells (asking observes q block mid r.message.token) text
+  pub opened : o < r.sending
+  pub moment : ℕ
+  pub number : ℕ
+  pub bytes : List ℕ
+  pub answer : Answered
+  pub heard : at l r.number
+      ≡ Some (noted moment (Carries number Ground (D.Heard q.peer bytes))
+      (Recalls r.message answer))
+  pub spelled : Spells r.message bytes
+  pub after : r.sending < r.number
+  pub response : 32 ≤ r.message.code
+  pub kind : IsReplyKind r.message.kind r.message.mid mid
+
+abbrev pub CarriedRepliesFit : Type 0
+CarriedRepliesFit =
+    (l : List Noted) (o : ℕ) (b : Begun) (r : Reply) → Legal l → carried l o ≡ Some b
+    → Contains (carried_replies l o) r → IsCarriedReply l o b.request r
+
+-- What the journal began with, and was stored before the ask for a request equal to it, fresh at
+-- its moment, has this reply, which came to a message that asks just what the ask means.
+pub record RestsOnCarried (l : List Noted) (k j : ℕ) : Type 0 where
+  pub conn : ℕ
+  pub ask : Ask
+  pub request : CoapRequest
+  pub asked : IsAsk l k conn ask
+  pub sense : ask.sense ≡ Requests request
+  pub stored : Stored
+  pub is : IsCarried (before l k) request stored
+  pub fresh : is_fresh asked.moment stored ≡ true
+  pub listed : Contains stored.list j
+  pub reply : Reply
+  pub number : reply.number ≡ j
+  pub earlier : j < k
+  pub fits : IsCarriedReply l is.opening is.carries.exchange.request reply
+
+-- An answer from the store rests on a response that is stored for what its ask means, and is given
+-- in the moment of the ask.
 abbrev pub RestsOnTheStore : Type 0
 RestsOnTheStore =
-    (l : List Noted) (n t c k j : ℕ) (note : Note) (js : List ℕ) → Legal l → at l n ≡ Some (noted t (Answers c k (Kept js)) note)
-    → Contains js j → (r : RestsOnStored l k j) × (r.asked.moment ≡ t) × (r.stored.list ≡ js)
+    (l : List Noted) (n t c k j : ℕ) (note : Note) (js : List ℕ) → Legal l
+    → at l n ≡ Some (noted t (Answers c k (Kept js)) note)
+    → Contains js j
+    → ((r : RestsOnStored l k j) × (r.asked.moment ≡ t) × (r.stored.list ≡ js))
+    ⊎ ((r : RestsOnCarried l k j) × (r.asked.moment ≡ t) × (r.stored.list ≡ js))
 
--- The exchange of a request that isn't a GET ended at this entry: what was read of the resource before may be out
--- of date from here on.
+-- The exchange of a request that isn't a GET ended at this entry: what was read of the resource
+-- before may be out of date from here on.
 pub record IsWriteEnd (l : List Noted) (p : Peer) (path : List (List ℕ)) (e : ℕ) : Type 0 where
   pub opening : ℕ
   pub write : Begun
@@ -291,12 +361,14 @@ replies_in (Live js) = js
 replies_in (Kept js) = js
 replies_in (Fault cause n) = []
 
--- No answer to a GET, live or kept, rests on a token that was issued before the end of a write to its resource, where that lies
--- before the ask.
+-- No answer to a GET, live or kept, rests on a token that was issued before the end of a write to
+-- its resource, where that lies before the ask.
 abbrev pub NothingOutrun : Type 0
 NothingOutrun =
-    (l : List Noted) (n c k j e : ℕ) (g : Grounds) (a : Ask) (q : CoapRequest) → Legal l → IsAnswer l n c k g → Contains (replies_in g) j
-    → IsAsk l k c a → a.sense ≡ Requests q → q.method ≡ 1 → IsWriteEnd l q.peer q.target.path e → e < k
+    (l : List Noted) (n c k j e : ℕ) (g : Grounds) (a : Ask) (q : CoapRequest) → Legal l
+    → IsAnswer l n c k g → Contains (replies_in g) j
+    → IsAsk l k c a → a.sense ≡ Requests q → q.method ≡ 1 → IsWriteEnd l q.peer q.target.path e
+    → e < k
     → (o : ℕ) × (r : Reply) × IsReplyTo l o r × (r.number ≡ j) × (e < r.sending)
 
 -- Of the open exchanges, a GET may join one at most.
@@ -306,8 +378,8 @@ OneJoinable =
     → Contains (open_exchanges l) a → is_joinable l q a ≡ true
     → Contains (open_exchanges l) b → is_joinable l q b ≡ true → a ≡ b
 
--- The ask opened an exchange for this request: there was none to join, and there was room. It has at most one first
--- sending after the same replies: none is sent twice.
+-- The ask opened an exchange for this request: there was none to join, and there was room. It has
+-- at most one first sending after the same replies: none is sent twice.
 pub record OpensOne (l : List Noted) (k : ℕ) (q : CoapRequest) : Type 0 where
   pub since : ℕ
   pub opened : begun l k ≡ Some (record { since = since; request = q })
@@ -316,8 +388,8 @@ pub record OpensOne (l : List Noted) (k : ℕ) (q : CoapRequest) : Type 0 where
   pub once : (s t i j : ℕ) (p r : Peer) (m n : Content) → IsFirst l s k i p m → IsFirst l t k j r n
       → length (replies (before l i) k) ≡ length (replies (before l j) k) → i ≡ j
 
--- The ask reads along an exchange that was opened before for an equal GET, was open, and was outrun by no write.
--- It opens none, and nothing is sent for it.
+-- The ask reads along an exchange that was opened before for an equal GET, was open, and was outrun
+-- by no write. It opens none, and nothing is sent for it.
 pub record JoinsOne (l : List Noted) (k : ℕ) (q : CoapRequest) : Type 0 where
   pub opening : ℕ
   pub reads : reads l k ≡ Some opening
@@ -330,8 +402,8 @@ pub record JoinsOne (l : List Noted) (k : ℕ) (q : CoapRequest) : Type 0 where
   pub unopened : begun l k ≡ None
   pub unsent : (t i : ℕ) (p : Peer) (m : Content) → IsFirst l t k i p m → ⊥
 
--- The ask is served what is stored, which is fresh. It opens no exchange, nothing is sent for it, and its answer is
--- just that.
+-- The ask is served what is stored, which is fresh. It opens no exchange, nothing is sent for it,
+-- and its answer is just that.
 pub record ServesOne (l : List Noted) (t k : ℕ) (q : CoapRequest) : Type 0 where
   pub stored : Stored
   pub is : IsStored (before l k) q stored
@@ -340,7 +412,8 @@ pub record ServesOne (l : List Noted) (t k : ℕ) (q : CoapRequest) : Type 0 whe
   pub unsent : (s i : ℕ) (p : Peer) (m : Content) → IsFirst l s k i p m → ⊥
   pub answered : (n c : ℕ) (g : Grounds) → IsAnswer l n c k g → g ≡ Kept stored.list
 
--- The ask opened no exchange, nothing is sent for it, and its answer is the proxy's own, for this cause.
+-- The ask opened no exchange, nothing is sent for it, and its answer is the proxy's own, for this
+-- cause.
 pub record OpensNone (l : List Noted) (k : ℕ) (cause : Cause) : Type 0 where
   pub unopened : begun l k ≡ None
   pub unsent : (t i : ℕ) (p : Peer) (m : Content) → IsFirst l t k i p m → ⊥
@@ -352,8 +425,9 @@ pub record TurnsAway (l : List Noted) (t k : ℕ) (q : CoapRequest) : Type 0 whe
   pub alone : joins (before l k) q ≡ None
   pub full : has_room (before l k) t q ≡ false
 
--- An ask for something is served what is stored. Only where nothing is, or 256 others were used since, it opens one
--- exchange, or joins one, or does neither where there is no room. A refused one opens none.
+-- An ask for something is served what is stored. Only where nothing is, or 256 others were used
+-- since, it opens one exchange, or joins one, or does neither where there is no room. A refused one
+-- opens none.
 abbrev pub OpensFor : List Noted → ℕ → ℕ → Sense → Type 0
 OpensFor l t k (Requests q) =
     ServesOne l t k q
@@ -361,23 +435,27 @@ OpensFor l t k (Requests q) =
 OpensFor l t k (Refuses cause status) = OpensNone l k cause
 
 abbrev pub AskedOnce : Type 0
-AskedOnce = (l : List Noted) (k c : ℕ) (a : Ask) → Legal l → (h : IsAsk l k c a) → OpensFor l h.moment k a.sense
+AskedOnce = (l : List Noted) (k c : ℕ) (a : Ask) → Legal l → (h : IsAsk l k c a)
+    → OpensFor l h.moment k a.sense
 
--- At rest, the message of an open exchange waits for its reply, or to be sent after the one that is outstanding at
--- its peer.
+-- At rest, the message of an open exchange waits for its reply, or to be sent after the one that is
+-- outstanding at its peer.
 abbrev pub SentAtOnce : Type 0
 SentAtOnce =
-    (l : List Noted) (o : ℕ) (b : Begun) → AtRest l → is_sealed l ≡ false → begun l o ≡ Some b → end_of l o ≡ None
-    → ((i : ℕ) × (waits_for l o ≡ Some i)) ⊎ ((f : FirstSending) × (outstanding l b.request.peer ≡ Some f))
+    (l : List Noted) (o : ℕ) (b : Begun) → AtRest l → is_sealed l ≡ false → begun l o ≡ Some b
+    → end_of l o ≡ None
+    → ((i : ℕ) × (waits_for l o ≡ Some i))
+    ⊎ ((f : FirstSending) × (outstanding l b.request.peer ≡ Some f))
 
 -- At rest, an ask that opened no exchange and whose connection is open is answered.
 abbrev pub AnsweredAtOnce : Type 0
 AnsweredAtOnce =
-    (l : List Noted) (k c : ℕ) (a : Ask) → Legal l → AtRest l → is_open l c ≡ true → IsAsk l k c a → reads l k ≡ None
+    (l : List Noted) (k c : ℕ) (a : Ask) → Legal l → AtRest l → is_open l c ≡ true → IsAsk l k c a
+    → reads l k ≡ None
     → (n : ℕ) × (g : Grounds) × IsAnswer l n c k g
 
--- The entry with this number sends these bytes to this peer, as the first sending of the exchange of an ask before
--- it, and they spell what that asks for.
+-- The entry with this number sends these bytes to this peer, as the first sending of the exchange
+-- of an ask before it, and they spell what that asks for.
 pub record IsAskSent (l : List Noted) (i : ℕ) (p : Peer) (bytes : List ℕ) : Type 0 where
   pub ask : ℕ
   pub conn : ℕ
@@ -414,10 +492,12 @@ abbrev pub NothingElseSent : Type 0
 NothingElseSent =
     (l : List Noted) (i t : ℕ) (p : Peer) (bytes : List ℕ) (w : Option ℕ) (note : Note) → Legal l
     → at l i ≡ Some (noted t (Sends p bytes w) note)
-    → IsAskSent l i p bytes ⊎ (((j : ℕ) × (j < i) × IsAskSent l j p bytes) ⊎ IsConfirmation l i p bytes)
+    → IsAskSent l i p bytes
+    ⊎ (((j : ℕ) × (j < i) × IsAskSent l j p bytes) ⊎ IsConfirmation l i p bytes)
 
--- A watch came of a GET that a server was asked whose resources are to be observed, by a message that asked for that
--- (RFC 7641 section 3.1). Notifications come under its token, after the reply to it that registered the proxy.
+-- A watch came of a GET that a server was asked whose resources are to be observed, by a message
+-- that asked for that (RFC 7641 section 3.1). Notifications come under its token, after the reply
+-- to it that registered the proxy.
 pub record IsObserved (l : List Noted) (w : Watch) : Type 0 where
   pub since : ℕ
   pub conn : ℕ
@@ -429,7 +509,8 @@ pub record IsObserved (l : List Noted) (w : Watch) : Type 0 where
   pub key : w.held.key ≡ asked_key request
   pub moment : ℕ
   pub mid : ℕ
-  pub sent : IsFirst l moment w.held.opening w.sending request.peer (observe_message request mid w.held.token)
+  pub sent : IsFirst l moment w.held.opening w.sending request.peer
+      (observe_message request mid w.held.token)
   pub reply : Reply
   pub replied : IsReplyTo l w.held.opening reply
   pub under : reply.sending ≡ w.sending

@@ -9,8 +9,9 @@ pub mod Transmissions
 pub mod Exchanges
 pub mod Joining
 pub mod Observing
-pub mod Storing
 pub mod Hearing
+pub mod Carrying
+pub mod Storing
 pub mod Confirming
 pub mod Sealing
 pub mod Justified
@@ -23,6 +24,7 @@ pub mod WorkedLate
 pub mod WorkedSpoiled
 pub mod WorkedCopies
 pub mod WorkedStore
+pub mod WorkedCarried
 pub mod WorkedPieces
 pub mod WorkedUploads
 pub mod WorkedWatches

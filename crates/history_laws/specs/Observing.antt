@@ -1,4 +1,5 @@
--- Which resources the proxy observes (RFC 7641): the registrations that stand, and what notifications are to them.
+-- Which resources the proxy observes (RFC 7641): the registrations that stand, and what
+-- notifications are to them.
 use Rattle.std.specs.Prelude.{ℕ, Bool, true, false, not, ◌&&◌, ◌||◌, List, [], ◌∷◌, ◌++◌, length, map, filter, find, Option, Some, None, option_map, ◌==◌, nat_lt, if◌then◌else◌}
 use Rattle.std.specs.Option.{option_map_or}
 use Rattle.std.specs.Str.{bytes_eq}
@@ -25,7 +26,8 @@ use Rattle.history_laws.specs.Joining.{outrun}
 abbrev pub version : Content → Option ℕ
 version m = option_map uint (value_of 6 m)
 
--- What a message is as the first reply to a GET: the whole response, the first piece of one, or neither.
+-- What a message is as the first reply to a GET: the whole response, the first piece of one, or
+-- neither.
 abbrev pub first_reply : ℕ → ℕ → Content → Reply
 first_reply n i m = record { number = n; sending = i; message = m }
 
@@ -37,8 +39,8 @@ is_some_of (Fetches restarts pieces got) = true
 is_some_of (Ends (Whole w rs)) = true
 is_some_of progress = false
 
--- An update tells a state of its resource, or begins to: it is such a 2.05, with a number. Any other
--- notification is the last one (RFC 7641 section 3.2).
+-- An update tells a state of its resource, or begins to: it is such a 2.05, with a number. Any
+-- other notification is the last one (RFC 7641 section 3.2).
 abbrev pub notice_by : Bool → Option ℕ → Shared.Notice
 notice_by true (Some v) = Update v
 notice_by _ v = Other v
@@ -110,7 +112,8 @@ registered l t i m (Some f) = registered_of l t i m f.opening (begun l f.opening
 
 -- What a notification that counts makes of the watch: it holds its number and moment, or goes.
 abbrev pub held_by : Content → ℕ → Watch → Option Watch
-held_by m t w = option_map (λ (r : Registration). record w { held = r }) (heard_by (notice_in m) t w.held)
+held_by m t w =
+    option_map (λ (r : Registration). record w { held = r }) (heard_by (notice_in m) t w.held)
 
 abbrev pub told_by : List Noted → ℕ → ℕ → Content → Observation → List Watch → List Watch
 told_by l t i m Unobserved ws = ws
@@ -141,8 +144,8 @@ watches (x ∷ older) =
     current_by (x ∷ older) x.written.deed x.note
     (watches_by older x.written.moment x.written.deed x.note (watches older))
 
--- The first message of an exchange asks to observe where its server may be observed, and fewer other
--- resources are than may be (RFC 7641 section 3.1).
+-- The first message of an exchange asks to observe where its server may be observed, and fewer
+-- other resources are than may be (RFC 7641 section 3.1).
 abbrev pub wants_by : List Noted → Deed → Note → Bool
 wants_by l (Asks c a) (Begins q) =
     may_observe a.rules q && nat_lt (length (without (is_for q) (watches l))) most_watches

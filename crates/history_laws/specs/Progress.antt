@@ -40,10 +40,11 @@ pub data Ending : Type 0 where
   -- there was no place for its next message
   Turned : Ending
 
--- How far it has come. What a GET asks for may come in pieces, which are fetched one by one (RFC 7959
--- section 2.4). The body of any other request may go in pieces, one by one (section 2.3).
+-- How far it has come. What a GET asks for may come in pieces, which are fetched one by one (RFC
+-- 7959 section 2.4). The body of any other request may go in pieces, one by one (section 2.3).
 pub data Progress : Type 0 where
-  -- how often it was begun anew; what is known of the pieces that came since then, and their replies
+  -- how often it was begun anew; what is known of the pieces that came since then, and their
+  -- replies
   Fetches : (restarts : ℕ) → (pieces : PiecesValue) → (got : List Reply) → Progress
   -- how much of the body was taken, and the replies by which it was
   Gives : (upload : UploadValue) → (got : List Reply) → Progress
@@ -117,10 +118,12 @@ block_after p = option_map (block_at p) p.of
 abbrev pub next_message : Bool → CoapRequest → Progress → ℕ → List ℕ → Option Content
 next_message observes q (Fetches restarts pieces got) mid token =
     Some (asking observes q (block_after pieces) mid token)
-next_message observes q (Gives upload got) mid token = Some (block_message q (next_block upload) mid token)
+next_message observes q (Gives upload got) mid token =
+    Some (block_message q (next_block upload) mid token)
 next_message observes q (Ends how) mid token = None
 
--- what is known of the pieces so far: of those of a representation, which come, or of a body, which go
+-- what is known of the pieces so far: of those of a representation, which come, or of a body, which
+-- go
 pub data Point : Type 0 where
   Fetched : (pieces : PiecesValue) → Point
   Given : (upload : UploadValue) → Point

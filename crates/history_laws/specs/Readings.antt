@@ -43,7 +43,8 @@ pub data Note : Type 0 where
   Joins : (opening : ℕ) → Note
   -- it is served from a stored response, which was heard in the entries with these numbers
   Serves : (replies : List ℕ) → Note
-  -- it is a first sending, of this message, of the exchange that the entry with this number opened
+  -- it is a first sending, of this message, of the exchange that the entry with this number opened;
+  -- or it copies one, which was sent for the ask that the entry with this number copies
   First : (opening : ℕ) → (message : Content) → Note
   -- it is a copy of the first sending with this number
   Copies : (sending : ℕ) → Note

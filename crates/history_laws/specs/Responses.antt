@@ -1,5 +1,5 @@
 -- When the replies to an exchange are a whole response, and which.
-use Rattle.std.specs.Prelude.{ℕ, Bool, ◌&&◌, List, [], ◌∷◌, length, Option, Some, None, option_map, is_some, ◌==◌, if◌then◌else◌}
+use Rattle.std.specs.Prelude.{Bool, ◌&&◌, List, [], ◌∷◌, length, Option, Some, None, option_map, is_some, ◌==◌, if◌then◌else◌}
 use Rattle.std.specs.List.{list_all}
 use Rattle.coap_codec.specs.Spelling.{Content}
 use Rattle.coap_codec.specs.Recognition.{is_final, is_forwardable, value_of, values_of}
@@ -28,8 +28,8 @@ response_of m =
       body = m.payload;
     }
 
--- What pieces of a representation say together: the last one, with the Max-Age of the first, since the
--- whole is as old as that, and with the body that they join to.
+-- What pieces of a representation say together: the last one, with the Max-Age of the first, since
+-- the whole is as old as that, and with the body that they join to.
 abbrev pub last_of : Content → List Content → Content
 last_of m [] = m
 last_of m (n ∷ ms) = last_of n ms
@@ -41,15 +41,16 @@ joined m ms =
       body = payloads (m ∷ ms);
     }
 
--- The replies to a GET (method 1) are a whole response where they are the pieces of one representation,
--- each one after the other, up to the last (RFC 7959 section 2.4). A Block1 has no meaning there.
+-- The replies to a GET (method 1) are a whole response where they are the pieces of one
+-- representation, each one after the other, up to the last (RFC 7959 section 2.4). A Block1 has no
+-- meaning there.
 abbrev pub whole_fetched : Content → List Content → Option Response
 whole_fetched m ms =
     if list_all is_tellable (m ∷ ms) && is_some (given nothing (m ∷ ms))
     then Some (joined m ms) else None
 
--- Those to any other request are, where by each but the last a piece of its body is taken, and the last is the answer
--- to it: to its last piece, or an error (RFC 7959 section 2.3).
+-- Those to any other request are, where by each but the last a piece of its body is taken, and the
+-- last is the answer to it: to its last piece, or an error (RFC 7959 section 2.3).
 abbrev pub whole_by : Answered → Content → List Content → Option Response → Option Response
 whole_by Next m ms later = later
 whole_by Last m [] later = Some (response_of m)
@@ -59,7 +60,8 @@ whole_by Wrong m ms later = None
 abbrev pub whole_given : UploadValue → List Content → Option Response
 whole_given u [] = None
 whole_given u (m ∷ ms) =
-    if is_forwardable m.options then whole_by (answer_to u m) m ms (whole_given (next_of u m) ms) else None
+    if is_forwardable m.options then whole_by (answer_to u m) m ms (whole_given (next_of u m) ms)
+    else None
 
 -- the whole response that the replies to a request are, in order
 abbrev pub whole_of : CoapRequest → List Content → Option Response

@@ -1,12 +1,13 @@
--- Which response a store has for a GET (RFC 7252 section 5.6): the latest whole 2.05 to an equal one, or in a
--- notification of what that reads, to whose place no write has ended since that was asked for, and after which no
--- notification came that counts (RFC 7641 section 3.4).
+-- Which response a store has for a GET (RFC 7252 section 5.6): the latest whole 2.05 to an equal
+-- one, or in a notification of what that reads, to whose place no write has ended since that was
+-- asked for, and after which no notification came that counts (RFC 7641 section 3.4); or one that
+-- the journal begins with.
 use Rattle.std.specs.Prelude.{◌≡◌, ◌≢◌, ◌⊎◌, ℕ, ◌<◌, ◌≤◌, Bool, true, false, ◌==◌, List, [], ◌∷◌, length, Some, ⊤}
 use Rattle.std.specs.List.{AllByRecursion}
 use Rattle.limits.specs.declared.TheConstants.{MAX_STORED}
 use Rattle.cache_key.specs.Keys.{CacheKey}
 use Rattle.ask_model.specs.Requests.{CoapRequest, Requests}
-use Rattle.ask_model.specs.Sharing.{asked_key, is_get}
+use Rattle.ask_model.specs.Sharing.{asked_key, asked_place, asks_same, is_get}
 use Rattle.ask_model.specs.Views.{Ask}
 use Rattle.coap_codec.specs.Spelling.{Content}
 use Rattle.uri_map.specs.declared.peer.Peer.{Peer}
@@ -17,6 +18,7 @@ use Rattle.history_laws.specs.Readings.{Noted, Serves, Says, Updates, noted, at,
 use Rattle.history_laws.specs.Progress.{Reply, numbers, Whole, Ends}
 use Rattle.history_laws.specs.Exchanges.{begun, end_of}
 use Rattle.history_laws.specs.Joining.{outrun, is_joinable}
+use Rattle.history_laws.specs.Carrying.{CarriesSo}
 use Rattle.history_laws.specs.Observing.{Watch, watch_under, as_first, outdated}
 
 -- 2.05 Content
@@ -28,8 +30,8 @@ pub record EndsSo (l : List Noted) (o e : ℕ) (w : Response) (rs : List Reply) 
   pub ended : end_of l o ≡ Some (record { number = e; how = Whole w rs })
   pub code : w.code ≡ content
 
--- In this entry a notification brought such a response, under the token of a watch that the exchange registered
--- (RFC 7641 section 4.2).
+-- In this entry a notification brought such a response, under the token of a watch that the
+-- exchange registered (RFC 7641 section 4.2).
 pub record UpdatesSo (l : List Noted) (o e : ℕ) (w : Response) (rs : List Reply) : Type 0 where
   pub moment : ℕ
   pub peer : Peer
@@ -38,7 +40,8 @@ pub record UpdatesSo (l : List Noted) (o e : ℕ) (w : Response) (rs : List Repl
   pub sending : ℕ
   pub place : Bool
   pub stands : at l e
-      ≡ Some (noted moment (Hears peer bytes) (Says message (Some sending) (record { place = place; observation = Updates })))
+      ≡ Some (noted moment (Hears peer bytes)
+      (Says message (Some sending) (record { place = place; observation = Updates })))
   pub watch : Watch
   pub under : watch_under (before l e) message.token ≡ Some watch
   pub registered : watch.held.opening ≡ o
@@ -49,10 +52,10 @@ pub record UpdatesSo (l : List Noted) (o e : ℕ) (w : Response) (rs : List Repl
 abbrev pub ComesSo : List Noted → ℕ → ℕ → Response → List Reply → Type 0
 ComesSo l o e w rs = EndsSo l o e w rs ⊎ UpdatesSo l o e w rs
 
--- A GET may be answered with the response of the exchange: that was for an equal one, no write to the place has
--- ended since it was opened, and no notification that counts came since its first reply. None that may answer it came
--- later. It counts from its first reply.
-pub record IsStored (l : List Noted) (q : CoapRequest) (s : Stored) : Type 0 where
+-- A GET may be answered with the response of the exchange: that was for an equal one, no write to
+-- the place has ended since it was opened, and no notification that counts came since its first
+-- reply. None that may answer it came later. It counts from its first reply.
+pub record IsBrought (l : List Noted) (q : CoapRequest) (s : Stored) : Type 0 where
   pub opening : ℕ
   pub ending : ℕ
   pub first : Reply
@@ -60,13 +63,37 @@ pub record IsStored (l : List Noted) (q : CoapRequest) (s : Stored) : Type 0 whe
   pub comes : ComesSo l opening ending s.response (first ∷ more)
   pub shared : is_joinable l q opening ≡ true
   pub newest : outdated l (asked_key q) first.number ≡ false
-  pub latest : (o e : ℕ) (w : Response) (r : Reply) (rs : List Reply) → ComesSo l o e w (r ∷ rs) → is_joinable l q o ≡ true
+  pub latest : (o e : ℕ) (w : Response) (r : Reply) (rs : List Reply) → ComesSo l o e w (r ∷ rs)
+      → is_joinable l q o ≡ true
       → outdated l (asked_key q) r.number ≡ false → e ≤ ending
   pub entry : Noted
   pub heard_in : at l first.number ≡ Some entry
   pub heard : s.heard ≡ entry.written.moment
   pub origin : s.opening ≡ opening
   pub list : s.list ≡ numbers (first ∷ more)
+
+-- It may be answered with one that the journal begins with, on the same terms, where none came for
+-- it since.
+pub record IsCarried (l : List Noted) (q : CoapRequest) (s : Stored) : Type 0 where
+  pub opening : ℕ
+  pub first : Reply
+  pub more : List Reply
+  pub carries : CarriesSo l opening s.response (first ∷ more)
+  pub code : s.response.code ≡ content
+  pub same : asks_same q carries.exchange.request ≡ true
+  pub current : outrun l (asked_place q) opening ≡ false
+  pub newest : outdated l (asked_key q) first.number ≡ false
+  pub alone : (o e : ℕ) (w : Response) (r : Reply) (rs : List Reply) → ComesSo l o e w (r ∷ rs)
+      → is_joinable l q o ≡ true
+      → outdated l (asked_key q) r.number ≡ false → ⊥
+  pub entry : Noted
+  pub heard_in : at l first.number ≡ Some entry
+  pub heard : s.heard ≡ entry.written.moment
+  pub origin : s.opening ≡ opening
+  pub list : s.list ≡ numbers (first ∷ more)
+
+abbrev pub IsStored : List Noted → CoapRequest → Stored → Type 0
+IsStored l q s = IsBrought l q s ⊎ IsCarried l q s
 
 -- What is stored under a key is used when it is stored, and each time when it is served.
 pub record IsServing (l : List Noted) (n : ℕ) (key : CacheKey) : Type 0 where
@@ -79,8 +106,8 @@ pub record IsServing (l : List Noted) (n : ℕ) (key : CacheKey) : Type 0 where
   pub sense : ask.sense ≡ Requests request
   pub is : asked_key request ≡ key
 
--- Stored is what comes so for a GET, while no write has outrun it and no newer notification came, and is fresh for a
--- while.
+-- Stored is what comes so for a GET, while no write has outrun it and no newer notification came,
+-- and is fresh for a while.
 pub record IsStoring (l : List Noted) (n : ℕ) (key : CacheKey) : Type 0 where
   pub opening : ℕ
   pub response : Response
@@ -99,9 +126,23 @@ pub record IsStoring (l : List Noted) (n : ℕ) (key : CacheKey) : Type 0 where
 abbrev pub IsUse : List Noted → ℕ → CacheKey → Type 0
 IsUse l n key = IsServing l n key ⊎ IsStoring l n key
 
--- The one was used since the other was last.
+-- A response under the key is what the journal begins with; and none was used since.
+pub record IsCarriedUnder (l : List Noted) (key : CacheKey) : Type 0 where
+  pub opening : ℕ
+  pub response : Response
+  pub replies : List Reply
+  pub carries : CarriesSo l opening response replies
+  pub is : asked_key carries.exchange.request ≡ key
+
+abbrev pub IsUnused : List Noted → CacheKey → Type 0
+IsUnused l key = IsCarriedUnder l key × ((n : ℕ) → IsUse l n key → ⊥)
+
+-- The one was used since the other was last. While one that is carried isn't used, all others that
+-- are count as used since.
 abbrev pub IsUsedSince : List Noted → CacheKey → CacheKey → Type 0
-IsUsedSince l key other = (n : ℕ) × IsUse l n other × ((m : ℕ) → IsUse l m key → m < n)
+IsUsedSince l key other =
+    ((n : ℕ) × IsUse l n other × ((m : ℕ) → IsUse l m key → m < n))
+    ⊎ (IsCarriedUnder l other × IsUnused l key)
 
 abbrev pub KeysDiffer : List CacheKey → Type 0
 KeysDiffer [] = ⊤
@@ -116,4 +157,5 @@ pub record IsCrowdedOut (l : List Noted) (key : CacheKey) : Type 0 where
 
 -- Only then is a GET not answered with what is stored for it and fresh.
 abbrev pub MissesAlone : List Noted → ℕ → CoapRequest → Type 0
-MissesAlone l t q = (s : Stored) → IsStored l q s → is_fresh t s ≡ true → IsCrowdedOut l (asked_key q)
+MissesAlone l t q = (s : Stored) → IsStored l q s → is_fresh t s ≡ true
+    → IsCrowdedOut l (asked_key q)

@@ -22,9 +22,11 @@ pub record FirstSending : Type 0 where
 abbrev pub firsts_by : ℕ → ℕ → Deed → Note → List FirstSending → List FirstSending
 firsts_by n t (Sends p b w) (First o m) old =
     record { number = n; moment = t; opening = o; peer = p; message = m } ∷ old
--- of a copy the opening is its own number, which no exchange has
+-- A copy belongs to no exchange: its opening is its own number, or that of the copy of its ask.
 firsts_by n t (Carries k mark (D.Sent p b w)) (Bygone m) old =
     record { number = n; moment = t; opening = n; peer = p; message = m } ∷ old
+firsts_by n t (Carries k mark (D.Sent p b w)) (First o m) old =
+    record { number = n; moment = t; opening = o; peer = p; message = m } ∷ old
 firsts_by n t _ _ old = old
 
 abbrev pub firsts : List Noted → List FirstSending
@@ -47,8 +49,8 @@ last_sent l p = find (λ (f : FirstSending). same_peer f.peer p) (firsts l)
 abbrev pub bears_token : List Noted → List ℕ → Bool
 bears_token l token = list_any (λ (f : FirstSending). bytes_eq f.message.token token) (firsts l)
 
--- one to the peer bears the message ID, and went out less than 494 seconds before; how many such ones
--- went out
+-- one to the peer bears the message ID, and went out less than 494 seconds before; how many such
+-- ones went out
 abbrev pub is_recent : ℕ → Peer → FirstSending → Bool
 is_recent t p f = same_peer f.peer p && nat_lt t (f.moment + MESSAGE_ID_LIFETIME)
 

@@ -19,7 +19,13 @@ abbrev pub asks : ℕ → List ℕ → List ℕ → CoapRequest
 asks method path body = record {
   method = method;
   peer = server;
-  target = record { host = Name (codes "s.example.com"); port = 5683; path = path ∷ []; query = [] };
+  target = record {
+    host = Name
+        (codes "s.example.com");
+    port = 5683;
+    path = path ∷ [];
+    query = [];
+  };
   accept = None;
   format = None;
   body = body;
@@ -45,14 +51,23 @@ token n = 0 ∷ 0 ∷ 0 ∷ n ∷ 0 ∷ 0 ∷ 0 ∷ 0 ∷ []
 abbrev pub host : List ℕ
 host = 61 ∷ 0 ∷ codes "s.example.com"
 
--- the header of a message with a token of eight bytes: its first byte, code, ID and the number of its token
+-- the header of a message with a token of eight bytes: its first byte, code, ID and the number of
+-- its token
 abbrev pub header : ℕ → ℕ → ℕ → ℕ → List ℕ
 header first code mid n = first ∷ code ∷ 0 ∷ mid ∷ token n
 
 -- the message with that token, options and payload
 abbrev pub message : MsgType → ℕ → ℕ → ℕ → List Entry → List ℕ → Content
 message kind code mid n options payload =
-    record { kind = kind; code = code; mid = mid; token = token n; options = options; payload = payload }
+    record {
+      kind = kind;
+      code = code;
+      mid = mid;
+      token = token n;
+      options
+          = options;
+      payload = payload;
+    }
 
 abbrev pub option : ℕ → List ℕ → Entry
 option number value = record { number = number; value = value }

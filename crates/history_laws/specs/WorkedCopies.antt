@@ -47,20 +47,22 @@ answered_anew =
     ∷ noted 100000 (Sends server (get_under 2 2) (Some 2000)) (First 6 get_again)
     ∷ asking_anew
 
--- Not so: a message under a token that a copy bears, or under the ID of one that went out 493,999 ms
--- before.
+-- Not so: a message under a token that a copy bears, or under the ID of one that went out 493,999
+-- ms before.
 abbrev pub token_used_again : List Noted
 token_used_again =
-    noted 100000 (Sends server (get_under 2 0) (Some 2000)) (First 6 (request_message get_light 2 (token 0)))
+    noted 100000 (Sends server (get_under 2 0) (Some 2000))
+    (First 6 (request_message get_light 2 (token 0)))
     ∷ asking_anew
 
 abbrev pub id_used_again : List Noted
 id_used_again =
-    noted 496099 (Sends server (get_under 1 2) (Some 2000)) (First 6 (request_message get_light 1 (token 2)))
+    noted 496099 (Sends server (get_under 1 2) (Some 2000))
+    (First 6 (request_message get_light 1 (token 2)))
     ∷ asking_anew
 
--- Not so: what repeats a copy taken for new, 246,999 ms after that was heard, and a copy after an entry
--- of the journal's own.
+-- Not so: what repeats a copy taken for new, 246,999 ms after that was heard, and a copy after an
+-- entry of the journal's own.
 abbrev pub copy_heard_as_new : List Noted
 copy_heard_as_new =
     noted 251999 (Hears server content_bytes) (Says content_message None unobserved)

@@ -1,5 +1,5 @@
--- Worked journals of how exchanges end: by a response in a NON, by a Reset message, by the timeout after the fourth
--- copy.
+-- Worked journals of how exchanges end: by a response in a NON, by a Reset message, by the timeout
+-- after the fourth copy.
 use Rattle.std.specs.Prelude.{ℕ, List, [], ◌∷◌, ◌++◌, Some, None, codes}
 use Rattle.coap_codec.specs.declared.message.MsgType.TheVariants.{Non, Rst}
 use Rattle.coap_codec.specs.Spelling.{Content}

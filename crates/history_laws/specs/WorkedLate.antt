@@ -1,5 +1,5 @@
--- Worked journals in which something comes too late to count: a second response under a token, a Reset message after
--- an ACK, a client that is gone.
+-- Worked journals in which something comes too late to count: a second response under a token, a
+-- Reset message after an ACK, a client that is gone.
 use Rattle.std.specs.Prelude.{ℕ, List, [], ◌∷◌, ◌++◌, Some, None, codes}
 use Rattle.coap_codec.specs.declared.message.MsgType.TheVariants.{Con, Rst}
 use Rattle.coap_codec.specs.Spelling.{Content}

@@ -1,4 +1,5 @@
--- Worked journals of messages on their way: a GET, whose message is sent again, and a PUT that waits behind it.
+-- Worked journals of messages on their way: a GET, whose message is sent again, and a PUT that
+-- waits behind it.
 use Rattle.std.specs.Prelude.{ℕ, List, [], ◌∷◌, ◌++◌, Some, None, codes}
 use Rattle.coap_codec.specs.declared.message.MsgType.TheVariants.{Con, Ack}
 use Rattle.coap_codec.specs.Spelling.{Content}
@@ -72,8 +73,8 @@ answered =
     ∷ noted 5000 (Hears server content_bytes) (Says content_message (Some 2) unobserved)
     ∷ let_go
 
--- It comes again, and is acknowledged again. But for the ACK the PUT's message has been due at 4,100, so that the
--- tick at 5,200 sends it again; and then its response comes.
+-- It comes again, and is acknowledged again. But for the ACK the PUT's message has been due at
+-- 4,100, so that the tick at 5,200 sends it again; and then its response comes.
 abbrev pub all_answered : List Noted
 all_answered =
     noted 5300 (Answers 1 4 (Live (16 ∷ []))) Plain
@@ -84,7 +85,8 @@ all_answered =
     ∷ noted 5100 (Hears server content_bytes) (Repeats content_message 9)
     ∷ answered
 
--- No reply at all: both end at the first tick that finds them past their time, and the PUT was never sent.
+-- No reply at all: both end at the first tick that finds them past their time, and the PUT was
+-- never sent.
 abbrev pub given_up : List Noted
 given_up =
     noted 93500 (Answers 1 4 (Fault C.Timeout 4)) Plain

@@ -1,5 +1,5 @@
--- Worked journals of GETs that are asked by several: one reads along the exchange of an equal one, where no write to
--- the place has ended since that was opened.
+-- Worked journals of GETs that are asked by several: one reads along the exchange of an equal one,
+-- where no write to the place has ended since that was opened.
 use Rattle.std.specs.Prelude.{List, [], ◌∷◌, Some}
 use Rattle.journal_book.specs.Entries.{Live, Opens, Asks, Sends, Hears, Passes, Answers}
 use Rattle.history_laws.specs.Readings.{Noted, Plain, Begins, Joins, First, Says, unobserved, noted}
@@ -28,8 +28,8 @@ both_answered =
     ∷ noted 700 (Answers 2 6 (Live (7 ∷ []))) Plain
     ∷ heard_for_both
 
--- An empty ACK has let the PUT go, and that is answered while the GET still waits for its response. A third
--- connection asks.
+-- An empty ACK has let the PUT go, and that is answered while the GET still waits for its response.
+-- A third connection asks.
 abbrev pub written_between : List Noted
 written_between =
     noted 2300 (Opens 2) Plain
@@ -44,8 +44,8 @@ read_anew =
     ∷ noted 2300 (Asks 2 (ask_for get_light)) (Begins get_light)
     ∷ written_between
 
--- Not so: an exchange of its own where there is one to join, an exchange joined that a write has outrun, and a PUT
--- that joins an equal one.
+-- Not so: an exchange of its own where there is one to join, an exchange joined that a write has
+-- outrun, and a PUT that joins an equal one.
 abbrev pub asked_twice : List Noted
 asked_twice =
     noted 600 (Asks 2 (ask_for get_light)) (Begins get_light)

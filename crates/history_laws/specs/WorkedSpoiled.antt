@@ -37,7 +37,8 @@ get_lamp = asks 1 (codes "lamp") []
 -- The message of a later ask goes out while the PUT still waits.
 abbrev pub overtaken : List Noted
 overtaken =
-    noted 700 (Sends server (con 1 1 1 ++ (host ++ (132 ∷ codes "lamp"))) (Some 2000)) (First 6 (request_message get_lamp 1 (token 1)))
+    noted 700 (Sends server (con 1 1 1 ++ (host ++ (132 ∷ codes "lamp"))) (Some 2000))
+    (First 6 (request_message get_lamp 1 (token 1)))
     ∷ noted 700 (Hears server (empty_ack 0)) (Says (empty Ack 0) (Some 2) unobserved)
     ∷ noted 600 (Asks 2 (ask_for get_lamp)) (Begins get_lamp)
     ∷ noted 600 (Opens 2) Plain
@@ -46,7 +47,8 @@ overtaken =
 -- The PUT goes out under the GET's message ID, which was used less than 494 seconds before.
 abbrev pub used_again : List Noted
 used_again =
-    noted 493999 (Sends server (con 3 0 1 ++ (host ++ ((133 ∷ codes "light") ++ (255 ∷ codes "off")))) (Some 2000))
+    noted 493999 (Sends server
+    (con 3 0 1 ++ (host ++ ((133 ∷ codes "light") ++ (255 ∷ codes "off")))) (Some 2000))
     (First 4 (request_message put_light 0 (token 1)))
     ∷ noted 2100 (Hears server (empty_ack 0)) (Says (empty Ack 0) (Some 2) unobserved)
     ∷ copied

@@ -1,5 +1,5 @@
--- Worked journals of what is stored: a GET is answered with the response to an equal one, while that is fresh and no
--- write to the place has ended since it was asked for.
+-- Worked journals of what is stored: a GET is answered with the response to an equal one, while
+-- that is fresh and no write to the place has ended since it was asked for.
 use Rattle.std.specs.Prelude.{List, [], ◌∷◌, Some, codes}
 use Rattle.ask_model.specs.Requests.{CoapRequest}
 use Rattle.journal_book.specs.Entries.{Live, Kept, Opens, Asks, Sends, Hears, Answers}
@@ -70,7 +70,8 @@ read_outdated =
     ∷ noted 5400 (Asks 0 (ask_for get_light)) (Serves (9 ∷ []))
     ∷ all_answered
 
--- Not so: the older one of two responses. Nor would the second have been asked for while the first was fresh.
+-- Not so: the older one of two responses. Nor would the second have been asked for while the first
+-- was fresh.
 abbrev pub read_twice : List Noted
 read_twice =
     noted 900 (Answers 0 5 (Live (7 ∷ []))) Plain

@@ -1,5 +1,5 @@
 -- Worked journals of a PUT of 1,040 bytes, whose body goes in pieces (RFC 7959 section 2.3).
-use Rattle.std.specs.Prelude.{ℕ, ◌+◌, ◌*◌, List, [], ◌∷◌, ◌++◌, Some, false, true, replicate, codes}
+use Rattle.std.specs.Prelude.{ℕ, List, [], ◌∷◌, ◌++◌, Some, false, true, replicate, codes}
 use Rattle.coap_codec.specs.declared.block.Block.{Block}
 use Rattle.coap_codec.specs.declared.message.MsgType.TheVariants.{Ack}
 use Rattle.coap_codec.specs.Spelling.{Content}
@@ -45,7 +45,8 @@ piece_sent =
     ∷ []
 
 abbrev pub piece_taken : List Noted
-piece_taken = noted 700 (Hears server taken_bytes) (Says taken_message (Some 2) unobserved) ∷ piece_sent
+piece_taken =
+    noted 700 (Hears server taken_bytes) (Says taken_message (Some 2) unobserved) ∷ piece_sent
 
 -- The rest is the piece after 1,024 bytes: number 4 in the smaller size.
 abbrev pub rest_sent : List Noted

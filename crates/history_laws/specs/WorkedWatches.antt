@@ -1,5 +1,5 @@
--- Worked journals of a resource that is observed (RFC 7641): notifications in and out of order, a write, and nobody who
--- asks.
+-- Worked journals of a resource that is observed (RFC 7641): notifications in and out of order, a
+-- write, and nobody who asks.
 use Rattle.std.specs.Prelude.{ℕ, true, List, [], ◌∷◌, ◌++◌, Some, None, codes}
 use Rattle.coap_codec.specs.declared.message.MsgType.TheVariants.{Non, Ack}
 use Rattle.coap_codec.specs.Spelling.{Content}
@@ -17,7 +17,8 @@ put_t = asks 3 (codes "t") (codes "d")
 
 -- The server's resources are to be observed.
 abbrev pub observed : CoapRequest → Ask
-observed q = record (ask_for q) { rules = record no_rules { observed = codes "s.example.com" ∷ [] } }
+observed q =
+    record (ask_for q) { rules = record no_rules { observed = codes "s.example.com" ∷ [] } }
 
 abbrev pub seen : Observation → Notice
 seen o = record { place = true; observation = o }
@@ -81,7 +82,8 @@ served =
     ∷ noted 4000 (Asks 1 (observed get_t)) (Serves (6 ∷ []))
     ∷ outrun_late
 
--- Not so: a GET of a server that isn't to be observed, with Observe, and one of that server without.
+-- Not so: a GET of a server that isn't to be observed, with Observe, and one of that server
+-- without.
 abbrev pub unasked : List Noted
 unasked =
     noted 0 (Sends server get_bytes (Some 2000)) (First 1 get_message)
@@ -145,7 +147,8 @@ counted_after =
     noted 5020 (Hears server (least_bytes 4)) (Says (least 4) (Some 2) (seen Updates))
     ∷ written
 
--- Nobody asks for two minutes: the tick that finds it so forgets it, and one a millisecond before doesn't.
+-- Nobody asks for two minutes: the tick that finds it so forgets it, and one a millisecond before
+-- doesn't.
 abbrev pub forgotten : List Noted
 forgotten =
     noted 124000 (Sends server (empty_rst 6) None) Confirms

@@ -16,6 +16,7 @@ ghost use Rattle.history_laws.specs.Laws.{
   SendsNext,
   NoneAfterEnd,
   RepliesFit,
+  CarriedRepliesFit,
   RestsOnItsOwn,
   RestsOnTheStore,
   NothingOutrun,
@@ -61,9 +62,10 @@ pub fn open_exactly()
 {}
 
 /// A reply came after the first sending that it replies to, from its peer, under its token, and is no
-/// repeat (RFC 7252 sections 4.5, 5.3.2).
+/// repeat (RFC 7252 sections 4.5, 5.3.2). What a journal begins with has the copy of that sending too.
 pub fn replies_fit()
-    ensures { RepliesFit }
+    ensures replies { RepliesFit }
+    ensures carried { CarriedRepliesFit }
 {}
 
 /// Each message of an exchange is the next one after the replies before it, and a whole response came

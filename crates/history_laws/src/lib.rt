@@ -23,6 +23,6 @@ pub use laws::{
     open_exactly, readers_join_one, replies_fit, rests_on_its_own, sendings_apart, writes_in_order,
 };
 pub use worked::{
-    spoiled_answers, spoiled_sendings, worked_copies, worked_endings, worked_late, worked_messages,
-    worked_pieces, worked_readers, worked_store, worked_uploads, worked_watches,
+    spoiled_answers, spoiled_sendings, worked_carried, worked_copies, worked_endings, worked_late,
+    worked_messages, worked_pieces, worked_readers, worked_store, worked_uploads, worked_watches,
 };

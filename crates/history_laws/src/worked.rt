@@ -1,6 +1,7 @@
 //! Worked journals: each is legal and at rest, or, where it is spoiled in one entry, not legal.
 
 ghost use Rattle.history_laws.specs.Worked.{Holds, Refused};
+ghost use Rattle.history_laws.specs.WorkedCarried as A;
 ghost use Rattle.history_laws.specs.WorkedCopies as C;
 ghost use Rattle.history_laws.specs.WorkedEndings as E;
 ghost use Rattle.history_laws.specs.WorkedLate as L;
@@ -111,6 +112,19 @@ pub fn worked_copies()
     ensures id { Refused C.id_used_again }
     ensures heard_as_new { Refused C.copy_heard_as_new }
     ensures copied_late { Refused C.copied_late }
+{}
+
+/// Journals that begin with what is stored, which answers an equal GET while it is fresh. And what is wrong
+/// there: served a millisecond later, for another resource, or after a write; carried with another message
+/// than the ask's, with a message that is remembered alone, or for two asks of the same.
+pub fn worked_carried()
+    ensures served { Holds A.served_carried }
+    ensures late { Refused A.carried_late }
+    ensures another { Refused A.carried_for_another }
+    ensures outrun { Refused A.carried_outrun }
+    ensures other_message { Refused A.carried_other_message }
+    ensures without_message { Refused A.carried_without_message }
+    ensures twice { Refused A.carried_twice }
 {}
 
 /// A resource that is observed: an older notification that comes late and doesn't count, and an ask that

@@ -30,6 +30,7 @@ firsts-by-early : (n t : ℕ) (d : Deed) (note : Note) (fs : List FirstSending) 
 firsts-by-early n t (Sends p b w) (First o m) fs a = (omega arith, a)
 firsts-by-early n t (Sends p b w) note fs a = a
 firsts-by-early n t (Carries k mark (D.Sent p b w)) (Bygone m) fs a = (omega arith, a)
+firsts-by-early n t (Carries k mark (D.Sent p b w)) (First o m) fs a = (omega arith, a)
 firsts-by-early n t (Carries k mark (D.Sent p b w)) note fs a = a
 firsts-by-early n t (Carries k mark done) note fs a = a
 firsts-by-early n t d note fs a = a
@@ -39,6 +40,7 @@ firsts-by-falling : (n t : ℕ) (d : Deed) (note : Note) (fs : List FirstSending
 firsts-by-falling n t (Sends p b w) (First o m) fs a f = (a, f)
 firsts-by-falling n t (Sends p b w) note fs a f = f
 firsts-by-falling n t (Carries k mark (D.Sent p b w)) (Bygone m) fs a f = (a, f)
+firsts-by-falling n t (Carries k mark (D.Sent p b w)) (First o m) fs a f = (a, f)
 firsts-by-falling n t (Carries k mark (D.Sent p b w)) note fs a f = f
 firsts-by-falling n t (Carries k mark done) note fs a f = f
 firsts-by-falling n t d note fs a f = f
