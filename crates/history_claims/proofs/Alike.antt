@@ -8,8 +8,10 @@ use Rattle.ask_model.specs.Requests.{CoapRequest, asking}
 use Rattle.ask_model.specs.Sharing.{is_get, asks_same}
 use Rattle.ask_model.proofs.CallerLemmas.{asks-alike}
 use Rattle.journal_book.specs.Entries.{Written}
+use Rattle.resp_cache.specs.Stored.{Stored}
 use Rattle.history_laws.specs.Readings.{Noted}
-use Rattle.history_laws.proofs.CallerLemmas.{asking-alike, eqb-same, reader-alike, Reader}
+use Rattle.history_laws.specs.Storing.{IsStored}
+use Rattle.history_laws.proofs.CallerLemmas.{asking-alike, eqb-same, reader-alike, Reader, shared-is}
 use Rattle.history_claims.specs.Headline.{IsFirstSending, IsSentFor, IsResponse, IsNew, IsUnanswered, IsHeardFor, IsSameGet}
 
 pub record IsLike (r q : CoapRequest) : Type 0 where
@@ -47,9 +49,17 @@ heard-like h o r q block j m like s = (
   refl,
 )
 
+pub get-method : (q : CoapRequest) → is_get q ≡ true → q.method ≡ 1
+get-method q e = eqb-same q.method 1 (and_parts (eqb q.method 1) _ e).0
+
 -- what asks the same is a GET
 pub same-get : (q r : CoapRequest) → asks_same q r ≡ true → q.method ≡ 1
-same-get q r e = eqb-same q.method 1 (and_parts (eqb q.method 1) _ (and_parts (is_get q) _ e).0).0
+same-get q r e = get-method q (and_parts (is_get q) _ e).0
+
+-- nor is anything else answered with what is stored
+pub stored-get : (l : List Noted) (q : CoapRequest) (s : Stored) → IsStored l q s → is_get q ≡ true
+stored-get l q s (inl is) = (and_parts (is_get q) _ (shared-is l q is.opening is.shared).same).0
+stored-get l q s (inr is) = (and_parts (is_get q) _ is.same).0
 
 pub asks-like : (q r : CoapRequest) → asks_same q r ≡ true → IsLike r q
 asks-like q r e =

@@ -14,7 +14,7 @@ use Rattle.history_laws.specs.Readings.{Noted, Note, Begins, Serves, entries, at
 use Rattle.history_laws.specs.Connections.{is_sealed}
 use Rattle.history_laws.specs.Exchanges.{Begun, begun}
 use Rattle.history_laws.specs.Joining.{outrun, is_joinable}
-use Rattle.history_laws.specs.Storing.{IsStored, IsCrowdedOut, MissesAlone}
+use Rattle.history_laws.specs.Storing.{IsBrought, IsStored, IsCrowdedOut, MissesAlone}
 use Rattle.history_laws.specs.Justified.{AskNote, Follows, Legal, AtRest, Stands, UnservedNote}
 use Rattle.history_laws.specs.Laws.{IsFirst}
 use Rattle.history_laws.proofs.CallerLemmas.{asked-for, at-below, at-same, at-still, before-twice, begun-opening, follows-at, legal-before, shared-is}
@@ -38,7 +38,7 @@ held-later h q n k (told lt few) = lt
 held-later h q n k (used o c t r asked same held lt few) = let below = held-later h q n o held in omega (arith, below, lt)
 
 -- What is stored for a GET is stored for each equal one.
-for-equal : (l : List Noted) (q r : CoapRequest) (s : Stored) → asks_same q r ≡ true → IsStored l q s → IsStored l r s
+for-equal : (l : List Noted) (q r : CoapRequest) (s : Stored) → asks_same q r ≡ true → IsBrought l q s → IsBrought l r s
 for-equal l q r s same it =
     let a = shared-is l q it.opening it.shared in
     record {
@@ -90,13 +90,13 @@ module _ (l : List Noted) (legal : Legal l) (q : CoapRequest) (o n : ℕ) (js : 
       fresh-so l legal q o n js was x.written.moment (omega (arith, le, young))
 
   -- Where it is stored, an equal GET is served, but where others crowded it out.
-  misses-none : (i c t : ℕ) (a : Ask) (note : Note) (r : CoapRequest) → a.sense ≡ Requests r → asks_same q r ≡ true → IsStored (before l i) q S
+  misses-none : (i c t : ℕ) (a : Ask) (note : Note) (r : CoapRequest) → a.sense ≡ Requests r → asks_same q r ≡ true → IsBrought (before l i) q S
       → is_fresh t S ≡ true → (IsCrowded i → ⊥) → MissesAlone (before l i) t r → ⊥
   misses-none i c t a note r sense same is fresh free misses =
-      free (subst (IsCrowdedOut (before l i)) (sym (same-key q r same)) (misses S (for-equal (before l i) q r S same is) fresh))
+      free (subst (IsCrowdedOut (before l i)) (sym (same-key q r same)) (misses S (inl (for-equal (before l i) q r S same is)) fresh))
 
   serves : (i c t : ℕ) (a : Ask) (note : Note) (r : CoapRequest) → at l i ≡ Some (noted t (Asks c a) note) → a.sense ≡ Requests r → asks_same q r ≡ true
-      → IsStored (before l i) q S → is_fresh t S ≡ true → (IsCrowded i → ⊥) → (ns : List ℕ) × (note ≡ Serves ns)
+      → IsBrought (before l i) q S → is_fresh t S ≡ true → (IsCrowded i → ⊥) → (ns : List ℕ) × (note ≡ Serves ns)
   serves i c t a note r stands sense same is fresh free = by note (unserved (follows-at l i _ legal stands))
     where
       unserved : Follows (before l i) t (Asks c a) note → UnservedNote (before l i) t (Requests r) note
@@ -113,7 +113,7 @@ module _ (l : List Noted) (legal : Legal l) (q : CoapRequest) (o n : ℕ) (js : 
       told-so : UnservedNote (before l y) t (Requests r) (Begins r) → MissesAlone (before l y) t r
       told-so h = h
 
-  none-opened : (m : ℕ) → m ≤ k → ((y : ℕ) → n < y → y < m → IsCrowded y → ⊥) → ((y : ℕ) → n < y → y < m → IsStored (before l y) q S)
+  none-opened : (m : ℕ) → m ≤ k → ((y : ℕ) → n < y → y < m → IsCrowded y → ⊥) → ((y : ℕ) → n < y → y < m → IsBrought (before l y) q S)
       → (y : ℕ) (b : Begun) → e l legal q o n js was < y → y < m → begun l y ≡ Some b → asks_same q b.request ≡ true → ⊥
   none-opened m high free earlier y b after less opened same =
       let ask = asked-for l y b legal opened in
@@ -125,7 +125,7 @@ module _ (l : List Noted) (legal : Legal l) (q : CoapRequest) (o n : ℕ) (js : 
             (young-at y _ ask.stands (omega (arith, less, high))) (free y u.1 less) (told-misses y ask.conn b.since ask.ask b.request ask.sense may)
       ]
 
-  stored-at : (fuel m : ℕ) → m < fuel → n < m → m ≤ k → ((y : ℕ) → n < y → y < m → IsCrowded y → ⊥) → IsStored (before l m) q S
+  stored-at : (fuel m : ℕ) → m < fuel → n < m → m ≤ k → ((y : ℕ) → n < y → y < m → IsCrowded y → ⊥) → IsBrought (before l m) q S
   stored-at zero m lt low high free = absurd (omega (arith, lt))
   stored-at (suc fuel) m lt low high free =
       stored-then l legal q o n js was k z here later none untold young m low high

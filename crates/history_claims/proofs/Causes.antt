@@ -173,7 +173,7 @@ module _ (l : List Noted) (n t c k : ℕ) (cause : Cause) (j : ℕ) (legal : Leg
         let it = asked-for l o x.exchange legal x.opened in
         let ask = ask-before in
         let first = x.not_later in
-        sent-last-first (before l n) o j it.conn x.exchange.since it.ask _ (at-still l n o _ _ here (omega (arith, first, ask)) it.stands) some
+        sent-last-first (before l n) o j it.conn x.exchange.since it.ask _ early (at-still l n o _ _ here (omega (arith, first, ask)) it.stands) some
 
     -- which is the newest of them, also before its end
     newest : sent_last (before l n) o ≡ Some j → (s i : ℕ) (p : Peer) (m : Content) → IsFirst (before l n) s o i p m → i ≤ j

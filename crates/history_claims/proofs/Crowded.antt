@@ -51,6 +51,7 @@ numbers-step : (n t : ℕ) (d : Deed) (note : Note) (old : List FirstSending) �
     → AreApart (numbers_of (firsts_by n t d note old))
 numbers-step n t (Sends p b w) (First o m) old h new = (new, h)
 numbers-step n t (Carries k mark (Sent p b w)) (Bygone m) old h new = (new, h)
+numbers-step n t (Carries k mark (Sent p b w)) (First o m) old h new = (new, h)
 numbers-step n t d note old h new = h
 
 numbers-apart : (l : List Noted) → AreApart (numbers_of (firsts l))
@@ -62,7 +63,15 @@ numbers-apart (x ∷ older) =
 listed-before : (l : List Noted) (k : ℕ) (f : FirstSending) → IsListed (before l k) f → IsListed l f
 listed-before l k f (inl h) = inl (first-before l k f.moment f.opening f.number f.peer f.message h)
 listed-before l k f (inr h) =
-    inr (record { old = h.old; mark = h.mark; bytes = h.bytes; timeout = h.timeout; stands = at-before l k f.number _ h.stands; own = h.own })
+    inr (record {
+      old = h.old;
+      mark = h.mark;
+      bytes = h.bytes;
+      timeout = h.timeout;
+      note = h.note;
+      stands = at-before l k f.number _ h.stands;
+      own = h.own;
+    })
 
 -- A list that rises by something has each of its members once.
 rises-apart : (f : ℕ → ℕ) (os : List ℕ) → RisesBy f os → AreApart os

@@ -10,7 +10,7 @@ use Rattle.history_laws.specs.Justified.{Stands}
 use Rattle.history_laws.specs.Laws.{replies_in}
 use Rattle.history_laws.specs.Progress.{Point, first_point, point_after}
 use Rattle.history_laws.proofs.CallerLemmas.{contains-none, first-or-later, some-is}
-use Rattle.history_claims.specs.Headline.{IsEntry, IsAsked, AreHeardFor, IsWriteAnswer, AreNotified}
+use Rattle.history_claims.specs.Headline.{IsEntry, IsAsked, AreHeardFor, IsWriteAnswer, AreNotified, IsServed}
 use Rattle.history_claims.specs.Order.{AnswersLater}
 use Rattle.history_claims.proofs.Resting.{rests-on-replies}
 use Rattle.history_claims.proofs.Served.{rests-on-stored}
@@ -67,6 +67,15 @@ asks-same s t c d a b e = go (ap (λ (w : Written). w.deed) e)
 asked-one : (h : List Written) (k c d s t : ℕ) (q r : CoapRequest) → IsAsked h k c s (Requests q) → IsAsked h k d t (Requests r) → q ≡ r
 asked-one h k c d s t q r a b = requests-same q r (asks-same s t c d _ _ (some-is _ _ (sym a.stands ∙ b.stands)))
 
+current-kept : (h : List Written) (t c k s w j : ℕ) (js : List ℕ) (q : CoapRequest) → IsAsked h k c s (Requests q) → IsWriteAnswer h q w → Contains js j → w < k
+    → IsServed h t c k js → AnswersLater h w q.peer j
+current-kept h t c k s w j js q asked write has lt it =
+    let same = asked-one h k c c s t q it.request asked it.asked in
+    let earlier = it.current w (subst (λ (q : CoapRequest). IsWriteAnswer h q w) same write) lt in
+    let peer : it.other.peer ≡ q.peer = sym it.same.1 ∙ ap (λ (q : CoapRequest). q.peer) (sym same) in
+    subst (λ (p : Peer). AnswersLater h w p j) peer
+    (kept-later h it.opening w it.other js it.messages j (omega (arith, earlier)) it.heard has)
+
 pub current : (h : List Written) → Stands h → (n t c k s w j : ℕ) (g : Grounds) (q : CoapRequest) → IsAsked h k c s (Requests q) → q.method ≡ 1
     → IsEntry h n t (Answers c k g) → Contains (replies_in g) j → IsWriteAnswer h q w → w < k → AnswersLater h w q.peer j
 current h stands n t c k s w j (Live js) q asked get e has write lt =
@@ -81,10 +90,10 @@ current h stands n t c k s w j (Live js) q asked get e has write lt =
     subst (λ (q : CoapRequest). AnswersLater h w q.peer j) (sym same)
     (heard-later h it.opening w it.request (first_point it.request) js it.messages j (omega (arith, earlier)) it.heard has)
 current h stands n t c k s w j (Kept js) q asked get e has write lt =
-    let it = rests-on-stored h n t c k js stands e in
-    let same = asked-one h k c c s t q it.request asked it.asked in
-    let earlier = it.current w (subst (λ (q : CoapRequest). IsWriteAnswer h q w) same write) lt in
-    let peer : it.other.peer ≡ q.peer = sym it.same.1 ∙ ap (λ (q : CoapRequest). q.peer) (sym same) in
-    subst (λ (p : Peer). AnswersLater h w p j) peer
-    (kept-later h it.opening w it.other js it.messages j (omega (arith, earlier)) it.heard has)
+    elim (rests-on-stored h n t c k js stands e) [
+      | inl it ↦ current-kept h t c k s w j js q asked write has lt it
+      | inr it ↦
+          let same = asked-one h k c c s t q it.request asked it.asked in
+          absurd (it.current w (subst (λ (q : CoapRequest). IsWriteAnswer h q w) same write) lt)
+    ]
 current h stands n t c k s w j (Fault cause i) q asked get e has write lt = absurd (contains-none j has)

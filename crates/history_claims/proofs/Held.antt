@@ -13,11 +13,12 @@ use Rattle.history_laws.specs.Progress.{Ending, Whole}
 use Rattle.history_laws.specs.Exchanges.{Begun, begun, End, Nothing, Sent, turn, replies, end_here, end_of}
 use Rattle.history_laws.specs.Storing.{IsUse, IsUsedSince, KeysDiffer, IsCrowdedOut, ComesSo, IsStoring}
 use Rattle.history_laws.specs.Justified.{Follows, Legal, MayCome}
-use Rattle.history_laws.proofs.CallerLemmas.{asked-for, at-before, at-below, begun-before, begun-below, contains-later, contains-none, end-since, ends-first, first-or-later, follows-at, none-some, served-by, shared-is, length-before, updates-since}
+use Rattle.history_laws.proofs.CallerLemmas.{asked-for, at-before, at-below, begun-before, begun-below, contains-later, contains-none, end-since, ends-first, first-or-later, follows-at, none-some, served-by, length-before, updates-since}
 use Rattle.history_claims.specs.Once.{AreFew}
 use Rattle.history_claims.proofs.Alone.{requests-same}
 use Rattle.history_claims.proofs.Entries.{asked-entry}
-use Rattle.history_claims.proofs.Quiet.{asked-since, asks-a-get}
+use Rattle.history_claims.proofs.Quiet.{asked-since}
+use Rattle.history_claims.proofs.Alike.{stored-get}
 use Rattle.history_claims.proofs.Notified.{update-is}
 
 -- Of keys that differ, and are among others, there are no more than of these.
@@ -94,9 +95,8 @@ served-get : (l : List Noted) (t i c : ℕ) (a : Ask) (js : List ℕ) (q : CoapR
     → a.sense ≡ Requests q → is_get q ≡ true
 served-get l t i c a js q legal stands sense =
     let it = served-by l t i c a js legal stands in
-    let exchange = shared-is (before l i) it.request it.is.opening it.is.shared in
-    let get = asks-a-get it.request exchange.exchange.request exchange.same in
-    subst (λ (q : CoapRequest). is_get q ≡ true) (requests-same it.request q (sym it.sense ∙ sense)) get
+    subst (λ (q : CoapRequest). is_get q ≡ true) (requests-same it.request q (sym it.sense ∙ sense))
+    (stored-get (before l i) it.request it.stored it.is)
 
 -- The key was used in the entry u, and since then nothing came up to the entry s; since that few others were asked for.
 module _ (l : List Noted) (s u k : ℕ) (y : Noted) (q : CoapRequest) (legal : Legal l) (there : at l s ≡ Some y) (unsealed : is_sealed (before l s) ≡ false)
@@ -163,7 +163,8 @@ module _ (l : List Noted) (s u k : ℕ) (y : Noted) (q : CoapRequest) (legal : L
   all-used (key ∷ keys) h = (one h.0, all-used keys h.1)
     where
       one : IsUsedSince (before l m) (asked_key q) key → Contains few.others key
-      one it =
+      one (inr it) = absurd (it.1.1 u own)
+      one (inl it) =
           elim (used-of it.0 key (it.2 u own) it.1) [
             | inl same ↦
                 let last = it.2 it.0 (subst (λ (v : CacheKey). IsUse (before l m) it.0 v) same it.1) in

@@ -1,5 +1,5 @@
 -- The worked journals of a body in two pieces, as entries.
-use Rattle.std.proofs.Common.{◌≡◌, ℕ, List, [], ◌∷◌, Some, refl, sym, subst}
+use Rattle.std.proofs.Common.{◌≡◌, List, [], ◌∷◌, Some, refl, sym, subst}
 use Rattle.coap_codec.specs.Spelling.{Content, Spells}
 use Rattle.coap_codec.proofs.Unique.{spells_one}
 use Rattle.ask_model.specs.Requests.{CoapRequest}

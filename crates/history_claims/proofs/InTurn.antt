@@ -10,19 +10,20 @@ use Rattle.coap_codec.specs.Spelling.{Content, Spells}
 use Rattle.uri_map.specs.declared.peer.Peer.{Peer}
 use Rattle.journal_book.specs.Entries.{Deed, Sends, Hears, Passes}
 use Rattle.history_laws.specs.Confirmations.{empty}
-use Rattle.history_laws.specs.Hearing.{is_as, open_at, answers_by, answers}
+use Rattle.history_laws.specs.Hearing.{IsReplyKind, is_as, open_at, answers_by, answers}
 use Rattle.history_laws.specs.Readings.{Noted, Note, First, Copies, Says, Notice, entries, at, before, noted}
 use Rattle.history_laws.specs.Transmissions.{FirstSending, Transmission, due, is_given_up, begun_way, copied_way, transmission_by, transmission, outstanding}
 use Rattle.history_laws.specs.Justified.{MayBeFirst, MaySay, Follows, Legal}
-use Rattle.history_laws.specs.Laws.{IsFirst, IsReplyKind}
+use Rattle.history_laws.specs.Laws.{IsFirst}
 use Rattle.history_laws.proofs.CallerLemmas.{at-below, at-entries, at-new, at-old, at-still, eqb-itself, eqb-same, find-some, first-is, follows-at, found, legal-before, length-before, none-some, NotRst, outstanding-last}
-use Rattle.history_claims.specs.Headline.{IsFirstSending, IsHeard, BringsResponse}
+use Rattle.history_claims.specs.Headline.{IsFirstSending, IsHeard}
 use Rattle.history_claims.specs.Order.{IsOver, confirmed, rejected, answered, given_up}
 use Rattle.history_claims.proofs.Ending.{as-first, empty-parts}
 use Rattle.history_claims.proofs.Entries.{entry-keeps, grows}
 use Rattle.history_claims.proofs.GivenUp.{copies-keep, went}
 use Rattle.history_claims.proofs.Repeats.{heard-entry}
 use Rattle.history_claims.proofs.Sending.{first-of}
+use Rattle.history_claims.proofs.Waiting.{brings}
 
 -- What is over stays so.
 heard-keeps : (x : Noted) (l : List Noted) (p : Peer) (j t : ℕ) (m : Content) → IsHeard (entries l) p j t m → IsHeard (entries (x ∷ l)) p j t m
@@ -56,12 +57,6 @@ over-keeps x l p i m n k le (given_up h) =
       passes = entry-keeps x l h.tick h.ticked Passes h.passes;
       over = h.over;
     })
-
-pub brings : (k : MsgType) (mid sent : ℕ) → IsReplyKind k mid sent → BringsResponse k mid sent
-brings Con mid sent h = tt
-brings Non mid sent h = tt
-brings Ack mid sent h = h
-brings Rst mid sent h = h
 
 says-to : (m : Content) (i j : Option ℕ) (u v : Notice) → Says m i u ≡ Says m j v → i ≡ j
 says-to m i j u v e = cc

@@ -17,6 +17,7 @@ mod Written
 mod Readers
 mod Resting
 mod Newest
+mod Carried
 mod Served
 mod GivenUp
 mod Unshared
@@ -52,3 +53,4 @@ mod InOrder
 mod Replied
 mod InWorked
 mod Observed
+mod InCopies

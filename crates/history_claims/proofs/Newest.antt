@@ -28,9 +28,8 @@ use Rattle.history_laws.specs.Transmissions.{FirstSending, first_at}
 use Rattle.history_laws.specs.Exchanges.{awaited, openings, waits_for}
 use Rattle.history_laws.specs.Observing.{Watch, counts, notice_by, number_or_zero, outdated, sending_of, version, watch_under, watched, watches}
 use Rattle.history_laws.specs.Observing as O
-use Rattle.history_laws.specs.Hearing.{answers, answers_by, expected, is_such, is_this, is_under, observation_of, went_under}
+use Rattle.history_laws.specs.Hearing.{IsReplyKind, answers, answers_by, expected, is_such, is_this, is_under, observation_of, went_under}
 use Rattle.history_laws.specs.Justified.{Follows, Legal, MayCome, MayConfirm, SentNote}
-use Rattle.history_laws.specs.Laws.{IsReplyKind}
 use Rattle.history_laws.proofs.CallerLemmas.{all-of, and-left, and-right, any-of, at-before, at-below, at-entries, at-still, before-twice, contains-mapped, contains-none, find-any, find-some, first-found, first-or-later, firsts-tokens, follows-at, HeldFrom, IsTold, legal-before, length-before, none-some, not-true, outdated-since, said, some-is, this-is, uncounted, waits-first, watch-fits, watches-held}
 use Rattle.history_claims.specs.Headline.{IsEntry, IsFirstSending, IsNew, anew, IsRepeat, again, IsResponse, IsNotice, IsNotified, IsOlder, IsNewest, IsUnrejected, MayRepeat}
 use Rattle.history_claims.proofs.Notified.{Notified, notified-by, one-sent}

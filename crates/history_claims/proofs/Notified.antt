@@ -1,5 +1,5 @@
 -- A notification that counts for a watch is one of what an ask observes.
-use Rattle.std.proofs.Common.{◌≡◌, ℕ, ◌<◌, ◌⊎◌, true, false, ◌&&◌, eqb, inl, inr, List, length, Some, None, sym, ap, subst, ◌∙◌, arith}
+use Rattle.std.proofs.Common.{◌≡◌, ℕ, ◌<◌, ◌⊎◌, true, ◌&&◌, eqb, inl, inr, List, length, Some, None, sym, ap, subst, ◌∙◌, arith}
 use Rattle.std.specs.Prelude.{is_none, ◌==◌}
 use Rattle.std.proofs.lemmas.Bool.{false≢true, and_parts}
 use Rattle.coap_codec.specs.declared.message.MsgType.{MsgType}

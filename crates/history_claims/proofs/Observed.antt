@@ -18,11 +18,15 @@ use Rattle.history_claims.specs.Worked.{Updated, Outdated}
 use Rattle.history_claims.proofs.Examples.{places, lies_in, heard-texts, moment-same, sense-same}
 use Rattle.history_claims.proofs.InWorked.{is_hearing}
 use Rattle.history_claims.proofs.Repeats.{says-new}
+use Rattle.history_claims.proofs.Carried.{brought-alone}
 use Rattle.history_claims.proofs.Served.{served-in}
+use Rattle.history_claims.proofs.Stored.{no-copies}
 use Rattle.history_claims.proofs.Together.{is_ask, requests-same}
 
 pub updated : Updated
-updated = served-in O.served 10 4000 1 9 (6 ∷ []) served-holds.0 refl
+updated =
+    brought-alone (entries O.served) 4000 1 9 (6 ∷ []) (no-copies (entries O.served) 11 refl refl)
+    (served-in O.served 10 4000 1 9 (6 ∷ []) served-holds.0 refl)
 
 -- not so
 

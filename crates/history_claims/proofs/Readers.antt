@@ -56,7 +56,7 @@ module _ (l : List Noted) (k o : ℕ) (legal : Legal l) (it : Reader l k o) wher
             request = it.exchange.request;
             pending = pending.0;
             same = like-get it.exchange.request it.request (reader-like l k o it) (same-get it.request it.exchange.request along.same);
-            fresh = λ m w lt. fresh-at l k o it.conn it.ask it.request it.exchange legal it.asked it.opened along.joined.fresh m w lt;
+            fresh = λ m w lt. fresh-at l k it.conn it.ask it.request legal it.asked m w lt o it.exchange it.opened along.joined.fresh;
           },
           pending.1,
         )

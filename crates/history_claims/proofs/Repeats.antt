@@ -82,7 +82,7 @@ own-spelled : (l : List Noted) (t : ℕ) (p : Peer) (b : List ℕ) (m : Content)
 own-spelled l t p b m (Hears q c) (Says n to notice) f own = subst (λ (x : Content). Spells x b) own.2 (subst (Spells n) own.1 f.3.spelled)
 own-spelled l t p b m (Hears q c) note f own = absurd own
 own-spelled l t p b m (Carries k Past (Heard q c)) (Recalls n a) f own = subst (λ (x : Content). Spells x b) own.2 (subst (Spells n) own.1 f.2.spelled)
-own-spelled l t p b m (Carries k Ground (Heard q c)) (Recalls n a) f own = absurd f.2
+own-spelled l t p b m (Carries k Ground (Heard q c)) (Recalls n a) f own = subst (λ (x : Content). Spells x b) own.2 (subst (Spells n) own.1 f.2.spelled)
 own-spelled l t p b m (Carries k mark (Heard q c)) note f own = absurd own
 own-spelled l t p b m (Carries k mark (Sent q c w)) note f own = absurd own
 own-spelled l t p b m (Carries k mark (Asked q c)) note f own = absurd own
@@ -103,6 +103,17 @@ recalled-as l p j t k b m Past (Recalls n answer) stands spelled may =
     record {
       bytes = b;
       deed = Carries k Past (Heard p b);
+      note = Recalls n answer;
+      stands = stands;
+      own = (refl, refl, one);
+      spelled = spelled;
+      unheard = subst (λ (x : Content). repeated (before l j) t p x ≡ None) one may.unheard;
+    }
+recalled-as l p j t k b m Ground (Recalls n answer) stands spelled may =
+    let one = spells_one n m b may.spelled spelled in
+    record {
+      bytes = b;
+      deed = Carries k Ground (Heard p b);
       note = Recalls n answer;
       stands = stands;
       own = (refl, refl, one);

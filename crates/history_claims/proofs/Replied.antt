@@ -13,14 +13,14 @@ use Rattle.history_laws.specs.Progress.{Reply}
 use Rattle.history_laws.specs.Transmissions.{sent_last}
 use Rattle.history_laws.specs.Exchanges.{Begun, begun, end_of, is_going, goes_to, waits_for, replies}
 use Rattle.history_laws.specs.Justified.{MayBeFirst, Legal}
-use Rattle.history_laws.specs.Laws.{IsFirst, IsReplyKind}
+use Rattle.history_laws.specs.Hearing.{IsReplyKind}
+use Rattle.history_laws.specs.Laws.{IsFirst}
 use Rattle.history_laws.proofs.CallerLemmas.{asked-for, at-before, at-below, at-same, at-still, first-waits, follows-at, legal-before, length-before, none-of, none-some, replies-fit, sent-for}
 use Rattle.history_claims.specs.Headline.{IsHeard, IsResponse}
-use Rattle.history_claims.proofs.InTurn.{brings}
 use Rattle.history_claims.proofs.Repeats.{heard-entry}
 use Rattle.history_claims.proofs.Sending.{first-before}
 use Rattle.history_claims.proofs.Unsent.{sent-last-first, sent-last-none}
-use Rattle.history_claims.proofs.Waiting.{latest, last-newest}
+use Rattle.history_claims.proofs.Waiting.{brings, latest, last-newest}
 
 firsts-same : (s t : ℕ) (p r : Peer) (b c : List ℕ) (w v : Option ℕ) (o q : ℕ) (m n : Content)
     → noted s (Sends p b w) (First o m) ≡ noted t (Sends r c v) (First q n) → (p ≡ r) × (m ≡ n)
@@ -92,7 +92,7 @@ module _ (l : List Noted) (legal : Legal l) (o : ℕ) (b : Begun) (opened : begu
       by (Some k) e earlier =
           let ask = asked-for l o b legal opened in
           let after = (sent-for l t o j q n legal g).after in
-          let last = sent-last-first (before l j) o k ask.conn b.since ask.ask (Begins b.request) (at-still l j o _ _ g.stands after ask.stands) e in
+          let last = sent-last-first (before l j) o k ask.conn b.since ask.ask (Begins b.request) (legal-before l j legal) (at-still l j o _ _ g.stands after ask.stands) e in
           let le = last-newest (before l j) s o i k p m e there in
           let below = subst (λ (n : ℕ). k < n) (length-before l j _ g.stands) (at-below (before l j) k _ last.3.stands) in
           elim (eqb_tells i k) [

@@ -1,5 +1,5 @@
 -- First sendings among the entries, and what they were sent for.
-use Rattle.std.proofs.Common.{◌≡◌, ℕ, zero, eqb, inl, inr, List, [], ◌∷◌, length, Option, Some, refl, sym, ap, subst, ◌∙◌, arith}
+use Rattle.std.proofs.Common.{◌≡◌, ◌⊎◌, ℕ, zero, eqb, inl, inr, List, [], ◌∷◌, length, Option, Some, refl, sym, ap, subst, ◌∙◌, arith}
 use Rattle.std.specs.List.{Contains}
 use Rattle.coap_codec.specs.Spelling.{Content, Spells}
 use Rattle.coap_codec.proofs.Unique.{spells_one}
@@ -59,6 +59,7 @@ first-member l t o i p m f = (find-some (λ (f : FirstSending). eqb f.number i) 
 firsts-keep : (n t : ℕ) (d : Deed) (note : Note) (old : List FirstSending) (f : FirstSending) → Contains old f → Contains (firsts_by n t d note old) f
 firsts-keep n t (Sends p b w) (First o m) old f h = contains-later (sending_of n t o p m) old f h
 firsts-keep n t (Carries k mark (Sent p b w)) (Bygone m) old f h = contains-later (sending_of n t n p m) old f h
+firsts-keep n t (Carries k mark (Sent p b w)) (First o m) old f h = contains-later (sending_of n t o p m) old f h
 firsts-keep n t d note old f h = h
 
 copy-member : (l : List Noted) (i t k : ℕ) (mark : Mark) (p : Peer) (b : List ℕ) (w : Option ℕ) (m : Content)
@@ -75,11 +76,32 @@ copy-member (x ∷ older) i t k mark p b w m e =
           (copy-member older i t k mark p b w m u)
     ]
 
+pub carried-member : (l : List Noted) (i t k o : ℕ) (mark : Mark) (p : Peer) (b : List ℕ) (w : Option ℕ) (m : Content)
+    → at l i ≡ Some (noted t (Carries k mark (Sent p b w)) (First o m)) → Contains (firsts l) (sending_of i t o p m)
+carried-member [] i t k o mark p b w m e = absurd (none-some _ e)
+carried-member (x ∷ older) i t k o mark p b w m e =
+    let copy : Noted = noted t (Carries k mark (Sent p b w)) (First o m) in
+    elim (at-old x older i copy e) [
+      | inl u ↦
+          subst (λ (v : Noted). Contains (firsts (v ∷ older)) (sending_of i t o p m)) (sym u.1)
+          (subst (λ (n : ℕ). Contains (firsts (copy ∷ older)) (sending_of n t o p m)) (sym u.0) (zero, omega arith, refl))
+      | inr u ↦
+          firsts-keep (length older) x.written.moment x.written.deed x.note (firsts older) (sending_of i t o p m)
+          (carried-member older i t k o mark p b w m u)
+    ]
+
 copied-first : (l : List Noted) (i t k : ℕ) (mark : Mark) (p : Peer) (b : List ℕ) (w : Option ℕ) (m : Content) (note : Note)
     → at l i ≡ Some (noted t (Carries k mark (Sent p b w)) note) → Spells m b → CopiedNote (before l i) t mark (Sent p b w) note
-    → Contains (firsts l) (sending_of i t i p m)
-copied-first l i t k Past p b w m (Bygone n) e spelled may =
-    subst (λ (m : Content). Contains (firsts l) (sending_of i t i p m)) (spells_one n m b may.spelled spelled) (copy-member l i t k Past p b w n e)
+    → (o : ℕ) × Contains (firsts l) (sending_of i t o p m)
+copied-first l i t k Past p b w m (Bygone n) e spelled may = (
+  i,
+  subst (λ (m : Content). Contains (firsts l) (sending_of i t i p m)) (spells_one n m b may.spelled spelled) (copy-member l i t k Past p b w n e),
+)
+copied-first l i t k Ground p b w m (First o n) e spelled may = (
+  o,
+  subst (λ (m : Content). Contains (firsts l) (sending_of i t o p m)) (spells_one n m b may.0.spelled spelled)
+      (carried-member l i t k o Ground p b w n e),
+)
 copied-first l i t k mark p b w m note e spelled may = absurd may
 
 pub first-sent : (l : List Noted) (i t : ℕ) (p : Peer) (m : Content) → Legal l → WasFirstSent (entries l) i t p m
@@ -91,7 +113,7 @@ first-sent l i t p m legal f =
           (it.0, first-member l t it.0 i p m it.1)
       | inr old ↦
           let there = entries-at l i _ old.2 in
-          (i, copied-first l i t old.0 old.1 p f.bytes (Some f.timeout) m there.0 there.1 f.spelled (follows-at l i _ legal there.1).2)
+          copied-first l i t old.0 old.1 p f.bytes (Some f.timeout) m there.0 there.1 f.spelled (follows-at l i _ legal there.1).2
     ]
 
 -- And what is listed was first sent.
@@ -104,16 +126,28 @@ own-first h i t p m f =
       spelled = f.spelled;
     }
 
-copy-apart : (l : List Noted) (t : ℕ) (mark : Mark) (p : Peer) (b : List ℕ) (w : Option ℕ) (m : Content) → CopiedNote l t mark (Sent p b w) (Bygone m)
-    → IsApart l t p b m w
-copy-apart l t Past p b w m may = may
-copy-apart l t Ground p b w m may = absurd may
+copy-apart : (l : List Noted) (t o : ℕ) (mark : Mark) (p : Peer) (b : List ℕ) (w : Option ℕ) (m : Content) (note : Note)
+    → CopiedNote l t mark (Sent p b w) note → (note ≡ Bygone m) ⊎ (note ≡ First o m) → IsApart l t p b m w
+copy-apart l t o mark p b w m note may is =
+    elim is [
+      | inl u ↦ bygone mark (subst (CopiedNote l t mark (Sent p b w)) u may)
+      | inr u ↦ carried mark (subst (CopiedNote l t mark (Sent p b w)) u may)
+    ]
+  where
+    bygone : (mark : Mark) → CopiedNote l t mark (Sent p b w) (Bygone m) → IsApart l t p b m w
+    bygone Past may = may
+    bygone Ground may = absurd may
+
+    carried : (mark : Mark) → CopiedNote l t mark (Sent p b w) (First o m) → IsApart l t p b m w
+    carried Past may = absurd may
+    carried Ground may = may.0
 
 pub listed-sent : (l : List Noted) (f : FirstSending) → Legal l → IsListed l f → WasFirstSent (entries l) f.number f.moment f.peer f.message
 listed-sent l f legal (inl h) =
     own-first (entries l) f.number f.moment f.peer f.message (first-entry l f.moment f.opening f.number f.peer f.message legal h)
 listed-sent l f legal (inr h) =
-    let may = copy-apart (before l f.number) f.moment h.mark f.peer h.bytes h.timeout f.message (follows-at l f.number _ legal h.stands).2 in
+    let is : (h.note ≡ Bygone f.message) ⊎ (h.note ≡ First f.opening f.message) = elim (h.own) [ inl u ↦ inl u.0 | inr u ↦ inr u ] in
+    let may = copy-apart (before l f.number) f.moment f.opening h.mark f.peer h.bytes h.timeout f.message h.note (follows-at l f.number _ legal h.stands).2 is in
     let wait = is-some h.timeout may.first_wait in
     record {
       bytes = h.bytes;

@@ -1,6 +1,7 @@
 -- The worked journals of what is stored, as entries.
 use Rattle.std.proofs.Common.{◌≡◌, ℕ, ◌+◌, ◌<◌, Bool, true, false, eqb, cond, inl, inr, List, [], ◌∷◌, length, Option, Some, None, refl, sym, ap, subst, arith, lit<}
 use Rattle.std.proofs.lemmas.Bool.{false≢true, or_cases}
+use Rattle.std.specs.List.{list_all, range_with_len}
 use Rattle.coap_codec.specs.Spelling.{Content, Spells}
 use Rattle.coap_codec.proofs.Unique.{spells_one}
 use Rattle.coap_codec.specs.Recognition.{is_forwardable}
@@ -11,9 +12,9 @@ use Rattle.ask_model.specs.Requests.{CoapRequest, Requests, request_message}
 use Rattle.history_laws.specs.Progress.{first_point}
 use Rattle.ask_model.specs.declared.cause.Cause.TheVariants as C
 use Rattle.resp_cache.specs.Stored.{lifetime}
-use Rattle.journal_book.specs.Entries.{Live, Fault, Deed, Asks}
+use Rattle.journal_book.specs.Entries.{Live, Fault, Deed, Asks, Carries, Written}
 use Rattle.history_laws.specs.Responses.{Response, response_of, joined, whole_by, whole_fetched, whole_given, whole_of}
-use Rattle.history_laws.specs.Readings.{entries}
+use Rattle.history_laws.specs.Readings.{carries, entries}
 use Rattle.history_laws.specs.Worked.{server, ask_for}
 use Rattle.history_laws.specs.WorkedMessages as M
 use Rattle.history_laws.specs.WorkedEndings as E
@@ -21,12 +22,18 @@ use Rattle.history_laws.specs.WorkedStore as K
 use Rattle.history_laws.proofs.CallerLemmas.{eqb-same, none-some, read_from_store-holds, some-is}
 use Rattle.history_claims.specs.Headline.{IsAsked, IsWriteAnswer, AreHeardFor, IsHeard, AreNotified}
 use Rattle.history_claims.specs.Worked.{Served, Expired, Overwritten, OtherQuery}
-use Rattle.history_claims.proofs.Examples.{places, heard-texts, moment-same, sense-same}
+use Rattle.history_claims.proofs.Examples.{lies_so, places, heard-texts, moment-same, sense-same}
+use Rattle.history_claims.proofs.Carried.{brought-alone, HasNoCopies}
 use Rattle.history_claims.proofs.Served.{served-in}
 use Rattle.history_claims.proofs.Together.{requests-same}
 
+pub no-copies : (h : List Written) (len : ℕ) → length h ≡ len → list_all (lies_so carries h []) (range_with_len 0 len) ≡ true → HasNoCopies h
+no-copies h len size all n t k mark done e = false≢true (places carries h [] len n t (Carries k mark done) size all e refl)
+
 pub served : Served
-served = served-in K.read_from_store 6 60699 0 5 (3 ∷ []) read_from_store-holds.0 refl
+served =
+    brought-alone (entries K.read_from_store) 60699 0 5 (3 ∷ []) (no-copies (entries K.read_from_store) 7 refl refl)
+    (served-in K.read_from_store 6 60699 0 5 (3 ∷ []) read_from_store-holds.0 refl)
 
 -- not so
 
@@ -35,7 +42,7 @@ some-whole : (b : Bool) (v w : Response) → cond b (Some v) None ≡ Some w →
 some-whole true v w e = ap (λ (w : Response). w.max_age) (some-is v w e)
 some-whole false v w e = absurd (none-some w e)
 
-whole-age : (q : CoapRequest) (m : Content) (w : Response) → whole_of q (m ∷ []) ≡ Some w → (response_of m).max_age ≡ w.max_age
+pub whole-age : (q : CoapRequest) (m : Content) (w : Response) → whole_of q (m ∷ []) ≡ Some w → (response_of m).max_age ≡ w.max_age
 whole-age q m w e = by (eqb q.method 1) e
   where
     answer : (b : Bool) (how : Answered) → cond b (whole_by how m [] None) None ≡ Some w → (response_of m).max_age ≡ w.max_age

@@ -22,7 +22,7 @@ use Rattle.history_laws.specs.Connections.{is_open}
 use Rattle.history_laws.specs.Progress.{Reply, numbers, messages, Whole}
 use Rattle.history_laws.specs.Exchanges.{Begun, begun, End, end_of, replies}
 use Rattle.history_laws.specs.Joining.{outrun, asks_the_same, is_joinable}
-use Rattle.history_laws.specs.Storing.{EndsSo, IsStored, IsUse, ComesSo, UpdatesSo}
+use Rattle.history_laws.specs.Storing.{EndsSo, IsBrought, IsStored, IsUse, ComesSo, UpdatesSo}
 use Rattle.history_laws.specs.Justified.{reads_in, reads, pending, HasGrounds, Follows, Legal, MayCome}
 use Rattle.history_laws.proofs.CallerLemmas.{asked-for, at-before, at-below, at-newest, at-same, at-still, before-twice, begun-before, begun-below, begun-early, contains-later, end-before, end-since, ends-all, EndsAll, ends-first, follows-at, legal-before, length-before, not-true, one-joinable, open-below, open-exactly, outran, Outran, outrun-since, reader, Reader, replies-fit, shared-is, Shared, some-is, write-earlier, counts-since, CountsFor, never-both, one-update, outdated-by, outdated-keeps, update-counts}
 use Rattle.history_claims.specs.Headline.{IsEntry, IsHeardFirst}
@@ -92,8 +92,9 @@ same-whole l q x y e f w v rs ts legal may other is (inr a) (inl b) =
 same-whole l q x y e f w v rs ts legal may other is (inr a) (inr b) =
     (one-update l x y f w v rs ts (subst (λ (e : ℕ). UpdatesSo l x e w rs) is a) b).2
 
-pub stored-once : (l : List Noted) (q : CoapRequest) (s u : Stored) → Legal l → IsStored l q s → IsStored l q u → s.list ≡ u.list
-stored-once l q s u legal a b =
+pub stored-once : (l : List Noted) (q : CoapRequest) (s u : Stored) → Legal l → IsBrought l q s → IsStored l q u → s.list ≡ u.list
+stored-once l q s u legal a (inr c) = absurd (c.alone a.opening a.ending s.response a.first a.more a.comes a.shared a.newest)
+stored-once l q s u legal a (inl b) =
     let no-later = b.latest a.opening a.ending s.response a.first a.more a.comes a.shared a.newest in
     let no-sooner = a.latest b.opening b.ending u.response b.first b.more b.comes b.shared b.newest in
     let same = same-whole l q a.opening b.opening a.ending b.ending s.response u.response (a.first ∷ a.more) (b.first ∷ b.more) legal a.shared b.shared
@@ -409,9 +410,9 @@ module _ (l : List Noted) (legal : Legal l) (q : CoapRequest) (o n : ℕ) (js : 
       shared-then = record { exchange = exchange; opened = opened-then; same = same; fresh = unoutran-then }
 
       -- It is stored, where nothing that came later ended with what may answer the GET.
-      pub stored-then : ((y : ℕ) (b : Begun) → e < y → y < m → begun l y ≡ Some b → asks_same q b.request ≡ true → ⊥) → IsStored (before l m) q stored
+      pub stored-then : ((y : ℕ) (b : Begun) → e < y → y < m → begun l y ≡ Some b → asks_same q b.request ≡ true → ⊥) → IsBrought (before l m) q stored
       stored-then none_opened =
-          subst (λ (rs : List Reply). IsStored (before l m) q (record { response = w; opening = x; heard = was.since; list = numbers rs })) (sym start.all)
+          subst (λ (rs : List Reply). IsBrought (before l m) q (record { response = w; opening = x; heard = was.since; list = numbers rs })) (sym start.all)
           (record {
             opening = x;
             ending = e;

@@ -7,17 +7,18 @@ use Rattle.coap_codec.specs.Spelling.{Content}
 use Rattle.uri_map.specs.declared.peer.Peer.{Peer}
 use Rattle.ask_model.specs.Requests.{CoapRequest}
 use Rattle.ask_model.specs.Views.{Ask}
-use Rattle.journal_book.specs.Entries.{Mark, Done, Sent, Grounds, Deed, Answers, Asks, Sends, Seals, Carries}
-use Rattle.history_laws.specs.Readings.{Noted, Note, Begins, First, Bygone, at, before, noted}
+use Rattle.journal_book.specs.Entries.{Mark, Ground, Past, Done, Asked, Sent, Grounds, Deed, Answers, Asks, Sends, Seals, Carries}
+use Rattle.history_laws.specs.Readings.{Noted, Note, Begins, First, at, before, noted}
 use Rattle.history_laws.specs.Connections.{is_sealed, sealed_by}
 use Rattle.history_laws.specs.Progress.{Ending}
 use Rattle.history_laws.specs.Transmissions.{FirstSending, firsts, sent_last}
-use Rattle.history_laws.specs.Exchanges.{begun, end_of, end_here, end_by, End, turn, replies, goes_to, is_going, waits_for}
+use Rattle.history_laws.specs.Exchanges.{Begun, begun, end_of, end_here, end_by, End, turn, replies, goes_to, is_going, waits_for}
+use Rattle.history_laws.specs.Carrying.{carried}
 use Rattle.history_laws.specs.Justified.{MayBeFirst, Follows, Legal}
 use Rattle.history_laws.specs.Laws.{IsFirst}
 use Rattle.history_claims.proofs.Entries.{grows}
 use Rattle.history_claims.proofs.Sending.{sent-in}
-use Rattle.history_laws.proofs.CallerLemmas.{all-listed, any-first, at-same, at-still, before-twice, begun-opening, eqb-itself, eqb-same, find-any, find-some, first-waits, follows-at, none-is, none-some, some-is}
+use Rattle.history_laws.proofs.CallerLemmas.{all-listed, any-first, at-same, at-still, before-twice, begun-opening, carried-at, carried-before, eqb-itself, eqb-same, find-any, find-some, first-waits, follows-at, IsBygone, none-is, none-some, some-is}
 
 -- an ask that opened nothing has none
 pub none-for-other : (l : List Noted) (k c s : ℕ) (a : Ask) (note : Note) → Legal l → at l k ≡ Some (noted s (Asks c a) note)
@@ -44,8 +45,30 @@ asks-no-copy s t c k a mark done u v e = go (ap (λ (x : Noted). x.written.deed)
     go : Asks c a ≡ Carries k mark done → ⊥
     go f = cc
 
-pub sent-last-first : (l : List Noted) (o i c t : ℕ) (a : Ask) (note : Note) → at l o ≡ Some (noted t (Asks c a) note) → sent_last l o ≡ Some i → (t : ℕ) × (p : Peer) × (m : Content) × IsFirst l t o i p m
-sent-last-first l o i c t a note ask e = go (find (λ (f : FirstSending). eqb f.opening o) (firsts l)) refl e
+-- An ask stands where no copy does, nor the copy of an ask.
+no-copy : (l : List Noted) (o t c : ℕ) (a : Ask) (note : Note) (f : FirstSending) → Legal l → at l o ≡ Some (noted t (Asks c a) note) → f.opening ≡ o
+    → IsBygone l f → ⊥
+no-copy l o t c a note f legal ask own copy =
+    elim (copy.own) [
+      | inl w ↦
+          let there = subst (λ (n : ℕ). at l n ≡ Some (noted f.moment (Carries copy.old copy.mark (Sent f.peer copy.bytes copy.timeout)) copy.note)) (sym w.1 ∙ own) copy.stands in
+          asks-no-copy t f.moment c copy.old a copy.mark (Sent f.peer copy.bytes copy.timeout) note copy.note (at-same l o _ _ ask there)
+      | inr w ↦
+          let stands = subst (λ (note : Note). at l f.number ≡ Some (noted f.moment (Carries copy.old copy.mark (Sent f.peer copy.bytes copy.timeout)) note)) w copy.stands in
+          let exchange = carried-of copy.mark (follows-at l f.number _ legal stands) in
+          let it = carried-at l f.opening exchange.0 (carried-before l f.number f.opening exchange.0 exchange.1) in
+          asks-no-copy t exchange.0.since c it.old a Ground (Asked it.conn it.ask) note it.note
+          (at-same l o _ _ ask (subst (λ (n : ℕ). at l n ≡ Some (noted exchange.0.since (Carries it.old Ground (Asked it.conn it.ask)) it.note)) own it.stands))
+    ]
+  where
+    carried-of : (mark : Mark) → Follows (before l f.number) f.moment (Carries copy.old mark (Sent f.peer copy.bytes copy.timeout)) (First f.opening f.message)
+        → (b : Begun) × (carried (before l f.number) f.opening ≡ Some b)
+    carried-of Past may = absurd may.2
+    carried-of Ground may = (may.2.1.exchange, may.2.1.asked)
+
+pub sent-last-first : (l : List Noted) (o i c t : ℕ) (a : Ask) (note : Note) → Legal l → at l o ≡ Some (noted t (Asks c a) note) → sent_last l o ≡ Some i
+    → (t : ℕ) × (p : Peer) × (m : Content) × IsFirst l t o i p m
+sent-last-first l o i c t a note legal ask e = go (find (λ (f : FirstSending). eqb f.opening o) (firsts l)) refl e
   where
     go : (f : Option FirstSending) → find (λ (f : FirstSending). eqb f.opening o) (firsts l) ≡ f → option_map (λ (f : FirstSending). f.number) f ≡ Some i
         → (t : ℕ) × (p : Peer) × (m : Content) × IsFirst l t o i p m
@@ -61,9 +84,7 @@ sent-last-first l o i c t a note ask e = go (find (λ (f : FirstSending). eqb f.
             subst (λ (i : ℕ). IsFirst l f.moment o i f.peer f.message) (some-is f.number i h)
                 (subst (λ (o : ℕ). IsFirst l f.moment o f.number f.peer f.message) own first),
           )
-          | inr copy ↦
-              let copied = subst (λ (n : ℕ). at l n ≡ Some (noted f.moment (Carries copy.old copy.mark (Sent f.peer copy.bytes copy.timeout)) (Bygone f.message))) (sym copy.own ∙ own) copy.stands in
-              absurd (asks-no-copy t f.moment c copy.old a copy.mark (Sent f.peer copy.bytes copy.timeout) note (Bygone f.message) (at-same l o _ _ ask copied))
+          | inr copy ↦ absurd (no-copy l o t c a note f legal ask own copy)
         ]
 
 -- Nothing is sent for an exchange that has ended, nor in a sealed journal.

@@ -17,9 +17,9 @@ use Rattle.history_laws.specs.Readings.{Noted, Note, First, Says, Bygone, Notice
 use Rattle.history_laws.specs.Progress.{Reply, Reset, TimedOut}
 use Rattle.history_laws.specs.Transmissions.{FirstSending, firsts_by, firsts, sent_last}
 use Rattle.history_laws.specs.Exchanges.{Begun, begun, openings, Turn, Nothing, Sent, Replied, Rejected, Expired, answered_by, heard_turn, turn, waits_by, waits_for, replies_by, replies, end_here, end_of, awaited}
-use Rattle.history_laws.specs.Hearing.{is_under, is_as, open_at, answers_by, answers, expected}
+use Rattle.history_laws.specs.Hearing.{IsReplyKind, is_under, is_as, open_at, answers_by, answers, expected}
 use Rattle.history_laws.specs.Justified.{MaySay, Follows, Legal}
-use Rattle.history_laws.specs.Laws.{IsFirst, IsReplyKind, IsReplyTo, IsFetched}
+use Rattle.history_laws.specs.Laws.{IsFirst, IsReplyTo, IsFetched}
 use Rattle.history_laws.proofs.CallerLemmas.{at-before, at-below, at-keeps, at-new, at-old, at-same, at-still, before-keeps, before-new, before-twice, begun-listed, contains-none, eqb-itself, find-any, find-some, first-or-later, going-before, IsFirst-below, IsFirst-old, legal-before, length-before, none-is, none-some, sent-for, some-is, turn-replied, turn-sent}
 use Rattle.history_claims.specs.Headline.{BringsResponse, IsResponse, IsNew, IsUnanswered, IsHeardFor}
 use Rattle.history_claims.specs.Causes.{IsReplyFor}
@@ -212,6 +212,7 @@ last-cases : (n t o : ℕ) (d : Deed) (note : Note) (old : List FirstSending)
     ≡ option_map (λ (f : FirstSending). f.number) (find (λ (f : FirstSending). eqb f.opening o) old))
 last-cases n t o (Sends p b w) (First q m) old = elim (eqb_tells q o) [ inl u ↦ inl (rw (u.0) refl) | inr u ↦ inr (rw (u.0) refl) ]
 last-cases n t o (Carries k mark (D.Sent p b w)) (Bygone m) old = elim (eqb_tells n o) [ inl u ↦ inl (rw (u.0) refl) | inr u ↦ inr (rw (u.0) refl) ]
+last-cases n t o (Carries k mark (D.Sent p b w)) (First q m) old = elim (eqb_tells q o) [ inl u ↦ inl (rw (u.0) refl) | inr u ↦ inr (rw (u.0) refl) ]
 last-cases n t o d note old = inr refl
 
 last-new : (l : List Noted) (t o : ℕ) (p : Peer) (b : List ℕ) (w : Option ℕ) (m : Content)

@@ -1,5 +1,5 @@
 -- An ask that can wait for what another one asked for sends nothing, and isn't turned away.
-use Rattle.std.proofs.Common.{◌≡◌, ℕ, ◌<◌, Bool, true, false, not, ◌||◌, eqb, inl, inr, List, Option, Some, sym, ap, subst, ◌∙◌, arith}
+use Rattle.std.proofs.Common.{◌≡◌, ℕ, ◌<◌, Bool, true, not, ◌||◌, eqb, inl, inr, List, Option, Some, sym, ap, subst, ◌∙◌, arith}
 use Rattle.std.specs.Prelude.{is_some}
 use Rattle.std.specs.Option.{option_map_or}
 use Rattle.std.proofs.lemmas.Bool.Decides.{leb_tells}
@@ -16,7 +16,7 @@ use Rattle.journal_book.specs.Entries.{Fault, Asks, Answers}
 use Rattle.history_laws.specs.Readings.{Noted, Note, Plain, Begins, entries, at, before, noted}
 use Rattle.history_laws.specs.Connections.{is_open, opened}
 use Rattle.history_laws.specs.Exchanges.{begun, end_of, is_going}
-use Rattle.history_laws.specs.Joining.{outrun, joins}
+use Rattle.history_laws.specs.Joining.{outrun}
 use Rattle.history_laws.specs.Justified.{IsAsk, Caused, reads, reads_open, pending, is_in_hand, AskNote, Follows, Legal, AtRest, MayCome}
 use Rattle.history_laws.proofs.CallerLemmas.{at-before, at-below, at-entries, at-same, at-still, begun-before, begun-below, end-since, follows-at, Joined, legal-before, length-before, none-joined, none-of, not-true, open-below, open-exactly, outran, Outran, range-passes, reader, Reader, waited-or-answered, write-earlier}
 use Rattle.history_claims.specs.Headline.{IsEntry}

@@ -15,14 +15,17 @@ use Rattle.history_laws.specs.Connections.{is_open, is_sealed}
 use Rattle.history_laws.specs.Exchanges.{Begun, begun, End, end_of}
 use Rattle.history_laws.specs.Joining.{outrun}
 use Rattle.history_laws.specs.Justified.{IsAsk, IsRefused, Caused, HasGrounds, AskNote, reads_by, reads_in, reads, pending, Follows, MayCome, Legal}
-use Rattle.history_laws.proofs.CallerLemmas.{asked-for, at-before, at-below, at-same, at-still, before-twice, end-since, ends-first, follows-at, joins-is, legal-before, none-some, opening-begun, shared-is, unoutrun-earlier}
+use Rattle.resp_cache.specs.Stored.{Stored}
+use Rattle.history_laws.specs.Storing.{IsCarried}
+use Rattle.history_laws.specs.Laws.{IsWriteEnd}
+use Rattle.history_laws.proofs.CallerLemmas.{asked-for, carried-current, at-before, at-below, at-same, at-still, before-twice, end-since, ends-first, follows-at, joins-is, legal-before, none-some, opening-begun, unoutrun-earlier}
 use Rattle.history_claims.specs.Headline.{IsWriteAnswer}
 use Rattle.history_claims.proofs.Entries.{entries-at, grows}
 use Rattle.history_claims.proofs.Asking.{AnswersAsk, answers-ask}
 use Rattle.history_claims.proofs.Unsent.{Over, sealed-still}
 use Rattle.history_claims.proofs.Hands.{ends-after, not-at-ask, no-input}
 use Rattle.history_claims.proofs.Pending.{senses, asks-something, over-grounds}
-use Rattle.history_claims.proofs.Alike.{same-get}
+use Rattle.history_claims.proofs.Alike.{get-method, same-get, stored-get}
 
 serves-plain : (js : List ℕ) → Serves js ≡ Plain → ⊥
 serves-plain js e = cc
@@ -61,9 +64,7 @@ module _ (l : List Noted) (n o s d : ℕ) (b : Ask) (q : CoapRequest) (stands : 
 write-note : (l : List Noted) (t : ℕ) (q : CoapRequest) (note : Note) → AskNote l t (Requests q) note → q.method ≢ 1 → (note ≡ Begins q) ⊎ (note ≡ Plain)
 write-note l t q (Begins r) h other = inl (ap Begins h.0)
 write-note l t q (Joins o) h other = let it = joins-is l q o h in absurd (other (same-get q it.exchange.request it.same))
-write-note l t q (Serves js) h other =
-    let it = shared-is l q h.1.opening h.1.shared in
-    absurd (other (same-get q it.exchange.request it.same))
+write-note l t q (Serves js) h other = absurd (other (get-method q (stored-get l q h.0 h.1)))
 write-note l t q Plain h other = inr refl
 write-note l t q note h other = absurd h
 
@@ -82,9 +83,8 @@ unsealed l k c a legal ask = comes (before l k) ask.moment c a ask.note (follows
     comes : (v : List Noted) (s d : ℕ) (b : Ask) (note : Note) → Follows v s (Asks d b) note → is_sealed v ≡ false
     comes v s d b note may = may.0.0
 
--- the write, its answer in the entry n, and the ask k for q, before which no write had outrun the exchange of o
-module _ (l : List Noted) (k o conn : ℕ) (a : Ask) (q : CoapRequest) (exchange : Begun) (legal : Legal l) (ask : IsAsk l k conn a)
-    (opened : begun l o ≡ Some exchange) (fresh : outrun (before l k) (asked_place q) o ≡ false)
+-- the write, its answer in the entry n, and the ask k for q
+module _ (l : List Noted) (k conn : ℕ) (a : Ask) (q : CoapRequest) (legal : Legal l) (ask : IsAsk l k conn a)
     (n : ℕ) (w : IsWriteAnswer (entries l) q n) (lt : n < k) where
   abbrev write : Ask
   write = record { came = w.write.asked.came; sense = Requests w.write.request; rules = w.write.asked.rules }
@@ -128,76 +128,97 @@ module _ (l : List Noted) (k o conn : ℕ) (a : Ask) (q : CoapRequest) (exchange
       (subst (λ (v : List Noted). is_sealed v ≡ true) (sym twice) sealed) in
       false≢true (sym (unsealed l k conn a legal ask) ∙ now)
 
-  opening : (d : ℕ) × (b : Ask) × (at l o ≡ Some (noted exchange.since (Asks d b) (Begins exchange.request)))
-  opening = let it = asked-for l o exchange legal opened in (it.conn, it.ask, it.stands)
-
-  -- it ended before the exchange was opened
-  ended-before : (x : End) → end_of (before l n) w.ask ≡ Some x → x.number < o
-  ended-before x ended =
-      let first = ends-first (before l n) w.ask x.number x.how ended in
-      let soon : x.number < n = subst (λ (m : ℕ). x.number < m) its.1 (at-below (before l n) x.number first.0 first.1) in
-      let all = end-since l n w.ask x ended in
-      let le : x.number ≤ o =
-      unoutrun-earlier l k o x.number q legal (at-below l k _ ask.stands) fresh
-      (record {
+  -- it ended before its answer
+  ended-write : (x : End) → end_of (before l n) w.ask ≡ Some x → IsWriteEnd l q.peer q.target.path x.number
+  ended-write x ended =
+      record {
         opening = w.ask;
         write = record { since = w.write.moment; request = w.write.request };
         opened = opening-begun l w.ask w.write.moment (Asks w.write.conn write) w.write.request opens;
         changes = w.write.changes;
         place = w.write.place;
         how = x.how;
-        ended = all;
-      })
-      (omega (arith, soon, lt)) in
-      elim (eqb_tells x.number o) [
-        | inl u ↦
-            absurd (not-at-ask l w.ask x.number exchange.since opening.0 opening.1 (Begins exchange.request) x.how all
-            (subst (λ (i : ℕ). at l i ≡ Some (noted exchange.since (Asks opening.0 opening.1) (Begins exchange.request))) (sym u.1) opening.2))
-        | inr u ↦ let not = u.1 in omega (arith, le, not)
-      ]
+        ended = end-since l n w.ask x ended;
+      }
 
-  answered-before : (x : End) → end_of (before l n) w.ask ≡ Some x → n < o
-  answered-before x ended =
-      let sooner = ended-before x ended in
-      elim (leb_tells o n) [
-        | inl u ↦ elim (eqb_tells o n) [
-          | inl v ↦
-              absurd (no-answer exchange.since w.moment opening.0 w.write.conn w.ask opening.1 w.grounds _ answer.0
-              (at-same l n _ _ (subst (λ (i : ℕ). at l i ≡ Some (noted exchange.since (Asks opening.0 opening.1) (Begins exchange.request))) v.1 opening.2) answer.1))
-          | inr v ↦ let le = u.1 in let not = v.1 in absurd (came-between x ended sooner (omega (arith, le, not)))
-        ]
-        | inr u ↦ u.1
-      ]
-    where
-      no-answer : (s u c d k : ℕ) (b : Ask) (g : Grounds) (v z : Note) → noted s (Asks c b) v ≡ noted u (Answers d k g) z → ⊥
-      no-answer s u c d k b g v z e = go (ap (λ (x : Noted). x.written.deed) e)
-        where
-          go : Asks c b ≡ Answers d k g → ⊥
-          go f = cc
+  ended-sooner : (x : End) → end_of (before l n) w.ask ≡ Some x → x.number < n
+  ended-sooner x ended =
+      let first = ends-first (before l n) w.ask x.number x.how ended in
+      subst (λ (m : ℕ). x.number < m) its.1 (at-below (before l n) x.number first.0 first.1)
 
-      still-open : Follows (before l n) w.moment (Answers w.write.conn w.ask w.grounds) answer.0 → is_open (before l n) w.write.conn ≡ true
-      still-open may = may.1
-
-      still-waits : Follows (before l n) w.moment (Answers w.write.conn w.ask w.grounds) answer.0 → pending (before l n) w.write.conn ≡ Some w.ask
-      still-waits may = may.2
-
-      comes : (v : List Noted) (s d : ℕ) (b : Ask) (note : Note) → Follows v s (Asks d b) note → MayCome v
-      comes v s d b note may = may.0
-
-      came-between : (x : End) → end_of (before l n) w.ask ≡ Some x → x.number < o → o < n → ⊥
-      came-between x ended sooner soon =
-          let early = legal-before l n legal in
-          let last = at-still l n o _ _ answer.1 soon opening.2 in
-          let follows = follows-at l n _ legal answer.1 in
-          let own : reads (before l n) w.ask ≡ Some w.ask =
-          subst (λ (x : Option Noted). reads_in w.ask x ≡ Some w.ask) (sym (at-still l n w.ask _ _ answer.1 asked-before opens)) refl in
-          let after = ends-after (before l n) w.ask x.number x.how early ended in
-          no-input (before l n) w.write.conn w.ask w.ask x.number x.how its.0.ask early its.0.asked own ended after (still-open follows) (still-waits follows)
-          o _ sooner last (comes (before (before l n) o) exchange.since opening.0 opening.1 (Begins exchange.request) (follows-at (before l n) o _ early last))
-
-  pub fresh-at : n < o
-  fresh-at =
+  -- Then nothing that the journal begins with is stored.
+  pub carried-never : (s : Stored) → IsCarried (before l k) q s → ⊥
+  carried-never s is =
       elim (over) [
-        | inl end ↦ let x = is-ended (end_of (before l n) w.ask) end in answered-before x.0 x.1
-        | inr sealed ↦ absurd (not-sealed sealed)
+        | inl end ↦
+            let x = is-ended (end_of (before l n) w.ask) end in
+            let sooner = ended-sooner x.0 x.1 in
+            carried-current l k x.0.number q s legal (at-below l k _ ask.stands) is (ended-write x.0 x.1) (omega (arith, sooner, lt))
+        | inr sealed ↦ not-sealed sealed
       ]
+
+  -- before which no write had outrun the exchange of o
+  module _ (o : ℕ) (exchange : Begun) (opened : begun l o ≡ Some exchange) (fresh : outrun (before l k) (asked_place q) o ≡ false) where
+    opening : (d : ℕ) × (b : Ask) × (at l o ≡ Some (noted exchange.since (Asks d b) (Begins exchange.request)))
+    opening = let it = asked-for l o exchange legal opened in (it.conn, it.ask, it.stands)
+
+    -- it ended before the exchange was opened
+    ended-before : (x : End) → end_of (before l n) w.ask ≡ Some x → x.number < o
+    ended-before x ended =
+        let soon = ended-sooner x ended in
+        let all = end-since l n w.ask x ended in
+        let le : x.number ≤ o =
+        unoutrun-earlier l k o x.number q legal (at-below l k _ ask.stands) fresh
+        (ended-write x ended) (omega (arith, soon, lt)) in
+        elim (eqb_tells x.number o) [
+          | inl u ↦
+              absurd (not-at-ask l w.ask x.number exchange.since opening.0 opening.1 (Begins exchange.request) x.how all
+              (subst (λ (i : ℕ). at l i ≡ Some (noted exchange.since (Asks opening.0 opening.1) (Begins exchange.request))) (sym u.1) opening.2))
+          | inr u ↦ let not = u.1 in omega (arith, le, not)
+        ]
+
+    answered-before : (x : End) → end_of (before l n) w.ask ≡ Some x → n < o
+    answered-before x ended =
+        let sooner = ended-before x ended in
+        elim (leb_tells o n) [
+          | inl u ↦ elim (eqb_tells o n) [
+            | inl v ↦
+                absurd (no-answer exchange.since w.moment opening.0 w.write.conn w.ask opening.1 w.grounds _ answer.0
+                (at-same l n _ _ (subst (λ (i : ℕ). at l i ≡ Some (noted exchange.since (Asks opening.0 opening.1) (Begins exchange.request))) v.1 opening.2) answer.1))
+            | inr v ↦ let le = u.1 in let not = v.1 in absurd (came-between x ended sooner (omega (arith, le, not)))
+          ]
+          | inr u ↦ u.1
+        ]
+      where
+        no-answer : (s u c d k : ℕ) (b : Ask) (g : Grounds) (v z : Note) → noted s (Asks c b) v ≡ noted u (Answers d k g) z → ⊥
+        no-answer s u c d k b g v z e = go (ap (λ (x : Noted). x.written.deed) e)
+          where
+            go : Asks c b ≡ Answers d k g → ⊥
+            go f = cc
+
+        still-open : Follows (before l n) w.moment (Answers w.write.conn w.ask w.grounds) answer.0 → is_open (before l n) w.write.conn ≡ true
+        still-open may = may.1
+
+        still-waits : Follows (before l n) w.moment (Answers w.write.conn w.ask w.grounds) answer.0 → pending (before l n) w.write.conn ≡ Some w.ask
+        still-waits may = may.2
+
+        comes : (v : List Noted) (s d : ℕ) (b : Ask) (note : Note) → Follows v s (Asks d b) note → MayCome v
+        comes v s d b note may = may.0
+
+        came-between : (x : End) → end_of (before l n) w.ask ≡ Some x → x.number < o → o < n → ⊥
+        came-between x ended sooner soon =
+            let early = legal-before l n legal in
+            let last = at-still l n o _ _ answer.1 soon opening.2 in
+            let follows = follows-at l n _ legal answer.1 in
+            let own : reads (before l n) w.ask ≡ Some w.ask =
+            subst (λ (x : Option Noted). reads_in w.ask x ≡ Some w.ask) (sym (at-still l n w.ask _ _ answer.1 asked-before opens)) refl in
+            let after = ends-after (before l n) w.ask x.number x.how early ended in
+            no-input (before l n) w.write.conn w.ask w.ask x.number x.how its.0.ask early its.0.asked own ended after (still-open follows) (still-waits follows)
+            o _ sooner last (comes (before (before l n) o) exchange.since opening.0 opening.1 (Begins exchange.request) (follows-at (before l n) o _ early last))
+
+    pub fresh-at : n < o
+    fresh-at =
+        elim (over) [
+          | inl end ↦ let x = is-ended (end_of (before l n) w.ask) end in answered-before x.0 x.1
+          | inr sealed ↦ absurd (not-sealed sealed)
+        ]

@@ -1,6 +1,6 @@
 -- What an answer rests on: said of a journal's entries alone, which lie oldest first and go by their
--- number from 0. A journal may begin with copies of an older one's entries: no answer rests on them,
--- but tokens, message IDs and repeats are told by them too.
+-- number from 0. A journal may begin with copies of an older one's entries: an answer that was kept
+-- may rest on such, and tokens, message IDs and repeats are told by them too.
 use Rattle.std.specs.Prelude.{◌≡◌, ◌≢◌, ◌⊎◌, ℕ, ◌+◌, ◌<◌, ◌≤◌, List, [], ◌∷◌, slice_get, Option, Some, ⊤, Bool, None, true, false}
 use Rattle.std.specs.List.{Contains}
 use Rattle.limits.specs.declared.TheConstants.{EXCHANGE_LIFETIME, MAX_TRANSMIT_WAIT}
@@ -13,7 +13,7 @@ use Rattle.ask_model.specs.declared.cause.Cause.TheVariants as C
 use Rattle.ask_model.specs.Requests.{CoapRequest, Came, Sense, Requests, asking}
 use Rattle.ask_model.specs.Observing.{may_observe}
 use Rattle.ask_model.specs.Views.{Rules}
-use Rattle.journal_book.specs.Entries.{Grounds, Live, Kept, Fault, Done, Sent, Heard, done_of, Deed, Asks, Sends, Hears, Passes, Answers, Written}
+use Rattle.journal_book.specs.Entries.{Grounds, Live, Fault, Done, Sent, Heard, done_of, Deed, Asks, Sends, Hears, Passes, Answers, Written}
 use Rattle.resp_cache.specs.Stored.{lifetime}
 use Rattle.history_laws.specs.Responses.{Response, whole_of}
 use Rattle.history_laws.specs.Progress.{Point, first_point, block_for, point_after}
@@ -345,9 +345,3 @@ pub record IsServed (h : List Written) (t c k : ℕ) (js : List ℕ) : Type 0 wh
   pub fresh : t < since + lifetime response.max_age
   pub newest : IsNewest h js k request
   pub current : (n : ℕ) → IsWriteAnswer h request n → n < k → n < opening
-
--- In every journal that stands, so does an answer that was kept.
-abbrev pub RestsOnStored : Type 0
-RestsOnStored =
-    (h : List Written) (n t c k : ℕ) (js : List ℕ) → Stands h
-    → IsEntry h n t (Answers c k (Kept js)) → IsServed h t c k js

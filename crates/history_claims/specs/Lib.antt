@@ -1,4 +1,5 @@
 pub mod Headline
+pub mod Carried
 pub mod Causes
 pub mod Apart
 pub mod Once

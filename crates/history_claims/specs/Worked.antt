@@ -8,6 +8,7 @@ use Rattle.journal_book.specs.Entries.{Live, Fault, Opens, Asks, Sends, Hears, P
 use Rattle.history_laws.specs.Readings.{Noted, Plain, Begins, Joins, First, Says, unobserved, entries, noted}
 use Rattle.history_laws.specs.Worked.{server, ask_for}
 use Rattle.history_laws.specs.WorkedMessages as M
+use Rattle.history_laws.specs.WorkedCarried as A
 use Rattle.history_laws.specs.WorkedCopies as W
 use Rattle.history_laws.specs.WorkedEndings as E
 use Rattle.history_laws.specs.WorkedLate as L
@@ -18,6 +19,7 @@ use Rattle.history_laws.specs.WorkedSpoiled as S
 use Rattle.history_laws.specs.WorkedStore as K
 use Rattle.history_laws.specs.WorkedWatches as O
 use Rattle.history_claims.specs.Headline.{IsSentFor, IsRepeat, IsPending, RestsOn, IsServed}
+use Rattle.history_claims.specs.Carried.{IsServedCarried}
 use Rattle.history_claims.specs.Causes.{AreUnshared, IsTurnedAway, IsCausedBy}
 
 -- The GET's answer rests on the response of entry 9, and the PUT's on that of entry 16.
@@ -220,6 +222,21 @@ Overwritten = IsServed (entries K.read_outdated) 5400 0 18 (9 ∷ []) → ⊥
 
 abbrev pub OtherQuery : Type 0
 OtherQuery = IsServed (entries K.other_query) 800 0 5 (3 ∷ []) → ⊥
+
+-- The response of entry 2, with which the journal begins, is kept for an equal GET, up to its last
+-- fresh millisecond.
+abbrev pub ServedCarried : Type 0
+ServedCarried = IsServedCarried (entries A.served_carried) 64999 2 4 (2 ∷ [])
+
+-- Not so: a millisecond later, for another query, and after a PUT to the place was answered.
+abbrev pub CarriedLate : Type 0
+CarriedLate = IsServedCarried (entries A.carried_late) 65000 2 4 (2 ∷ []) → ⊥
+
+abbrev pub CarriedForAnother : Type 0
+CarriedForAnother = IsServedCarried (entries A.carried_for_another) 64999 2 4 (2 ∷ []) → ⊥
+
+abbrev pub CarriedOutrun : Type 0
+CarriedOutrun = IsServedCarried (entries A.carried_outrun) 10001 2 8 (2 ∷ []) → ⊥
 
 -- What the update of entry 6 brought is kept for an equal GET.
 abbrev pub Updated : Type 0

@@ -1,6 +1,7 @@
 //! What holds of the entries of every journal that stands, as contracts of functions that do nothing.
 
-ghost use Rattle.history_claims.specs.Headline.{RestsOnReplies, RestsOnStored};
+ghost use Rattle.history_claims.specs.Carried.{RestsOnStored};
+ghost use Rattle.history_claims.specs.Headline.{RestsOnReplies};
 ghost use Rattle.history_claims.specs.Causes.{NamesCause};
 ghost use Rattle.history_claims.specs.Apart.{
   TokensOnce,
@@ -20,8 +21,8 @@ pub fn rests_on_replies()
     ensures { RestsOnReplies }
 {}
 
-/// An answer that was kept rests on a whole 2.05 to an earlier ask for the same, which is fresh and
-/// outdated by no write (RFC 7252 sections 5.6, 5.9.2).
+/// An answer that was kept rests on a whole 2.05 to an earlier ask for the same, or on one that the
+/// journal begins with, which is fresh and outdated by no write (RFC 7252 sections 5.6, 5.9.2).
 pub fn rests_on_stored()
     ensures { RestsOnStored }
 {}

@@ -35,6 +35,10 @@ ghost use Rattle.history_claims.specs.Worked.{
   Expired,
   Overwritten,
   OtherQuery,
+  ServedCarried,
+  CarriedLate,
+  CarriedForAnother,
+  CarriedOutrun,
   Updated,
   Outdated,
 };
@@ -117,6 +121,15 @@ pub fn worked_store()
     ensures expired { Expired }
     ensures overwritten { Overwritten }
     ensures query { OtherQuery }
+{}
+
+/// A response with which a journal begins, and which is kept for an equal GET. And what it is kept for
+/// in vain, as above.
+pub fn worked_carried()
+    ensures served { ServedCarried }
+    ensures late { CarriedLate }
+    ensures query { CarriedForAnother }
+    ensures overwritten { CarriedOutrun }
 {}
 
 /// A notification that is kept for an equal GET (RFC 7641 section 3.2), and one that a newer one outdates.
