@@ -27,7 +27,7 @@ use Rattle.history_laws.specs.Readings.{Noted}
 use Rattle.history_laws.specs.Responses.{Response, is_tellable, joined, whole_by, whole_fetched, whole_given, whole_of}
 use Rattle.history_laws.specs.Progress.{Reply, numbers, messages, Ending, Whole, NotUnderstood, Reset, TimedOut, Turned}
 use Rattle.history_laws.specs.Justified.{Ends}
-use Rattle.history_laws.specs.Storing.{ComesSo, IsStored}
+use Rattle.history_laws.specs.Storing.{ComesSo, IsBrought, IsStored}
 use Rattle.history_laws.proofs.CallerLemmas.{ends-all, first-whole, none-some}
 use Rattle.resp_cache.specs.Stored.{Stored}
 use Rattle.exchange_model.specs.declared.kept.Reader.{Reader}
@@ -166,8 +166,8 @@ ends-brief l o n TimedOut sending r short h = omega arith
 ends-brief l o n Turned sending r short h = omega arith
 
 -- and of what is stored
-pub stored-few : (l : List Noted) (q : CoapRequest) (s : Stored) → IsStored l q s → length s.list ≤ 4097
-stored-few l q s a =
+brought-few : (l : List Noted) (q : CoapRequest) (s : Stored) → IsBrought l q s → length s.list ≤ 4097
+brought-few l q s a =
     let few = by a.comes in
     let same = ap (λ (js : List ℕ). length js) a.list in
     omega (arith, few, same)
@@ -183,3 +183,14 @@ stored-few l q s a =
     by (inr told) =
         let one = ap (λ (rs : List Reply). length (numbers rs)) (first-whole a.ending told.sending told.message s.response (a.first ∷ a.more) told.whole) in
         omega (arith, one)
+
+pub stored-few : (l : List Noted) (q : CoapRequest) (s : Stored) → IsStored l q s → length s.list ≤ 4097
+stored-few l q s (inl a) = brought-few l q s a
+stored-few l q s (inr a) =
+    let rs : List Reply = a.first ∷ a.more in
+    let get : eqb a.carries.exchange.request.method 1 ≡ true = alike-get q a.carries.exchange.request a.same in
+    let few = whole-few a.carries.exchange.request (messages rs) s.response (λ write. absurd (false≢true (sym write ∙ get))) a.carries.whole in
+    let one = length-map rs (λ (r : Reply). r.message) in
+    let two = length-map rs (λ (r : Reply). r.number) in
+    let same = ap (λ (js : List ℕ). length js) a.list in
+    omega (arith, few, one, two, same)

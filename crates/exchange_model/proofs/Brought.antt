@@ -1,9 +1,8 @@
 -- What a response leaves in the store that comes for a GET in the newest entry.
-use Rattle.std.proofs.Common.{◌≡◌, ◌≢◌, ℕ, ◌⊎◌, inl, inr, Bool, true, false, cond, eqb, not, List, ◌∷◌, length, take, Option, Some, None, refl, sym, ap, subst, ◌∙◌, arith}
+use Rattle.std.proofs.Common.{◌≡◌, ℕ, ◌⊎◌, inl, inr, Bool, true, false, cond, not, List, ◌∷◌, length, take, Option, Some, refl, sym, ap, subst, ◌∙◌, arith}
 use Rattle.std.specs.Prelude.{◌==◌}
 use Rattle.std.specs.List.{AllByRecursion}
 use Rattle.std.proofs.lemmas.Bool.{false≢true, and_parts, or_right}
-use Rattle.std.proofs.lemmas.Bool.Decides.{eqb_tells}
 use Rattle.limits.specs.declared.TheConstants.{MAX_STORED}
 use Rattle.cache_key.specs.Keys.{CacheKey, same_key}
 use Rattle.cache_key.specs.declared.place.Place.{Place}
@@ -20,16 +19,17 @@ use Rattle.history_laws.specs.Progress.{Reply, numbers}
 use Rattle.history_laws.specs.Exchanges.{Begun, begun}
 use Rattle.history_laws.specs.Joining.{asks_the_same, outrun, is_joinable}
 use Rattle.history_laws.specs.Observing.{outdated}
-use Rattle.history_laws.specs.Storing.{ComesSo, IsStored, IsUse, IsCrowdedOut}
+use Rattle.history_laws.specs.Storing.{ComesSo, IsBrought, IsStored, IsUse, IsCrowdedOut}
 use Rattle.history_laws.specs.Justified.{Legal}
 use Rattle.history_laws.proofs.CallerLemmas.{all-more, all-passes, before-new, EndsWrite, some-is}
 use Rattle.exchange_model.specs.State.{State}
 use Rattle.exchange_model.specs.Reads.{AreLastFirst, HasPair, IsLastUse, PairIn, Reads, StoreIn}
+use Rattle.exchange_model.proofs.Carried.{IsOwn}
 use Rattle.exchange_model.proofs.Came.{comes-below, one-comes}
 use Rattle.exchange_model.proofs.Settling.{all-kept, store-taken, true-not}
-use Rattle.exchange_model.proofs.Storing.{joinable-alike, pair-stays, stored-unwritten, stored-was}
+use Rattle.exchange_model.proofs.Storing.{IsEarlier, joinable-alike, pair-stays, stored-get, stored-unwritten, stored-was, stored-when}
 use Rattle.exchange_model.proofs.Stores.{every}
-use Rattle.exchange_model.proofs.Uses.{crowded-stays, has-filtered, NotServing, order-filter, order-stays, order-weaker, unserved, Unused, use-below}
+use Rattle.exchange_model.proofs.Uses.{crowded-stays, has-filtered, NotServing, order-filter, order-stays, order-weaker, own-quiet, unserved, Unused, use-below}
 
 -- This comes in the newest entry for a GET, and may answer equal ones.
 pub record Brings (x : Noted) (l : List Noted) (q : CoapRequest) (o : ℕ) (w : Response) (first : Reply) (more : List Reply) : Type 0 where
@@ -77,7 +77,7 @@ module _ (x : Noted) (l : List Noted) (S : State) (r : Reads l S) (legal : Legal
     request = q;
     get = b.get;
     key = refl;
-    stored = record {
+    stored = inl (record {
       opening = o;
       ending = length l;
       first = first;
@@ -91,8 +91,11 @@ module _ (x : Noted) (l : List Noted) (S : State) (r : Reads l S) (legal : Legal
       heard = refl;
       origin = refl;
       list = refl;
-    };
+    });
   }
+
+  own : IsOwn x
+  own = own-quiet x quiet
 
   -- Pairs of other keys stay.
   rest : AllByRecursion (PairIn (x ∷ l)) (others key S.store)
@@ -100,6 +103,7 @@ module _ (x : Noted) (l : List Noted) (S : State) (r : Reads l S) (legal : Legal
     where
       one : (p : Pair) → PairIn l p × (is_of_another key p ≡ true) → PairIn (x ∷ l) p
       one p h = pair-stays x l legal p h.0 (record {
+        own = own;
         unwritten = writes (asked_place h.0.request);
         untold = untold (asked_key h.0.request) differs;
         unanswered = λ p v t ts comes joins fresh. differs (same-request h.0.request p v (t ∷ ts) comes joins);
@@ -109,29 +113,33 @@ module _ (x : Noted) (l : List Noted) (S : State) (r : Reads l S) (legal : Legal
           differs e = true-not (same_key p.key key) h.1 ((keys_decided p.key key).1 (sym h.0.key ∙ e))
 
   -- What was stored under its key is stored no more.
-  other-key : (k : CoapRequest) (u : Stored) → (is : IsStored (x ∷ l) k u) → is.ending ≢ length l → asked_key k ≡ key → ⊥
-  other-key k u is other same =
-      let gets_k : is_get k ≡ true = get-first (begun (x ∷ l) is.opening) (and_parts (asks_the_same k (begun (x ∷ l) is.opening)) _ is.shared).0 in
-      let joins : is_joinable (x ∷ l) k o ≡ true = joinable-alike (x ∷ l) k q gets_k b.get same o ∙ b.joins in
-      let le = is.latest o (length l) w first more b.comes joins (ap (λ (z : CacheKey). outdated (x ∷ l) z first.number) same ∙ b.fresh) in
-      let below = comes-below (x ∷ l) is.opening is.ending u.response (is.first ∷ is.more) is.comes in
-      other (omega (arith, le, below))
+  other-key : (k : CoapRequest) (u : Stored) → (is : IsStored (x ∷ l) k u) → IsEarlier x l k u is → asked_key k ≡ key → ⊥
+  other-key k u is earlier same = by is earlier
     where
-      get-first : (v : Option Begun) → asks_the_same k v ≡ true → is_get k ≡ true
-      get-first None f = absurd (false≢true f)
-      get-first (Some v) f = (and_parts (is_get k) _ f).0
+      joins : is_joinable (x ∷ l) k o ≡ true
+      joins = joinable-alike (x ∷ l) k q (stored-get (x ∷ l) k u is) b.get same o ∙ b.joins
 
-  still-has : (k : CoapRequest) (u : Stored) → (is : IsStored (x ∷ l) k u) → is.ending ≢ length l → HasPair S.store (asked_key k) → HasPair (others key S.store) (asked_key k)
-  still-has k u is other had = has-filtered (asked_key k) (is_of_another key) S.store (λ p of_k. another p of_k (same_key p.key key) refl) had
+      fresh : outdated (x ∷ l) (asked_key k) first.number ≡ false
+      fresh = ap (λ (z : CacheKey). outdated (x ∷ l) z first.number) same ∙ b.fresh
+
+      by : (is : IsStored (x ∷ l) k u) → IsEarlier x l k u is → ⊥
+      by (inr is) earlier = is.alone o (length l) w first more b.comes joins fresh
+      by (inl is) other =
+          let le = is.latest o (length l) w first more b.comes joins fresh in
+          let below = comes-below (x ∷ l) is.opening is.ending u.response (is.first ∷ is.more) is.comes in
+          other (omega (arith, le, below))
+
+  still-has : (k : CoapRequest) (u : Stored) → (is : IsStored (x ∷ l) k u) → IsEarlier x l k u is → HasPair S.store (asked_key k) → HasPair (others key S.store) (asked_key k)
+  still-has k u is earlier had = has-filtered (asked_key k) (is_of_another key) S.store (λ p of_k. another p of_k (same_key p.key key) refl) had
     where
       another : (p : Pair) → is_of (asked_key k) p ≡ true → (c : Bool) → same_key p.key key ≡ c → not c ≡ true
       another p of_k false f = refl
-      another p of_k true f = absurd (other-key k u is other (sym ((keys_decided p.key (asked_key k)).0 of_k) ∙ (keys_decided p.key key).0 f))
+      another p of_k true f = absurd (other-key k u is earlier (sym ((keys_decided p.key (asked_key k)).0 of_k) ∙ (keys_decided p.key key).0 f))
 
-  before-it : (k : CoapRequest) (u : Stored) → (is : IsStored (x ∷ l) k u) → is_never_fresh u ≡ false → is.ending ≢ length l → HasPair S.store (asked_key k) ⊎ IsCrowdedOut l (asked_key k)
-  before-it k u is lasts other = r.store_is.kept k u (stored-was x l k u legal (stored-unwritten x l k u legal is) is other) lasts
+  before-it : (k : CoapRequest) (u : Stored) → (is : IsStored (x ∷ l) k u) → is_never_fresh u ≡ false → IsEarlier x l k u is → HasPair S.store (asked_key k) ⊎ IsCrowdedOut l (asked_key k)
+  before-it k u is lasts earlier = r.store_is.kept k u (stored-was x l k u legal own (stored-unwritten x l k u legal own is) is earlier) lasts
 
-  at-new : (k : CoapRequest) (u : Stored) → (is : IsStored (x ∷ l) k u) → is.ending ≡ length l → (asked_key k ≡ key) × (u.response ≡ w)
+  at-new : (k : CoapRequest) (u : Stored) → (is : IsBrought (x ∷ l) k u) → is.ending ≡ length l → (asked_key k ≡ key) × (u.response ≡ w)
   at-new k u is now =
       let comes = subst (λ (n : ℕ). ComesSo (x ∷ l) is.opening n u.response (is.first ∷ is.more)) now is.comes in (
         same-request k is.opening u.response (is.first ∷ is.more) comes is.shared,
@@ -143,9 +151,9 @@ module _ (x : Noted) (l : List Noted) (S : State) (r : Reads l S) (legal : Legal
   takes never = record {
     pairs = rest;
     order = order-weaker (x ∷ l) (length l) (length (x ∷ l)) (others key S.store) (omega arith)
-        (order-stays x l (length l) (others key S.store) legal (every (λ (p : Pair). Unused x l p.key) (λ p. unused p.key) (others key S.store))
+        (order-stays x l (length l) (others key S.store) legal own (every (λ (p : Pair). Unused x l p.key) (λ p. unused p.key) (others key S.store))
         (order-filter l (length l) (is_of_another key) S.store r.store_is.order));
-    kept = λ k u is lasts. kept_so k u is lasts (eqb_tells is.ending (length l));
+    kept = λ k u is lasts. kept_so k u is lasts (stored-when x l k u is);
   }
     where
       unused : (other : CacheKey) → Unused x l other
@@ -155,13 +163,13 @@ module _ (x : Noted) (l : List Noted) (S : State) (r : Reads l S) (legal : Legal
           false≢true (sym u.lasts ∙ subst (λ (z : Response). (lifetime z.max_age == 0) ≡ true) it.response never)
 
       kept_so : (k : CoapRequest) (u : Stored) → (is : IsStored (x ∷ l) k u) → is_never_fresh u ≡ false
-          → ((eqb is.ending (length l) ≡ true) × (is.ending ≡ length l)) ⊎ ((eqb is.ending (length l) ≡ false) × (is.ending ≢ length l))
+          → ((a : IsBrought (x ∷ l) k u) × (a.ending ≡ length l)) ⊎ IsEarlier x l k u is
           → HasPair (others key S.store) (asked_key k) ⊎ IsCrowdedOut (x ∷ l) (asked_key k)
       kept_so k u is lasts (inl now) =
-          absurd (false≢true (sym lasts ∙ subst (λ (z : Response). (lifetime z.max_age == 0) ≡ true) (sym (at-new k u is now.1).1) never))
-      kept_so k u is lasts (inr other) = elim (before-it k u is lasts other.1) [
-        | inl had ↦ inl (still-has k u is other.1 had)
-        | inr out ↦ inr (crowded-stays x l (asked_key k) legal (unused (asked_key k)) out)
+          absurd (false≢true (sym lasts ∙ subst (λ (z : Response). (lifetime z.max_age == 0) ≡ true) (sym (at-new k u now.0 now.1).1) never))
+      kept_so k u is lasts (inr earlier) = elim (before-it k u is lasts earlier) [
+        | inl had ↦ inl (still-has k u is earlier had)
+        | inr out ↦ inr (crowded-stays x l (asked_key k) legal own (unused (asked_key k)) out)
       ]
 
   -- and any other takes its place
@@ -169,7 +177,7 @@ module _ (x : Noted) (l : List Noted) (S : State) (r : Reads l S) (legal : Legal
   puts lasts = record {
     pairs = (stored-new, rest);
     order = order;
-    kept = λ k u is lasts_u. kept_so k u is lasts_u (eqb_tells is.ending (length l));
+    kept = λ k u is lasts_u. kept_so k u is lasts_u (stored-when x l k u is);
   }
     where
       used : IsLastUse (x ∷ l) (length l) key
@@ -193,11 +201,11 @@ module _ (x : Noted) (l : List Noted) (S : State) (r : Reads l S) (legal : Legal
       }
 
       order : AreLastFirst (x ∷ l) (length (x ∷ l)) (new ∷ others key S.store)
-      order = (
+      order = inl (
         length l,
         omega arith,
         used,
-        order-stays x l (length l) (others key S.store) legal
+        order-stays x l (length l) (others key S.store) legal own
             (all-more (λ (p : Pair). is_of_another key p ≡ true) (λ (p : Pair). Unused x l p.key)
             (λ p apart. unused-other p.key (λ f. true-not (same_key p.key key) apart ((keys_decided p.key key).1 (sym f)))) (others key S.store)
             (all-passes (is_of_another key) S.store))
@@ -205,12 +213,12 @@ module _ (x : Noted) (l : List Noted) (S : State) (r : Reads l S) (legal : Legal
       )
 
       kept_so : (k : CoapRequest) (u : Stored) → (is : IsStored (x ∷ l) k u) → is_never_fresh u ≡ false
-          → ((eqb is.ending (length l) ≡ true) × (is.ending ≡ length l)) ⊎ ((eqb is.ending (length l) ≡ false) × (is.ending ≢ length l))
+          → ((a : IsBrought (x ∷ l) k u) × (a.ending ≡ length l)) ⊎ IsEarlier x l k u is
           → HasPair (new ∷ others key S.store) (asked_key k) ⊎ IsCrowdedOut (x ∷ l) (asked_key k)
-      kept_so k u is lasts_u (inl now) = inl (rw ((keys_decided key (asked_key k)).1 (sym (at-new k u is now.1).0)) refl)
-      kept_so k u is lasts_u (inr other) = elim (before-it k u is lasts_u other.1) [
-        | inl had ↦ inl (or_right (is_of (asked_key k) new) _ (still-has k u is other.1 had))
-        | inr out ↦ inr (crowded-stays x l (asked_key k) legal (unused-other (asked_key k) (λ f. other-key k u is other.1 (sym f))) out)
+      kept_so k u is lasts_u (inl now) = inl (rw ((keys_decided key (asked_key k)).1 (sym (at-new k u now.0 now.1).0)) refl)
+      kept_so k u is lasts_u (inr earlier) = elim (before-it k u is lasts_u earlier) [
+        | inl had ↦ inl (or_right (is_of (asked_key k) new) _ (still-has k u is earlier had))
+        | inr out ↦ inr (crowded-stays x l (asked_key k) legal own (unused-other (asked_key k) (λ f. other-key k u is earlier (sym f))) out)
       ]
 
   pub store-brought : StoreIn (x ∷ l) (take MAX_STORED (cond (lifetime w.max_age == 0) (others key S.store) (new ∷ others key S.store)))

@@ -18,10 +18,11 @@ use Rattle.history_laws.specs.Readings.{Noted, Note, First, Copies, Confirms, Sa
 use Rattle.history_laws.specs.Hearing.{is_such, heard_before, repeated}
 use Rattle.history_laws.specs.Justified.{Follows, Legal}
 use Rattle.history_laws.proofs.CallerLemmas.{entries-length, eqb-itself}
-use Rattle.exchange_model.specs.Rotating.{Seen, is_seen, seen_so, seen_by, seen_from, seen, is_recent_first, is_recent_seen, copy_if, copy_of, copies_from, copies}
-use Rattle.exchange_model.proofs.Shapes.{Kept, Sending, Hearing, if_such, kept_as, still_kept, copy_as, like-as}
+use Rattle.exchange_model.specs.Rotating.{Seen, is_seen, seen_so, seen_by, seen_from, seen, is_recent_first, is_recent_seen, is_remembered, has, copy_if, copy_of, copies_from, copies_with}
+use Rattle.ask_model.specs.Views.{Ask}
+use Rattle.exchange_model.proofs.Shapes.{Kept, Sending, Hearing, Copy, if_such, kept_as, copy_as, copy_by, backing_copy, past_copy, past_if, past_of, like-as}
 use Rattle.exchange_model.proofs.Heeding.{is-bytes}
-use Rattle.exchange_model.proofs.Copies.{cons_if, add_kept, copied, like_as}
+use Rattle.exchange_model.proofs.Copies.{add_copy, copied, copy_in, kept_in, like_as}
 
 -- What was seen, one entry after another.
 
@@ -106,8 +107,12 @@ seen-as l any s (Carries k Past (D.Heard q b)) (Recalls m a) f =
     says-seen (length l) s q b m a (seen (entries l)) f.2.spelled
     (λ such. any s q m.mid ∙ ap (λ (v : Option ℕ). is_some v) (not-heard l s q m f.2.unheard such))
 seen-as l any s (Carries k Past (D.Heard q b)) note f = absurd f.2
+seen-as l any s (Carries k D.Ground (D.Heard q b)) (Recalls m a) f =
+    says-seen (length l) s q b m a (seen (entries l)) f.2.spelled
+    (λ such. any s q m.mid ∙ ap (λ (v : Option ℕ). is_some v) (not-heard l s q m f.2.unheard such))
 seen-as l any s (Carries k D.Ground (D.Heard q b)) note f = absurd f.2
 seen-as l any s (Carries k mark (D.Sent p b w)) (Bygone m) f = refl
+seen-as l any s (Carries k mark (D.Sent p b w)) (First o m) f = refl
 seen-as l any s (Carries k mark (D.Sent p b w)) note f = refl
 seen-as l any s (Carries k mark (D.Asked c a)) note f = refl
 seen-as l any s d note f = refl
@@ -184,115 +189,171 @@ kept-later t n N s None xs lt = refl
 kept-later t n N s (Some (Sending q b w m)) xs lt = refl
 kept-later t n N s (Some (Hearing q b m a)) xs lt = rw (other N n (λ e. omega (arith, lt, e))) refl
 
-copy-later : (t n N s u : ℕ) (k : Option Kept) (xs : List Seen) (done : Option Done) → n < N → copy_of t (see_kept N s k xs) n u done ≡ copy_of t xs n u done
-copy-later t n N s u k xs None lt = refl
-copy-later t n N s u k xs (Some done) lt =
-    ap (λ (b : Bool). copy_if (is_recent_first t u done || b) n u done) (kept-later t n N s k xs lt)
+copy-later : (gs : List ℕ) (t n N s u : ℕ) (k : Option Kept) (xs : List Seen) (done : Option Done) → n < N
+    → copy_of t (see_kept N s k xs) gs n u done ≡ copy_of t xs gs n u done
+copy-later gs t n N s u k xs None lt = refl
+copy-later gs t n N s u k xs (Some done) lt =
+    ap (λ (b : Bool). copy_if (cond (has gs n) (Some D.Ground) (cond (is_recent_first t u done || b) (Some Past) None)) n u done) (kept-later t n N s k xs lt)
 
-copies-later : (t n N s : ℕ) (k : Option Kept) (xs : List Seen) (ws : List Written) → n + length ws ≤ N → copies_from t (see_kept N s k xs) n ws ≡ copies_from t xs n ws
-copies-later t n N s k xs [] le = refl
-copies-later t n N s k xs (w ∷ ws) le =
-    ap (λ (cs : List Written). cs ++ copies_from t (see_kept N s k xs) (n + 1) ws) (copy-later t n N s w.moment k xs (done_of w.deed) (omega (arith, le)))
-    ∙ ap (λ (cs : List Written). copy_of t xs n w.moment (done_of w.deed) ++ cs) (copies-later t (n + 1) N s k xs ws (omega (arith, le)))
+copies-later : (gs : List ℕ) (t n N s : ℕ) (k : Option Kept) (xs : List Seen) (ws : List Written) → n + length ws ≤ N
+    → copies_from t (see_kept N s k xs) gs n ws ≡ copies_from t xs gs n ws
+copies-later gs t n N s k xs [] le = refl
+copies-later gs t n N s k xs (w ∷ ws) le =
+    ap (λ (cs : List Written). cs ++ copies_from t (see_kept N s k xs) gs (n + 1) ws) (copy-later gs t n N s w.moment k xs (done_of w.deed) (omega (arith, le)))
+    ∙ ap (λ (cs : List Written). copy_of t xs gs n w.moment (done_of w.deed) ++ cs) (copies-later gs t (n + 1) N s k xs ws (omega (arith, le)))
 
-copies-more : (t : ℕ) (xs : List Seen) (n : ℕ) (ws : List Written) (w : Written)
-    → copies_from t xs n (ws ++ w ∷ []) ≡ copies_from t xs n ws ++ copy_of t xs (n + length ws) w.moment (done_of w.deed)
-copies-more t xs n [] w = append-nil (copy_of t xs n w.moment (done_of w.deed)) ∙ ap (λ (k : ℕ). copy_of t xs k w.moment (done_of w.deed)) (by n)
+copies-more : (gs : List ℕ) (t : ℕ) (xs : List Seen) (n : ℕ) (ws : List Written) (w : Written)
+    → copies_from t xs gs n (ws ++ w ∷ []) ≡ copies_from t xs gs n ws ++ copy_of t xs gs (n + length ws) w.moment (done_of w.deed)
+copies-more gs t xs n [] w = append-nil (copy_of t xs gs n w.moment (done_of w.deed)) ∙ ap (λ (k : ℕ). copy_of t xs gs k w.moment (done_of w.deed)) (by n)
   where
     by : (k : ℕ) → k ≡ k + 0
     by k = omega arith
-copies-more t xs n (v ∷ ws) w =
-    let here = copy_of t xs n v.moment (done_of v.deed) in
-    ap (λ (cs : List Written). here ++ cs) (copies-more t xs (n + 1) ws w ∙ ap (λ (k : ℕ). copies_from t xs (n + 1) ws ++ copy_of t xs k w.moment (done_of w.deed)) (by n (length ws)))
-    ∙ sym (append_assoc here (copies_from t xs (n + 1) ws) _)
+copies-more gs t xs n (v ∷ ws) w =
+    let here = copy_of t xs gs n v.moment (done_of v.deed) in
+    ap (λ (cs : List Written). here ++ cs) (copies-more gs t xs (n + 1) ws w ∙ ap (λ (k : ℕ). copies_from t xs gs (n + 1) ws ++ copy_of t xs gs k w.moment (done_of w.deed)) (by n (length ws)))
+    ∙ sym (append_assoc here (copies_from t xs gs (n + 1) ws) _)
   where
     by : (k i : ℕ) → (k + 1) + i ≡ k + suc i
     by k i = omega arith
 
--- Of the entry itself there is a copy where it is remembered.
+-- Of the entry itself there is a copy where it is one of these, or is remembered.
 
-abbrev pub copy_kept : ℕ → ℕ → ℕ → Option Kept → List Written
-copy_kept t n s None = []
-copy_kept t n s (Some k) = cond (still_kept t s k) ((copy_as n s k).written ∷ []) []
+abbrev pub written_of : ℕ → ℕ → Option Copy → List Written
+written_of n s None = []
+written_of n s (Some c) = (copy_as n s c).written ∷ []
 
 or-none : (a b : Bool) → b ≡ false → (a || b) ≡ a
 or-none true b e = refl
 or-none false b e = e
 
-written-if : (b : Bool) (n s : ℕ) (done : Done) → copy_if b n s done ≡ cond b (record { moment = s; deed = Carries n Past done } ∷ []) []
-written-if true n s done = refl
-written-if false n s done = refl
+module _ (gs : List ℕ) where
+  -- one of these
+  backed-copy : (t n s : ℕ) (xs : List Seen) (done : Done) → has gs n ≡ true
+      → copy_of t xs gs n s (Some done) ≡ record { moment = s; deed = Carries n D.Ground done } ∷ []
+  backed-copy t n s xs done e =
+      ap (λ (b : Bool). copy_if (cond b (Some D.Ground) (cond (is_remembered t xs n s done) (Some Past) None)) n s done) e
 
--- a first sending, which bears a timeout, and what was sent else
-sent-copy : (t n s : ℕ) (xs : List Seen) (p : Peer) (b : List ℕ) (w : Option ℕ) (c : Bool) → is_some w ≡ c → list_any (is_recent_seen t n) xs ≡ false
-    → copy_of t xs n s (Some (Sent p b w)) ≡ cond (c && ltb t (s + MESSAGE_ID_LIFETIME)) (record { moment = s; deed = Carries n Past (Sent p b w) } ∷ []) []
-sent-copy t n s xs p b w c e none =
-    ap (λ (v : Bool). copy_if v n s (Sent p b w))
-    (or-none (is_some w && ltb t (s + MESSAGE_ID_LIFETIME)) (list_any (is_recent_seen t n) xs) none ∙ ap (λ (v : Bool). v && ltb t (s + MESSAGE_ID_LIFETIME)) e)
-    ∙ written-if (c && ltb t (s + MESSAGE_ID_LIFETIME)) n s (Sent p b w)
+  backed-here : (f : ℕ → ℕ) (t n s : ℕ) (xs : List Seen) (d : Deed) (note : Note) → has gs n ≡ true
+      → copy_of t xs gs n s (done_of d) ≡ written_of n s (backing_copy f d note)
+  backed-here f t n s xs (Asks c a) note e = backed-copy t n s xs (Asked c a) e
+  backed-here f t n s xs (Sends p b w) (First o m) e = backed-copy t n s xs (Sent p b w) e
+  backed-here f t n s xs (Sends p b w) note e = backed-copy t n s xs (Sent p b w) e
+  backed-here f t n s xs (Hears p b) (Says m to notice) e = backed-copy t n s xs (Heard p b) e
+  backed-here f t n s xs (Hears p b) note e = backed-copy t n s xs (Heard p b) e
+  backed-here f t n s xs (Carries k mark (D.Sent p b w)) (First o m) e = backed-copy t n s xs (Sent p b w) e
+  backed-here f t n s xs (Carries k mark (D.Sent p b w)) (Bygone m) e = backed-copy t n s xs (Sent p b w) e
+  backed-here f t n s xs (Carries k mark (D.Sent p b w)) note e = backed-copy t n s xs (Sent p b w) e
+  backed-here f t n s xs (Carries k mark (D.Heard p b)) (Recalls m a) e = backed-copy t n s xs (Heard p b) e
+  backed-here f t n s xs (Carries k mark (D.Heard p b)) note e = backed-copy t n s xs (Heard p b) e
+  backed-here f t n s xs (Carries k mark (D.Asked c a)) note e = backed-copy t n s xs (Asked c a) e
+  backed-here f t n s xs d note e = refl
 
-heard-copy : (t n s : ℕ) (xs : List Seen) (q : Peer) (b : List ℕ) (m : Content) (a : Answered) (c : Bool) → Below n xs
-    → copy_of t (see_kept n s (if_such c (Hearing q b m a)) xs) n s (Some (Heard q b)) ≡ copy_kept t n s (if_such c (Hearing q b m a))
-heard-copy t n s xs q b m a true below =
-    ap (λ (v : Bool). copy_if v n s (Heard q b)) (rw (eqb-itself n) (or-none (ltb t (s + EXCHANGE_LIFETIME)) (list_any (is_recent_seen t n) xs) (none-recent-seen t n xs below)))
-    ∙ written-if (ltb t (s + EXCHANGE_LIFETIME)) n s (Heard q b)
-heard-copy t n s xs q b m a false below =
-    ap (λ (v : Bool). copy_if v n s (Heard q b)) (none-recent-seen t n xs below)
+  -- one that is remembered
+  past-copy : (t n s : ℕ) (xs : List Seen) (done : Done) → has gs n ≡ false
+      → copy_of t xs gs n s (Some done) ≡ cond (is_remembered t xs n s done) (record { moment = s; deed = Carries n Past done } ∷ []) []
+  past-copy t n s xs done e =
+      ap (λ (b : Bool). copy_if (cond b (Some D.Ground) (cond (is_remembered t xs n s done) (Some Past) None)) n s done) e
+      ∙ by (is_remembered t xs n s done)
+    where
+      by : (b : Bool) → copy_if (cond b (Some Past) None) n s done ≡ cond b (record { moment = s; deed = Carries n Past done } ∷ []) []
+      by true = refl
+      by false = refl
 
-unheard-copy : (t n s : ℕ) (xs : List Seen) (q : Peer) (b : List ℕ) → Below n xs → copy_of t xs n s (Some (Heard q b)) ≡ []
-unheard-copy t n s xs q b below = ap (λ (v : Bool). copy_if v n s (Heard q b)) (none-recent-seen t n xs below)
+  written-past : (n s : ℕ) (b : Bool) (k : Kept) → written_of n s (past_if b k) ≡ cond b ((copy_as n s (past_copy k)).written ∷ []) []
+  written-past n s true k = refl
+  written-past n s false k = refl
 
-copy-here : (t : ℕ) (l : List Noted) (s : ℕ) (d : Deed) (note : Note) (xs : List Seen) → Follows l s d note → Below (length l) xs
-    → copy_of t (see_kept (length l) s (kept_as d note) xs) (length l) s (done_of d) ≡ copy_kept t (length l) s (kept_as d note)
-copy-here t l s (Sends p b w) (First o m) xs f below =
-    sent-copy t (length l) s xs p b w true (ap is_some f.1.1.first_wait) (none-recent-seen t (length l) xs below)
-copy-here t l s (Sends p b w) (Copies i) xs f below =
-    sent-copy t (length l) s xs p b w false (ap is_some f.1.1) (none-recent-seen t (length l) xs below)
-copy-here t l s (Sends p b w) Confirms xs f below =
-    sent-copy t (length l) s xs p b w false (ap is_some f.1.0) (none-recent-seen t (length l) xs below)
-copy-here t l s (Sends p b w) note xs f below = absurd f.1
-copy-here t l s (Hears q b) (Says m to notice) xs f below = heard-copy t (length l) s xs q b m _ (is_such m.kind) below
-copy-here t l s (Hears q b) (Repeats m j) xs f below = unheard-copy t (length l) s xs q b below
-copy-here t l s (Hears q b) Garbled xs f below = unheard-copy t (length l) s xs q b below
-copy-here t l s (Hears q b) note xs f below = absurd f.3
-copy-here t l s (Carries k Past (D.Sent p b w)) (Bygone m) xs f below =
-    sent-copy t (length l) s xs p b w true f.2.first_wait (none-recent-seen t (length l) xs below)
-copy-here t l s (Carries k Past (D.Sent p b w)) note xs f below = absurd f.2
-copy-here t l s (Carries k D.Ground (D.Sent p b w)) note xs f below = absurd f.2
-copy-here t l s (Carries k Past (D.Heard q b)) (Recalls m a) xs f below = heard-copy t (length l) s xs q b m a (is_such m.kind) below
-copy-here t l s (Carries k Past (D.Heard q b)) note xs f below = absurd f.2
-copy-here t l s (Carries k D.Ground (D.Heard q b)) note xs f below = absurd f.2
-copy-here t l s (Carries k Past (D.Asked c a)) note xs f below = absurd f.2
-copy-here t l s (Carries k D.Ground (D.Asked c a)) note xs f below = absurd f.2
-copy-here t l s (Asks c a) note xs f below = ap (λ (v : Bool). copy_if v (length l) s (Asked c a)) (none-recent-seen t (length l) xs below)
-copy-here t l s d note xs f below = refl
+  -- a first sending, which bears a timeout, and what was sent else
+  sent-copy : (t n s : ℕ) (xs : List Seen) (p : Peer) (b : List ℕ) (w : Option ℕ) (c : Bool) → has gs n ≡ false → is_some w ≡ c → list_any (is_recent_seen t n) xs ≡ false
+      → copy_of t xs gs n s (Some (Sent p b w)) ≡ cond (c && ltb t (s + MESSAGE_ID_LIFETIME)) (record { moment = s; deed = Carries n Past (Sent p b w) } ∷ []) []
+  sent-copy t n s xs p b w c not e none =
+      past-copy t n s xs (Sent p b w) not
+      ∙ ap (λ (v : Bool). cond v (record { moment = s; deed = Carries n Past (Sent p b w) } ∷ []) [])
+      (or-none (is_some w && ltb t (s + MESSAGE_ID_LIFETIME)) (list_any (is_recent_seen t n) xs) none ∙ ap (λ (v : Bool). v && ltb t (s + MESSAGE_ID_LIFETIME)) e)
 
-entries-cons : (b : Bool) (n s : ℕ) (k : Kept) (l : List Noted) → entries (cons_if b (copy_as n s k) l) ≡ entries l ++ cond b ((copy_as n s k).written ∷ []) []
-entries-cons true n s k l = refl
-entries-cons false n s k l = sym (append-nil (entries l))
+  first-copy : (t n s : ℕ) (xs : List Seen) (p : Peer) (b : List ℕ) (w : Option ℕ) (m : Content) → has gs n ≡ false → is_some w ≡ true → list_any (is_recent_seen t n) xs ≡ false
+      → copy_of t xs gs n s (Some (Sent p b w)) ≡ written_of n s (past_of t s (Some (Sending p b w m)))
+  first-copy t n s xs p b w m not e none =
+      sent-copy t n s xs p b w true not e none ∙ sym (written-past n s (ltb t (s + MESSAGE_ID_LIFETIME)) (Sending p b w m))
 
-entries-add : (t n s : ℕ) (k : Option Kept) (l : List Noted) → entries (add_kept t n s k l) ≡ entries l ++ copy_kept t n s k
-entries-add t n s None l = sym (append-nil (entries l))
-entries-add t n s (Some k) l = entries-cons (still_kept t s k) n s k l
+  heard-copy : (t n s : ℕ) (xs : List Seen) (q : Peer) (b : List ℕ) (m : Content) (a : Answered) (c : Bool) → has gs n ≡ false → Below n xs
+      → copy_of t (see_kept n s (if_such c (Hearing q b m a)) xs) gs n s (Some (Heard q b)) ≡ written_of n s (past_of t s (if_such c (Hearing q b m a)))
+  heard-copy t n s xs q b m a true not below =
+      past-copy t n s (see_kept n s (Some (Hearing q b m a)) xs) (Heard q b) not
+      ∙ (ap (λ (v : Bool). cond v (record { moment = s; deed = Carries n Past (Heard q b) } ∷ []) [])
+      (rw (eqb-itself n) (or-none (ltb t (s + EXCHANGE_LIFETIME)) (list_any (is_recent_seen t n) xs) (none-recent-seen t n xs below)))
+      ∙ sym (written-past n s (ltb t (s + EXCHANGE_LIFETIME)) (Hearing q b m a)))
+  heard-copy t n s xs q b m a false not below =
+      past-copy t n s xs (Heard q b) not
+      ∙ ap (λ (v : Bool). cond v (record { moment = s; deed = Carries n Past (Heard q b) } ∷ []) []) (none-recent-seen t n xs below)
 
-pub entries-copied : (t : ℕ) (l : List Noted) → Legal l → entries (copied t l) ≡ copies t (entries l)
-entries-copied t [] legal = refl
-entries-copied t (x ∷ older) legal =
-    entries-add t (length older) s k (copied t older)
-    ∙ (ap (λ (ws : List Written). ws ++ copy_kept t (length older) s k) (entries-copied t older legal.0)
-    ∙ sym (ap (λ (xs : List Seen). copies_from t xs 0 (entries older ++ x.written ∷ [])) (seen-kept x older legal)
-    ∙ (copies-more t (see_kept (length older) s k xs) 0 (entries older) x.written
-    ∙ (ap (λ (ws : List Written). ws ++ copy_of t (see_kept (length older) s k xs) (0 + length (entries older)) s (done_of x.written.deed))
-    (copies-later t 0 (length older) s k xs (entries older) (let same = entries-length older in omega (arith, same)))
-    ∙ ap (λ (ws : List Written). copies t (entries older) ++ ws)
-    (ap (λ (n : ℕ). copy_of t (see_kept (length older) s k xs) n s (done_of x.written.deed)) (from-none (length (entries older)) (length older) (entries-length older))
-    ∙ copy-here t older s x.written.deed x.note xs legal.2 (below-seen older legal.0))))))
-  where
-    s : ℕ
-    s = x.written.moment
+  unheard-copy : (t n s : ℕ) (xs : List Seen) (q : Peer) (b : List ℕ) → has gs n ≡ false → Below n xs → copy_of t xs gs n s (Some (Heard q b)) ≡ []
+  unheard-copy t n s xs q b not below =
+      past-copy t n s xs (Heard q b) not
+      ∙ ap (λ (v : Bool). cond v (record { moment = s; deed = Carries n Past (Heard q b) } ∷ []) []) (none-recent-seen t n xs below)
 
-    k : Option Kept
-    k = kept_as x.written.deed x.note
+  unasked-copy : (t n s : ℕ) (xs : List Seen) (c : ℕ) (a : Ask) → has gs n ≡ false → Below n xs → copy_of t xs gs n s (Some (Asked c a)) ≡ []
+  unasked-copy t n s xs c a not below =
+      past-copy t n s xs (Asked c a) not
+      ∙ ap (λ (v : Bool). cond v (record { moment = s; deed = Carries n Past (Asked c a) } ∷ []) []) (none-recent-seen t n xs below)
 
-    xs : List Seen
-    xs = seen (entries older)
+  past-here : (t : ℕ) (l : List Noted) (s : ℕ) (d : Deed) (note : Note) (xs : List Seen) → has gs (length l) ≡ false → Follows l s d note → Below (length l) xs
+      → copy_of t (see_kept (length l) s (kept_as d note) xs) gs (length l) s (done_of d) ≡ written_of (length l) s (past_of t s (kept_as d note))
+  past-here t l s (Sends p b w) (First o m) xs not f below =
+      first-copy t (length l) s xs p b w m not (ap is_some f.1.1.first_wait) (none-recent-seen t (length l) xs below)
+  past-here t l s (Sends p b w) (Copies i) xs not f below =
+      sent-copy t (length l) s xs p b w false not (ap is_some f.1.1) (none-recent-seen t (length l) xs below)
+  past-here t l s (Sends p b w) Confirms xs not f below =
+      sent-copy t (length l) s xs p b w false not (ap is_some f.1.0) (none-recent-seen t (length l) xs below)
+  past-here t l s (Sends p b w) note xs not f below = absurd f.1
+  past-here t l s (Hears q b) (Says m to notice) xs not f below = heard-copy t (length l) s xs q b m _ (is_such m.kind) not below
+  past-here t l s (Hears q b) (Repeats m j) xs not f below = unheard-copy t (length l) s xs q b not below
+  past-here t l s (Hears q b) Garbled xs not f below = unheard-copy t (length l) s xs q b not below
+  past-here t l s (Hears q b) note xs not f below = absurd f.3
+  past-here t l s (Carries k Past (D.Sent p b w)) (Bygone m) xs not f below =
+      first-copy t (length l) s xs p b w m not f.2.first_wait (none-recent-seen t (length l) xs below)
+  past-here t l s (Carries k D.Ground (D.Sent p b w)) (First o m) xs not f below =
+      first-copy t (length l) s xs p b w m not f.2.0.first_wait (none-recent-seen t (length l) xs below)
+  past-here t l s (Carries k Past (D.Sent p b w)) note xs not f below = absurd f.2
+  past-here t l s (Carries k D.Ground (D.Sent p b w)) note xs not f below = absurd f.2
+  past-here t l s (Carries k Past (D.Heard q b)) (Recalls m a) xs not f below = heard-copy t (length l) s xs q b m a (is_such m.kind) not below
+  past-here t l s (Carries k D.Ground (D.Heard q b)) (Recalls m a) xs not f below = heard-copy t (length l) s xs q b m a (is_such m.kind) not below
+  past-here t l s (Carries k Past (D.Heard q b)) note xs not f below = absurd f.2
+  past-here t l s (Carries k D.Ground (D.Heard q b)) note xs not f below = absurd f.2
+  past-here t l s (Carries k mark (D.Asked c a)) note xs not f below = unasked-copy t (length l) s xs c a not below
+  past-here t l s (Asks c a) note xs not f below = unasked-copy t (length l) s xs c a not below
+  past-here t l s d note xs not f below = refl
+
+  copy-here : (f : ℕ → ℕ) (t : ℕ) (l : List Noted) (s : ℕ) (d : Deed) (note : Note) (xs : List Seen) (b : Bool) → has gs (length l) ≡ b → Follows l s d note → Below (length l) xs
+      → copy_of t (see_kept (length l) s (kept_as d note) xs) gs (length l) s (done_of d) ≡ written_of (length l) s (copy_by b f t s d note)
+  copy-here f t l s d note xs true is follows below = backed-here f t (length l) s (see_kept (length l) s (kept_as d note) xs) d note is
+  copy-here f t l s d note xs false is follows below = past-here t l s d note xs is follows below
+
+  pub entries-add : (n s : ℕ) (o : Option Copy) (l : List Noted) → entries (add_copy n s o l) ≡ entries l ++ written_of n s o
+  entries-add n s None l = sym (append-nil (entries l))
+  entries-add n s (Some c) l = refl
+
+  pub entries-copied : (f : ℕ → ℕ) (t : ℕ) (l : List Noted) → Legal l → entries (copied f gs t l) ≡ copies_with t (entries l) gs
+  entries-copied f t [] legal = refl
+  entries-copied f t (x ∷ older) legal =
+      entries-add (length older) s o (copied f gs t older)
+      ∙ (ap (λ (ws : List Written). ws ++ written_of (length older) s o) (entries-copied f t older legal.0)
+      ∙ sym (ap (λ (xs : List Seen). copies_from t xs gs 0 (entries older ++ x.written ∷ [])) (seen-kept x older legal)
+      ∙ (copies-more gs t (see_kept (length older) s k xs) 0 (entries older) x.written
+      ∙ (ap (λ (ws : List Written). ws ++ copy_of t (see_kept (length older) s k xs) gs (0 + length (entries older)) s (done_of x.written.deed))
+      (copies-later gs t 0 (length older) s k xs (entries older) (let same = entries-length older in omega (arith, same)))
+      ∙ ap (λ (ws : List Written). copies_with t (entries older) gs ++ ws)
+      (ap (λ (n : ℕ). copy_of t (see_kept (length older) s k xs) gs n s (done_of x.written.deed)) (from-none (length (entries older)) (length older) (entries-length older))
+      ∙ copy-here f t older s x.written.deed x.note xs (has gs (length older)) refl legal.2 (below-seen older legal.0))))))
+    where
+      s : ℕ
+      s = x.written.moment
+
+      o : Option Copy
+      o = copy_in f gs t (length older) x
+
+      k : Option Kept
+      k = kept_in x
+
+      xs : List Seen
+      xs = seen (entries older)

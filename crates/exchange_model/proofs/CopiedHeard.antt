@@ -16,8 +16,8 @@ use Rattle.history_laws.specs.Hearing.{is_such, is_live, is_like, heard_before, 
 use Rattle.history_laws.specs.Confirming.{answered, answered_as, answer_kind}
 use Rattle.history_laws.proofs.CallerLemmas.{at-cases, at-new}
 use Rattle.history_links.specs.Agrees.{reply_of}
-use Rattle.exchange_model.proofs.Shapes.{Kept, Sending, Hearing, if_such, kept_as, still_kept, copy_as, live_as, live-as, bears_as, like-as, answered_as as answered_of}
-use Rattle.exchange_model.proofs.Copies.{cons_if, add_kept, copied, IsSuch, such-as, like_as, like-copy, live-copy}
+use Rattle.exchange_model.proofs.Shapes.{Kept, Sending, Hearing, Copy, if_such, kept_as, kept_of, still_kept, copy_as, kept-copy, moment-copy, Fits, live_as, live-as, bears_as, like-as, answered_as as answered_of}
+use Rattle.exchange_model.proofs.Copies.{add_copy, copied, copy_in, fits-in, kept_in, like_as, live-copy}
 
 -- how one that is heard again is answered
 abbrev pub answers_in : List Noted → ℕ → Reply
@@ -99,15 +99,12 @@ found-so x l u p mid = by (is_like u p mid x) refl
         found-entry x l u p mid false e
         ∙ ap (λ (b : Bool). cond b (Some (reply_as (kept_as x.written.deed x.note))) (found_in l u p mid)) (sym e ∙ same)
 
-found-copy : (n s : ℕ) (k : Kept) (l : List Noted) (u : ℕ) (p : Peer) (mid : ℕ) → IsSuch (Some k)
-    → found_in (copy_as n s k ∷ l) u p mid ≡ found_as u p mid s (Some k) (found_in l u p mid)
-found-copy n s (Sending q b w m) l u p mid such = found-entry (copy_as n s (Sending q b w m)) l u p mid false refl
-found-copy n s (Hearing q b m a) l u p mid such = by (like_as u p mid s (Some (Hearing q b m a))) (like-copy u p mid n s (Hearing q b m a) such)
-  where
-    by : (b' : Bool) → is_like u p mid (copy_as n s (Hearing q b m a)) ≡ b'
-        → found_in (copy_as n s (Hearing q b m a) ∷ l) u p mid ≡ cond b' (Some (reply_of (answer_kind a))) (found_in l u p mid)
-    by true e = found-entry (copy_as n s (Hearing q b m a)) l u p mid true e
-    by false e = found-entry (copy_as n s (Hearing q b m a)) l u p mid false e
+found-copy : (n s : ℕ) (c : Copy) (l : List Noted) (u : ℕ) (p : Peer) (mid : ℕ)
+    → found_in (copy_as n s c ∷ l) u p mid ≡ found_as u p mid s (kept_of c) (found_in l u p mid)
+found-copy n s c l u p mid =
+    found-so (copy_as n s c) l u p mid
+    ∙ (ap (λ (v : ℕ). found_as u p mid v (kept_in (copy_as n s c)) (found_in l u p mid)) (moment-copy n s c)
+    ∙ ap (λ (k : Option Kept). found_as u p mid s k (found_in l u p mid)) (kept-copy n s c))
 
 -- What may be repeated later is kept.
 kept-live : (t u s : ℕ) (p : Peer) (k : Kept) → t ≤ u → live_as u p s (Some k) ≡ true → still_kept t s k ≡ true
@@ -120,60 +117,43 @@ kept-live t u s p (Hearing q b m a) later e =
     second true b e = e
     second false b e = absurd (false≢true e)
 
-found-cons : (t u : ℕ) (p : Peer) (mid n s : ℕ) (k : Kept) (l : List Noted) → t ≤ u → IsSuch (Some k)
-    → found_in (cons_if (still_kept t s k) (copy_as n s k) l) u p mid ≡ found_as u p mid s (Some k) (found_in l u p mid)
-found-cons t u p mid n s k l later such = by (still_kept t s k) refl
+none-live : (t u s : ℕ) (p : Peer) (k : Option Kept) → t ≤ u → Fits t s None k → live_as u p s k ≡ false
+none-live t u s p None later fits = refl
+none-live t u s p (Some k) later fits = by (live_as u p s (Some k)) refl
   where
-    none : (b : Bool) → live_as u p s (Some k) ≡ b → still_kept t s k ≡ false → b ≡ false
-    none true e gone = absurd (false≢true (sym gone ∙ kept-live t u s p k later e))
-    none false e gone = refl
+    by : (b : Bool) → live_as u p s (Some k) ≡ b → b ≡ false
+    by true e = absurd (false≢true (sym (fits k refl) ∙ kept-live t u s p k later e))
+    by false e = refl
 
-    by : (b : Bool) → still_kept t s k ≡ b → found_in (cons_if b (copy_as n s k) l) u p mid ≡ found_as u p mid s (Some k) (found_in l u p mid)
-    by true e = found-copy n s k l u p mid such
-    by false e =
-        let dead : live_as u p s (Some k) ≡ false = none (live_as u p s (Some k)) refl e in
-        sym (ap (λ (b : Bool). cond (b && bears_as mid (Some k)) (Some (reply_as (Some k))) (found_in l u p mid)) dead)
+found-add : (t u : ℕ) (p : Peer) (mid n s : ℕ) (o : Option Copy) (k : Option Kept) (l : List Noted) → t ≤ u → Fits t s o k
+    → found_in (add_copy n s o l) u p mid ≡ found_as u p mid s k (found_in l u p mid)
+found-add t u p mid n s None k l later fits =
+    sym (ap (λ (b : Bool). cond (b && bears_as mid k) (Some (reply_as k)) (found_in l u p mid)) (none-live t u s p k later fits))
+found-add t u p mid n s (Some c) k l later fits =
+    found-copy n s c l u p mid ∙ ap (λ (k : Option Kept). found_as u p mid s k (found_in l u p mid)) fits
 
-found-add : (t u : ℕ) (p : Peer) (mid n s : ℕ) (k : Option Kept) (l : List Noted) → t ≤ u → IsSuch k
-    → found_in (add_kept t n s k l) u p mid ≡ found_as u p mid s k (found_in l u p mid)
-found-add t u p mid n s None l later such = refl
-found-add t u p mid n s (Some k) l later such = found-cons t u p mid n s k l later such
-
-pub found-copied : (t u : ℕ) (p : Peer) (mid : ℕ) (l : List Noted) → t ≤ u → found_in (copied t l) u p mid ≡ found_in l u p mid
-found-copied t u p mid [] later = refl
-found-copied t u p mid (x ∷ older) later =
-    let k = kept_as x.written.deed x.note in
-    found-add t u p mid (length older) x.written.moment k (copied t older) later (such-as x.written.deed x.note)
-    ∙ (ap (found_as u p mid x.written.moment k) (found-copied t u p mid older later) ∙ sym (found-so x older u p mid))
+module _ (f : ℕ → ℕ) (gs : List ℕ) where
+  pub found-copied : (t u : ℕ) (p : Peer) (mid : ℕ) (l : List Noted) → t ≤ u → found_in (copied f gs t l) u p mid ≡ found_in l u p mid
+  found-copied t u p mid [] later = refl
+  found-copied t u p mid (x ∷ older) later =
+      found-add t u p mid (length older) x.written.moment (copy_in f gs t (length older) x) (kept_in x) (copied f gs t older) later (fits-in f gs t (length older) x)
+      ∙ (ap (found_as u p mid x.written.moment (kept_in x)) (found-copied t u p mid older later) ∙ sym (found-so x older u p mid))
 
 -- As many may be repeated.
 
 abbrev pub count_as : ℕ → Peer → ℕ → Option Kept → ℕ → ℕ
 count_as u p s k old = cond (live_as u p s k) (old + 1) old
 
-count-cons : (t u : ℕ) (p : Peer) (n s : ℕ) (k : Kept) (l : List Noted) → t ≤ u → IsSuch (Some k)
-    → live_heard (cons_if (still_kept t s k) (copy_as n s k) l) u p ≡ count_as u p s (Some k) (live_heard l u p)
-count-cons t u p n s k l later such = by (still_kept t s k) refl
-  where
-    none : (b : Bool) → live_as u p s (Some k) ≡ b → still_kept t s k ≡ false → b ≡ false
-    none true e gone = absurd (false≢true (sym gone ∙ kept-live t u s p k later e))
-    none false e gone = refl
+count-add : (t u : ℕ) (p : Peer) (n s : ℕ) (o : Option Copy) (k : Option Kept) (l : List Noted) → t ≤ u → Fits t s o k
+    → live_heard (add_copy n s o l) u p ≡ count_as u p s k (live_heard l u p)
+count-add t u p n s None k l later fits = sym (ap (λ (b : Bool). cond b (live_heard l u p + 1) (live_heard l u p)) (none-live t u s p k later fits))
+count-add t u p n s (Some c) k l later fits =
+    ap (λ (b : Bool). cond b (live_heard l u p + 1) (live_heard l u p)) (live-copy u p n s c ∙ ap (live_as u p s) fits)
 
-    by : (b : Bool) → still_kept t s k ≡ b → live_heard (cons_if b (copy_as n s k) l) u p ≡ count_as u p s (Some k) (live_heard l u p)
-    by true e = ap (λ (b : Bool). cond b (live_heard l u p + 1) (live_heard l u p)) (live-copy u p n s k such)
-    by false e =
-        let dead : live_as u p s (Some k) ≡ false = none (live_as u p s (Some k)) refl e in
-        sym (ap (λ (b : Bool). cond b (live_heard l u p + 1) (live_heard l u p)) dead)
-
-count-add : (t u : ℕ) (p : Peer) (n s : ℕ) (k : Option Kept) (l : List Noted) → t ≤ u → IsSuch k
-    → live_heard (add_kept t n s k l) u p ≡ count_as u p s k (live_heard l u p)
-count-add t u p n s None l later such = refl
-count-add t u p n s (Some k) l later such = count-cons t u p n s k l later such
-
-pub live-copied : (t u : ℕ) (p : Peer) (l : List Noted) → t ≤ u → live_heard (copied t l) u p ≡ live_heard l u p
-live-copied t u p [] later = refl
-live-copied t u p (x ∷ older) later =
-    let k = kept_as x.written.deed x.note in
-    count-add t u p (length older) x.written.moment k (copied t older) later (such-as x.written.deed x.note)
-    ∙ (ap (count_as u p x.written.moment k) (live-copied t u p older later)
-    ∙ sym (ap (λ (b : Bool). cond b (live_heard older u p + 1) (live_heard older u p)) (live-as u p x.written.moment x.written.deed x.note)))
+module _ (f : ℕ → ℕ) (gs : List ℕ) where
+  pub live-copied : (t u : ℕ) (p : Peer) (l : List Noted) → t ≤ u → live_heard (copied f gs t l) u p ≡ live_heard l u p
+  live-copied t u p [] later = refl
+  live-copied t u p (x ∷ older) later =
+      count-add t u p (length older) x.written.moment (copy_in f gs t (length older) x) (kept_in x) (copied f gs t older) later (fits-in f gs t (length older) x)
+      ∙ (ap (count_as u p x.written.moment (kept_in x)) (live-copied t u p older later)
+      ∙ sym (ap (λ (b : Bool). cond b (live_heard older u p + 1) (live_heard older u p)) (live-as u p x.written.moment x.written.deed x.note)))

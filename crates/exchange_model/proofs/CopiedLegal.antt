@@ -1,86 +1,206 @@
 -- The copies of a legal history are a legal one.
-use Rattle.std.proofs.Common.{◌≡◌, ℕ, ◌+◌, ◌≤◌, Bool, true, false, ◌&&◌, cond, eqb, ltb, List, [], ◌∷◌, length, Option, Some, None, is_some, refl, ap, subst, arith}
+use Rattle.std.proofs.Common.{◌≡◌, ℕ, ◌+◌, ◌≤◌, Bool, true, false, ◌&&◌, cond, eqb, ltb, List, [], ◌∷◌, length, Option, Some, None, is_some, refl, ap, arith}
+use Rattle.std.specs.Prelude.{not, ◌||◌}
 use Rattle.std.specs.Str.{bytes_eq}
 use Rattle.std.proofs.lemmas.Bool.{ltb-true, lt-ltb}
 use Rattle.limits.specs.declared.TheConstants.{MESSAGE_ID_LIFETIME, MAX_REMEMBERED}
-use Rattle.coap_codec.specs.Spelling.{Content}
+use Rattle.coap_codec.specs.Spelling.{Content, Spells}
 use Rattle.uri_map.specs.declared.peer.Peer.{Peer}
 use Rattle.uri_map.specs.Peers.{same_peer}
-use Rattle.journal_book.specs.Entries.{Mark, Past, Deed, Sends, Hears, Carries}
+use Rattle.ask_model.specs.Views.{Ask}
+use Rattle.journal_book.specs.Entries.{Mark, Past, Deed, Asks, Sends, Hears, Carries}
 use Rattle.journal_book.specs.Entries as D
-use Rattle.history_laws.specs.Readings.{Noted, Note, First, Says, Bygone, Recalls, Answered, newest}
-use Rattle.history_laws.specs.Hearing.{is_such, heard_before, live_heard, repeated}
-use Rattle.history_laws.specs.Justified.{Follows, Legal, IsApart, MayRecall}
-use Rattle.history_laws.proofs.CallerLemmas.{none-some, some-is}
-use Rattle.exchange_model.proofs.Shapes.{Kept, Sending, Hearing, if_such, kept_as, still_kept, copy_as}
-use Rattle.exchange_model.proofs.Copies.{cons_if, add_kept, copied, all-copies, newest-copied, below-copied, none-copied, unheard-copied, few-copied}
+use Rattle.history_laws.specs.Readings.{Noted, Note, Plain, First, Says, Bygone, Recalls, Answered, newest, are_copies}
+use Rattle.history_laws.specs.Hearing.{is_such, heard_before, live_heard, repeated, can_be_remembered}
+use Rattle.history_laws.specs.Justified.{Follows, Legal, IsApart, MayRecall, CopiedNote, copied_below}
+use Rattle.exchange_model.specs.Rotating.{has}
+use Rattle.history_laws.specs.Confirming.{answered}
+use Rattle.exchange_model.proofs.Shapes.{answered_as, Kept, Sending, Hearing, Copy, Sent, Aimed, Heard, Bare, if_such, kept_as, copy_as, copy_by, backing_copy, past_if, past_of}
+use Rattle.exchange_model.proofs.Copies.{add_copy, copied, copy_in, all-copies, newest-copied, below-copied, none-copied, unheard-copied, few-copied}
+use Rattle.exchange_model.proofs.Backed.{AreBacked, ArePlaced, BackedAsk, BackedEntry, BackedReply, BackedSending, carried-back, carried-copied}
+use Rattle.exchange_model.proofs.BackedFirsts.{moved, replied-copied, RepliedCopy}
 
 -- what a copy owes
-abbrev pub OwedAs : List Noted → ℕ → Kept → Type 0
-OwedAs l s (Sending p b w m) = IsApart l s p b m w
-OwedAs l s (Hearing p b m a) = MayRecall l s p b m
+abbrev pub OwesAs : List Noted → ℕ → Copy → Type 0
+OwesAs l s (Sent mark p b w m) = CopiedNote l s mark (D.Sent p b w) (Bygone m)
+OwesAs l s (Aimed p b w o m) = CopiedNote l s D.Ground (D.Sent p b w) (First o m)
+OwesAs l s (Heard mark p b m a) = CopiedNote l s mark (D.Heard p b) (Recalls m a)
+OwesAs l s (Bare done) = CopiedNote l s D.Ground done Plain
 
-owed-some : (l : List Noted) (s : ℕ) (k j : Kept) → OwedAs l s k → Some k ≡ Some j → OwedAs l s j
-owed-some l s k j h e = subst (OwedAs l s) (some-is k j e) h
+abbrev pub Owes : List Noted → ℕ → Option Copy → Type 0
+Owes l s None = Unit {0}
+Owes l s (Some c) = OwesAs l s c
 
-owed-such : (l : List Noted) (s : ℕ) (p : Peer) (bytes : List ℕ) (m : Content) (a : Answered) (j : Kept) (b : Bool) → is_such m.kind ≡ b
-    → (is_such m.kind ≡ true → MayRecall l s p bytes m) → if_such b (Hearing p bytes m a) ≡ Some j → OwedAs l s j
-owed-such l s p bytes m a j true such h e = owed-some l s (Hearing p bytes m a) j (h such) e
-owed-such l s p bytes m a j false such h e = absurd (none-some j e)
+-- what was heard, and repeats nothing, and can be remembered
+pub record IsNew (l : List Noted) (s : ℕ) (p : Peer) (bytes : List ℕ) (m : Content) : Type 0 where
+  pub spelled : Spells m bytes
+  pub unheard : repeated l s p m ≡ None
+  pub remembered : can_be_remembered l s p m ≡ true
 
 -- What is remembered of an entry was apart, or new, where it came.
-owed-of : (l : List Noted) (s : ℕ) (d : Deed) (note : Note) (k : Kept) → Follows l s d note → kept_as d note ≡ Some k → OwedAs l s k
-owed-of l s (Sends p b w) (First o m) k f e =
+
+abbrev pub WasOwed : List Noted → ℕ → Kept → Type 0
+WasOwed l s (Sending p b w m) = IsApart l s p b m w
+WasOwed l s (Hearing p b m a) = IsNew l s p b m
+
+apart-of : (l : List Noted) (s : ℕ) (p : Peer) (b : List ℕ) (w : Option ℕ) (o : ℕ) (m : Content) → Follows l s (Sends p b w) (First o m) → IsApart l s p b m w
+apart-of l s p b w o m f =
     let may = f.1.1 in
-    owed-some l s (Sending p b w m) k (record { spelled = may.spelled; token_size = may.token_size; token_apart = may.token_apart; mid_apart = may.mid_apart; first_wait = ap is_some may.first_wait }) e
-owed-of l s (Hears p b) (Says m to notice) k f e =
-    let may = f.3 in
-    owed-such l s p b m _ k (is_such m.kind) refl (λ such. record { spelled = may.spelled; such = such; unheard = may.unheard; remembered = may.remembered }) e
-owed-of l s (Carries n Past (D.Sent p b w)) (Bygone m) k f e = owed-some l s (Sending p b w m) k f.2 e
-owed-of l s (Carries n Past (D.Heard p b)) (Recalls m a) k f e = owed-such l s p b m a k (is_such m.kind) refl (λ such. f.2) e
-owed-of l s (Carries n D.Ground (D.Sent p b w)) (Bygone m) k f e = absurd f.2
-owed-of l s (Carries n D.Ground (D.Heard p b)) (Recalls m a) k f e = absurd f.2
-owed-of l s d note k f e = absurd (none-some k e)
+    record { spelled = may.spelled; token_size = may.token_size; token_apart = may.token_apart; mid_apart = may.mid_apart; first_wait = ap is_some may.first_wait }
 
 -- Among the copies it is so still.
+module _ (f : ℕ → ℕ) (gs : List ℕ) (t : ℕ) where
+  apart-copied : (l : List Noted) (s : ℕ) (p : Peer) (b : List ℕ) (m : Content) (w : Option ℕ) → IsApart l s p b m w → IsApart (copied f gs t l) s p b m w
+  apart-copied l s p b m w h = record {
+    spelled = h.spelled;
+    token_size = h.token_size;
+    token_apart = none-copied (λ u q n. bytes_eq n.token m.token) f gs t l h.token_apart;
+    mid_apart = none-copied (λ u q n. (same_peer q p && ltb s (u + MESSAGE_ID_LIFETIME)) && eqb n.mid m.mid) f gs t l h.mid_apart;
+    first_wait = h.first_wait;
+  }
 
-unheard-of : (l : List Noted) (s : ℕ) (p : Peer) (m : Content) → is_such m.kind ≡ true → repeated l s p m ≡ None → heard_before l s p m.mid ≡ None
-unheard-of l s p m such e = subst (λ (b : Bool). cond b (heard_before l s p m.mid) None ≡ None) such e
+  still-unheard : (l : List Noted) (s : ℕ) (p : Peer) (m : Content) → repeated l s p m ≡ None → repeated (copied f gs t l) s p m ≡ None
+  still-unheard l s p m e = by (is_such m.kind) e
+    where
+      by : (b : Bool) → cond b (heard_before l s p m.mid) None ≡ None → cond b (heard_before (copied f gs t l) s p m.mid) None ≡ None
+      by true e = unheard-copied s p m.mid f gs t l e
+      by false e = refl
 
-owed-copied : (t : ℕ) (l : List Noted) (s : ℕ) (k : Kept) → OwedAs l s k → OwedAs (copied t l) s k
-owed-copied t l s (Sending p b w m) h = record {
-  spelled = h.spelled;
-  token_size = h.token_size;
-  token_apart = none-copied (λ u q n. bytes_eq n.token m.token) t l h.token_apart;
-  mid_apart = none-copied (λ u q n. (same_peer q p && ltb s (u + MESSAGE_ID_LIFETIME)) && eqb n.mid m.mid) t l h.mid_apart;
-  first_wait = h.first_wait;
-}
-owed-copied t l s (Hearing p b m a) h = record {
-  spelled = h.spelled;
-  such = h.such;
-  unheard = rw (h.such) (unheard-copied s p m.mid t l (unheard-of l s p m h.such h.unheard));
-  remembered =
-      let fewer = few-copied s p t l in
-      let room : ltb (live_heard l s p) MAX_REMEMBERED ≡ true = rw (h.such) at h.remembered in
-      let few = ltb-true (live_heard l s p) MAX_REMEMBERED room in
-      rw (h.such) (lt-ltb (live_heard (copied t l) s p) MAX_REMEMBERED (omega (arith, fewer, few)));
-}
+  still-room : (l : List Noted) (s : ℕ) (p : Peer) (m : Content) → can_be_remembered l s p m ≡ true → can_be_remembered (copied f gs t l) s p m ≡ true
+  still-room l s p m e = by (is_such m.kind) e
+    where
+      by : (b : Bool) → (not b || ltb (live_heard l s p) MAX_REMEMBERED) ≡ true → (not b || ltb (live_heard (copied f gs t l) s p) MAX_REMEMBERED) ≡ true
+      by true e =
+          let fewer = few-copied s p f gs t l in
+          let few = ltb-true (live_heard l s p) MAX_REMEMBERED e in
+          lt-ltb (live_heard (copied f gs t l) s p) MAX_REMEMBERED (omega (arith, fewer, few))
+      by false e = refl
 
-legal-cons : (t : ℕ) (l : List Noted) (s : ℕ) (k : Kept) (b : Bool) → Legal (copied t l) → newest (copied t l) ≤ s → OwedAs (copied t l) s k
-    → Legal (cons_if b (copy_as (length l) s k) (copied t l))
-legal-cons t l s (Sending p b w m) true legal later h = (legal, later, (all-copies t l, below-copied t l, h))
-legal-cons t l s (Hearing p b m a) true legal later h = (legal, later, (all-copies t l, below-copied t l, h))
-legal-cons t l s k false legal later h = legal
+  recall-copied : (l : List Noted) (s : ℕ) (p : Peer) (b : List ℕ) (m : Content) → is_such m.kind ≡ true → IsNew l s p b m → MayRecall (copied f gs t l) s p b m
+  recall-copied l s p b m such h = record {
+    spelled = h.spelled;
+    such = such;
+    unheard = still-unheard l s p m h.unheard;
+    remembered = still-room l s p m h.remembered;
+  }
 
-legal-add : (t : ℕ) (l : List Noted) (s : ℕ) (k : Option Kept) → Legal (copied t l) → newest (copied t l) ≤ s → ((j : Kept) → k ≡ Some j → OwedAs (copied t l) s j)
-    → Legal (add_kept t (length l) s k (copied t l))
-legal-add t l s None legal later h = legal
-legal-add t l s (Some k) legal later h = legal-cons t l s k (still_kept t s k) legal later (h k refl)
+  -- What is remembered alone,
 
-pub legal-copied : (t : ℕ) (l : List Noted) → Legal l → Legal (copied t l)
-legal-copied t [] legal = tt
-legal-copied t (x ∷ older) legal =
-    let early = newest-copied t older legal.0 in
-    let later = legal.1 in
-    legal-add t older x.written.moment (kept_as x.written.deed x.note) (legal-copied t older legal.0) (omega (arith, early, later))
-    (λ k e. owed-copied t older x.written.moment k (owed-of older x.written.moment x.written.deed x.note k legal.2 e))
+  past-such : (l : List Noted) (s : ℕ) (p : Peer) (b : List ℕ) (m : Content) (a : Answered) → IsNew l s p b m → (c : Bool) → is_such m.kind ≡ c
+      → Owes (copied f gs t l) s (past_of t s (if_such c (Hearing p b m a)))
+  past-such l s p b m a h true such = by (ltb t (s + 247000))
+    where
+      by : (v : Bool) → Owes (copied f gs t l) s (past_if v (Hearing p b m a))
+      by true = recall-copied l s p b m such h
+      by false = tt
+  past-such l s p b m a h false such = tt
+
+  past-sent : (l : List Noted) (s : ℕ) (p : Peer) (b : List ℕ) (w : Option ℕ) (m : Content) → IsApart l s p b m w
+      → Owes (copied f gs t l) s (past_of t s (Some (Sending p b w m)))
+  past-sent l s p b w m h = by (ltb t (s + MESSAGE_ID_LIFETIME))
+    where
+      by : (v : Bool) → Owes (copied f gs t l) s (past_if v (Sending p b w m))
+      by true = apart-copied l s p b m w h
+      by false = tt
+
+  past-owes : (l : List Noted) (s : ℕ) (d : Deed) (note : Note) → Follows l s d note → Owes (copied f gs t l) s (past_of t s (kept_as d note))
+  past-owes l s (Sends p b w) (First o m) h = past-sent l s p b w m (apart-of l s p b w o m h)
+  past-owes l s (Sends p b w) note h = tt
+  past-owes l s (Hears p b) (Says m to notice) h =
+      let may = h.3 in
+      past-such l s p b m _ (record { spelled = may.spelled; unheard = may.unheard; remembered = may.remembered }) (is_such m.kind) refl
+  past-owes l s (Hears p b) note h = tt
+  past-owes l s (Carries n Past (D.Sent p b w)) (Bygone m) h = past-sent l s p b w m h.2
+  past-owes l s (Carries n D.Ground (D.Sent p b w)) (First o m) h = past-sent l s p b w m h.2.0
+  past-owes l s (Carries n Past (D.Sent p b w)) note h = absurd h.2
+  past-owes l s (Carries n D.Ground (D.Sent p b w)) note h = absurd h.2
+  past-owes l s (Carries n Past (D.Heard p b)) (Recalls m a) h =
+      let may = h.2 in
+      past-such l s p b m a (record { spelled = may.spelled; unheard = may.unheard; remembered = may.remembered }) (is_such m.kind) refl
+  past-owes l s (Carries n D.Ground (D.Heard p b)) (Recalls m a) h =
+      let may = h.2 in
+      past-such l s p b m a (record { spelled = may.spelled; unheard = may.unheard; remembered = may.remembered }) (is_such m.kind) refl
+  past-owes l s (Carries n Past (D.Heard p b)) note h = absurd h.2
+  past-owes l s (Carries n D.Ground (D.Heard p b)) note h = absurd h.2
+  past-owes l s (Carries n mark (D.Asked c a)) note h = tt
+  past-owes l s d note h = tt
+
+  -- and what answers may rest on.
+  module _ (l : List Noted) (backed : AreBacked gs l) (placed : ArePlaced gs f t l) where
+    asked-owes : (s : ℕ) (c : ℕ) (a : Ask) → BackedAsk gs l a → OwesAs (copied f gs t l) s (Bare (D.Asked c a))
+    asked-owes s c a h = (
+      h.request,
+      h.sense,
+      h.get,
+      λ o b e. let it = carried-back gs f t l o b placed e in h.once it.number b it.listed it.asked,
+    )
+
+    sent-owes : (s : ℕ) (p : Peer) (b : List ℕ) (w : Option ℕ) (o : ℕ) (m : Content) → IsApart l s p b m w → BackedSending gs l p o m
+        → OwesAs (copied f gs t l) s (Aimed p b w (f o) m)
+    sent-owes s p b w o m apart h = (
+      apart-copied l s p b m w apart,
+      record {
+        exchange = h.exchange;
+        asked = carried-copied gs f t l o h.exchange placed h.listed h.asked;
+        peer = h.peer;
+        observes = h.observes;
+        block = h.block;
+        asks = h.asks;
+      },
+    )
+
+    heard-owes : (s : ℕ) (p : Peer) (b : List ℕ) (m : Content) (a : Answered) → IsNew l s p b m → BackedReply gs l p m
+        → OwesAs (copied f gs t l) s (Heard D.Ground p b m a)
+    heard-owes s p b m a new h =
+        let it : RepliedCopy p m gs f t l h.first = replied-copied p m gs f t l h.first backed placed h.under h.listed in
+        record {
+          spelled = new.spelled;
+          response = h.response;
+          unheard = still-unheard l s p m new.unheard;
+          remembered = still-room l s p m new.remembered;
+          first = moved p m gs f t h.first;
+          under = it.replied;
+          kind = h.kind;
+          exchange = it.exchange;
+          asked = carried-copied gs f t l h.first.opening it.exchange placed it.listed it.asked;
+        }
+
+    backed-owes : (s : ℕ) (d : Deed) (note : Note) → Follows l s d note → BackedEntry gs l d note → Owes (copied f gs t l) s (backing_copy f d note)
+    backed-owes s (Asks c a) note h k = asked-owes s c a k
+    backed-owes s (Carries n mark (D.Asked c a)) note h k = asked-owes s c a k
+    backed-owes s (Sends p b w) (First o m) h k = sent-owes s p b w o m (apart-of l s p b w o m h) k
+    backed-owes s (Carries n D.Ground (D.Sent p b w)) (First o m) h k = sent-owes s p b w o m h.2.0 k
+    backed-owes s (Carries n Past (D.Sent p b w)) (First o m) h k = absurd h.2
+    backed-owes s (Hears p b) (Says m to notice) h k =
+        let may = h.3 in
+        heard-owes s p b m (answered_as (answered (Says m to notice))) (record { spelled = may.spelled; unheard = may.unheard; remembered = may.remembered }) k
+    backed-owes s (Carries n Past (D.Heard p b)) (Recalls m a) h k =
+        let may = h.2 in
+        heard-owes s p b m a (record { spelled = may.spelled; unheard = may.unheard; remembered = may.remembered }) k
+    backed-owes s (Carries n D.Ground (D.Heard p b)) (Recalls m a) h k =
+        let may = h.2 in
+        heard-owes s p b m a (record { spelled = may.spelled; unheard = may.unheard; remembered = may.remembered }) k
+    backed-owes s d note h k = absurd k
+
+    copy-owes : (s : ℕ) (d : Deed) (note : Note) (b : Bool) → Follows l s d note → (b ≡ true → BackedEntry gs l d note) → Owes (copied f gs t l) s (copy_by b f t s d note)
+    copy-owes s d note true h k = backed-owes s d note h (k refl)
+    copy-owes s d note false h k = past-owes l s d note h
+
+  legal-cons : (n s : ℕ) (k : Copy) (c : List Noted) → Legal c → newest c ≤ s → are_copies c ≡ true → copied_below c ≤ n → OwesAs c s k → Legal (copy_as n s k ∷ c)
+  legal-cons n s (Sent mark p b w m) c legal later all below h = (legal, later, (all, below, h))
+  legal-cons n s (Aimed p b w o m) c legal later all below h = (legal, later, (all, below, h))
+  legal-cons n s (Heard mark p b m a) c legal later all below h = (legal, later, (all, below, h))
+  legal-cons n s (Bare done) c legal later all below h = (legal, later, (all, below, h))
+
+  legal-add : (n s : ℕ) (oc : Option Copy) (c : List Noted) → Legal c → newest c ≤ s → are_copies c ≡ true → copied_below c ≤ n → Owes c s oc → Legal (add_copy n s oc c)
+  legal-add n s None c legal later all below h = legal
+  legal-add n s (Some k) c legal later all below h = legal-cons n s k c legal later all below h
+
+  pub legal-copied : (l : List Noted) → Legal l → AreBacked gs l → ArePlaced gs f t l → Legal (copied f gs t l)
+  legal-copied [] legal backed placed = tt
+  legal-copied (x ∷ older) legal backed placed =
+      let early = newest-copied f gs t older legal.0 in
+      let later = legal.1 in
+      legal-add (length older) x.written.moment (copy_in f gs t (length older) x) (copied f gs t older) (legal-copied older legal.0 backed.0 placed.0)
+      (omega (arith, early, later)) (all-copies f gs t older) (below-copied f gs t older)
+      (copy-owes older backed.0 placed.0 x.written.moment x.written.deed x.note (has gs (length older)) legal.2 backed.1)

@@ -13,8 +13,8 @@ use Rattle.history_laws.specs.Readings.{Noted}
 use Rattle.history_laws.specs.Transmissions.{FirstSending, firsts, last_sent, is_recent, mids_used}
 use Rattle.history_links.specs.Agrees.{recent_to, HasMid, CountUp, IsLast}
 use Rattle.history_links.proofs.CallerLemmas.{Falling, none-recent}
-use Rattle.exchange_model.proofs.Shapes.{Kept, Sending, Hearing, kept_as, still_kept, copy_as, opening_as, first_as, firsts-as}
-use Rattle.exchange_model.proofs.Copies.{cons_if, add_kept, copied}
+use Rattle.exchange_model.proofs.Shapes.{Kept, Sending, Hearing, Copy, kept_as, kept_of, copy_as, kept-copy, moment-copy, Fits, opening_as, first_as, firsts-as}
+use Rattle.exchange_model.proofs.Copies.{add_copy, copied, copy_in, fits-in, kept_in}
 
 -- what a first sending says but for its number and exchange
 pub record View : Type 0 where
@@ -56,9 +56,11 @@ views-entry u p x l =
     ap (λ (fs : List FirstSending). map view (filter (is_recent u p) fs)) (firsts-as (length l) x.written.moment x.written.deed x.note (firsts l))
     ∙ views-first u p (length l) x.written.moment (opening_as (length l) x.note) (kept_as x.written.deed x.note) (firsts l)
 
-views-copy : (u : ℕ) (p : Peer) (n s : ℕ) (k : Kept) (l : List Noted) → views (copy_as n s k ∷ l) u p ≡ view_as u p s (Some k) (views l u p)
-views-copy u p n s (Sending q b w m) l = views-first u p (length l) s (length l) (Some (Sending q b w m)) (firsts l)
-views-copy u p n s (Hearing q b m a) l = refl
+views-copy : (u : ℕ) (p : Peer) (n s : ℕ) (c : Copy) (l : List Noted) → views (copy_as n s c ∷ l) u p ≡ view_as u p s (kept_of c) (views l u p)
+views-copy u p n s c l =
+    views-entry u p (copy_as n s c) l
+    ∙ (ap (λ (v : ℕ). view_as u p v (kept_in (copy_as n s c)) (views l u p)) (moment-copy n s c)
+    ∙ ap (λ (k : Option Kept). view_as u p s k (views l u p)) (kept-copy n s c))
 
 -- What is in use later is kept.
 used-kept : (t u s : ℕ) → t ≤ u → ltb u (s + MESSAGE_ID_LIFETIME) ≡ true → ltb t (s + MESSAGE_ID_LIFETIME) ≡ true
@@ -68,42 +70,38 @@ and-second : (a b : Bool) → (a && b) ≡ true → b ≡ true
 and-second true b e = e
 and-second false b e = absurd (false≢true e)
 
-views-cons : (t u : ℕ) (p : Peer) (n s : ℕ) (k : Kept) (l : List Noted) → t ≤ u
-    → views (cons_if (still_kept t s k) (copy_as n s k) l) u p ≡ view_as u p s (Some k) (views l u p)
-views-cons t u p n s (Hearing q b m a) l later = by (ltb t (s + 247000))
+-- What isn't copied isn't in use later.
+views-gone : (t u : ℕ) (p : Peer) (s : ℕ) (k : Option Kept) (old : List View) → t ≤ u → Fits t s None k → old ≡ view_as u p s k old
+views-gone t u p s None old later fits = refl
+views-gone t u p s (Some (Hearing q b m a)) old later fits = refl
+views-gone t u p s (Some (Sending q b w m)) old later fits = none (recent_at u p s q) refl
   where
-    by : (v : Bool) → views (cons_if v (copy_as n s (Hearing q b m a)) l) u p ≡ views l u p
-    by true = refl
-    by false = refl
-views-cons t u p n s (Sending q b w m) l later = by (ltb t (s + MESSAGE_ID_LIFETIME)) refl
-  where
-    none : (v : Bool) → recent_at u p s q ≡ v → ltb t (s + MESSAGE_ID_LIFETIME) ≡ false → views l u p ≡ cond v (record { moment = s; peer = q; message = m } ∷ views l u p) (views l u p)
-    none true e gone = absurd (false≢true (sym gone ∙ used-kept t u s later (and-second (same_peer q p) _ e)))
-    none false e gone = refl
+    none : (v : Bool) → recent_at u p s q ≡ v → old ≡ cond v (record { moment = s; peer = q; message = m } ∷ old) old
+    none true e = absurd (false≢true (sym (fits (Sending q b w m) refl) ∙ used-kept t u s later (and-second (same_peer q p) _ e)))
+    none false e = refl
 
-    by : (v : Bool) → ltb t (s + MESSAGE_ID_LIFETIME) ≡ v → views (cons_if v (copy_as n s (Sending q b w m)) l) u p ≡ view_as u p s (Some (Sending q b w m)) (views l u p)
-    by true e = views-copy u p n s (Sending q b w m) l
-    by false e = none (recent_at u p s q) refl e
+views-add : (t u : ℕ) (p : Peer) (n s : ℕ) (o : Option Copy) (k : Option Kept) (l : List Noted) → t ≤ u → Fits t s o k
+    → views (add_copy n s o l) u p ≡ view_as u p s k (views l u p)
+views-add t u p n s None k l later fits = views-gone t u p s k (views l u p) later fits
+views-add t u p n s (Some c) k l later fits = views-copy u p n s c l ∙ ap (λ (k : Option Kept). view_as u p s k (views l u p)) fits
 
-views-add : (t u : ℕ) (p : Peer) (n s : ℕ) (k : Option Kept) (l : List Noted) → t ≤ u → views (add_kept t n s k l) u p ≡ view_as u p s k (views l u p)
-views-add t u p n s None l later = refl
-views-add t u p n s (Some k) l later = views-cons t u p n s k l later
-
-pub views-copied : (t u : ℕ) (p : Peer) (l : List Noted) → t ≤ u → views (copied t l) u p ≡ views l u p
-views-copied t u p [] later = refl
-views-copied t u p (x ∷ older) later =
-    views-add t u p (length older) x.written.moment (kept_as x.written.deed x.note) (copied t older) later
-    ∙ (ap (view_as u p x.written.moment (kept_as x.written.deed x.note)) (views-copied t u p older later)
-    ∙ sym (views-entry u p x older))
+module _ (f : ℕ → ℕ) (gs : List ℕ) where
+  pub views-copied : (t u : ℕ) (p : Peer) (l : List Noted) → t ≤ u → views (copied f gs t l) u p ≡ views l u p
+  views-copied t u p [] later = refl
+  views-copied t u p (x ∷ older) later =
+      views-add t u p (length older) x.written.moment (copy_in f gs t (length older) x) (kept_in x) (copied f gs t older) later (fits-in f gs t (length older) x)
+      ∙ (ap (view_as u p x.written.moment (kept_in x)) (views-copied t u p older later)
+      ∙ sym (views-entry u p x older))
 
 -- So as many IDs are in use, they count up as before, and the last one is told.
 
-pub used-copied : (t u : ℕ) (p : Peer) (l : List Noted) → t ≤ u → mids_used (copied t l) u p ≡ mids_used l u p
-used-copied t u p l later =
-    counted (copied t l) ∙ (ap (λ (vs : List View). length vs) (views-copied t u p l later) ∙ sym (counted l))
-  where
-    counted : (n : List Noted) → mids_used n u p ≡ length (views n u p)
-    counted n = sym (length-filter (is_recent u p) (firsts n)) ∙ sym (length-map (recent_to n u p) view)
+module _ (f : ℕ → ℕ) (gs : List ℕ) where
+  pub used-copied : (t u : ℕ) (p : Peer) (l : List Noted) → t ≤ u → mids_used (copied f gs t l) u p ≡ mids_used l u p
+  used-copied t u p l later =
+      counted (copied f gs t l) ∙ (ap (λ (vs : List View). length vs) (views-copied f gs t u p l later) ∙ sym (counted l))
+    where
+      counted : (n : List Noted) → mids_used n u p ≡ length (views n u p)
+      counted n = sym (length-filter (is_recent u p) (firsts n)) ∙ sym (length-map (recent_to n u p) view)
 
 abbrev HasMidOf : ℕ → List View → Type 0
 HasMidOf mid [] = Unit {0}
@@ -129,8 +127,8 @@ view-up : (fs : List FirstSending) → UpBy (map view fs) → CountUp fs
 view-up [] h = tt
 view-up (f ∷ fs) h = (h.0, view-has f.message.mid fs h.1, view-up fs h.2)
 
-pub up-copied : (t u : ℕ) (p : Peer) (l : List Noted) → t ≤ u → CountUp (recent_to l u p) → CountUp (recent_to (copied t l) u p)
-up-copied t u p l later h = view-up (recent_to (copied t l) u p) (subst UpBy (sym (views-copied t u p l later)) (up-view (recent_to l u p) h))
+pub up-copied : (f : ℕ → ℕ) (gs : List ℕ) (t u : ℕ) (p : Peer) (l : List Noted) → t ≤ u → CountUp (recent_to l u p) → CountUp (recent_to (copied f gs t l) u p)
+up-copied f gs t u p l later h = view-up (recent_to (copied f gs t l) u p) (subst UpBy (sym (views-copied f gs t u p l later)) (up-view (recent_to l u p) h))
 
 -- the newest first sending to the peer, as far as its ID is in use
 
@@ -179,14 +177,14 @@ last-head u p (g ∷ fs) f e recent = by (same_peer g.peer p) refl (last-head u 
         subst (λ (b : Bool). head_of (map view (cond b (g ∷ filter (is_recent u p) fs) (filter (is_recent u p) fs))) ≡ Some (view f)) (sym now) (ap (λ (h : FirstSending). Some (view h)) is)
     by false a ih e = rw (a) (ih e recent)
 
-pub last-copied : (t u : ℕ) (p : Peer) (l : List Noted) (mid : Option ℕ) → t ≤ u → Falling (firsts l)
-    → IsLast u p mid (last_sent l p) → IsLast u p mid (last_sent (copied t l) p)
-last-copied t u p l mid later falls h = by (last_sent (copied t l) p) refl
+pub last-copied : (f : ℕ → ℕ) (gs : List ℕ) (t u : ℕ) (p : Peer) (l : List Noted) (mid : Option ℕ) → t ≤ u → Falling (firsts l)
+    → IsLast u p mid (last_sent l p) → IsLast u p mid (last_sent (copied f gs t l) p)
+last-copied f gs t u p l mid later falls h = by (last_sent (copied f gs t l) p) refl
   where
-    by : (v : Option FirstSending) → last_sent (copied t l) p ≡ v → IsLast u p mid v
+    by : (v : Option FirstSending) → last_sent (copied f gs t l) p ≡ v → IsLast u p mid v
     by None e = tt
-    by (Some f) e = λ (recent : is_recent u p f ≡ true).
-        let head = last-head u p (firsts (copied t l)) f e recent in
-        let old = head-last u p (firsts l) falls (view f) (ap head_of (sym (views-copied t u p l later)) ∙ head) in
+    by (Some g) e = λ (recent : is_recent u p g ≡ true).
+        let head = last-head u p (firsts (copied f gs t l)) g e recent in
+        let old = head-last u p (firsts l) falls (view g) (ap head_of (sym (views-copied f gs t u p l later)) ∙ head) in
         let its : IsLast u p mid (Some old.0) = subst (IsLast u p mid) old.1 h in
         its old.3 ∙ ap (λ (v : View). Some v.message.mid) old.2

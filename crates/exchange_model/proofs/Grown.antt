@@ -19,7 +19,8 @@ use Rattle.ask_model.specs.declared.cause.Cause.{Cause}
 use Rattle.ask_model.specs.Requests.{CoapRequest, Sense, Requests, Refuses}
 use Rattle.ask_model.specs.Views.{Ask}
 use Rattle.ask_model.specs.declared.cause.Cause.TheVariants as C
-use Rattle.journal_book.specs.Entries.{Kept, Grounds, Fault, Deed, Opens, Asks, Sends, Hears, Passes, Answers, Shuts, Seals, Written}
+use Rattle.journal_book.specs.Entries.{Kept, Grounds, Fault, Deed, Opens, Asks, Sends, Hears, Passes, Answers, Shuts, Seals, Carries, Written}
+use Rattle.history_laws.specs.Readings.{carries}
 use Rattle.history_laws.proofs.CallerLemmas.{all-more}
 use Rattle.exchange_model.specs.Steps.{Numbers, matter_of, recalls, joins, opens, asks, shuts, seals, begins, hears, hears_nothing, sends_first, sends_copy, is_past, passes, timed_out}
 use Rattle.exchange_model.specs.Calls.{served_in, serves, asked_for, joined, asked_with, next_by, next, refused, has_place, asked_by, asked, given_back, Telling, tells, told_for, told_late, takes_new, takes_by, repeats, resets, reads_so, heard, is_due, moves_by, moves, move_all, peer_of, something_due, ticked}
@@ -29,7 +30,7 @@ use Rattle.exchange_model.specs.State.{State, link_of, conns_after}
 use Rattle.exchange_model.specs.Entering.{answer_of}
 use Rattle.exchange_model.specs.Room.{fits}
 use Rattle.exchange_model.specs.Sealing.{in_room, if_unsealed, opens_in_room, asks_in_room, hears_in_room, late, ticks_in_room}
-use Rattle.exchange_model.specs.Growing.{conns_with, Adds, OpensAdd, ShutsAdd, SealsAdd, AsksAdd, HearsAdd, LateAdds, TicksAdd, at_moment, OpensAlone, IsOfAsk, AsksAnswer, by_client, HearsAnswer, TicksAnswer}
+use Rattle.exchange_model.specs.Growing.{conns_with, Adds, OpensAdd, ShutsAdd, SealsAdd, AsksAdd, HearsAdd, LateAdds, TicksAdd, at_moment, OpensAlone, IsOfAsk, AsksAnswer, by_client, HasNoClient, HearsAnswer, TicksAnswer}
 
 pub conns-both : (cs : List Conn) (n : ℕ) (xs ys : List Written)
     → conns_with cs n (xs ++ ys) ≡ conns_with (conns_with cs n xs) (n + length xs) ys
@@ -173,14 +174,17 @@ asks-such t c a n S = unsealed t _ S (asked t c a n S) tt (asked-such t c a n S)
 
 -- A datagram, and a tick.
 
+abbrev Own : Deed → Type 0
+Own d = carries d ≡ false
+
 abbrev Inner : Deed → Type 0
-Inner d = by_client d ≡ false
+Inner d = (by_client d ≡ false) × Own d
 
 sends-inner : (p : Peer) (bytes : List ℕ) (timeout : Option ℕ) → Inner (Sends p bytes timeout)
-sends-inner p bytes timeout = refl
+sends-inner p bytes timeout = (refl, refl)
 
 answer-inner : (c k : ℕ) (g : Grounds) → Inner (Answers c k g)
-answer-inner c k g = refl
+answer-inner c k g = (refl, refl)
 
 heard-such : (t : ℕ) (p : Peer) (d : List ℕ) (n : Numbers) (S : State)
     → Such t Inner S (heard t p d n S)
@@ -191,7 +195,7 @@ heard-such t p d n S =
     nothing : (bs : List (List ℕ)) → Such t Inner S (given_back t p bs (hears_nothing t p d S))
     nothing bs =
         both t Inner S (hears_nothing t p d S) (given_back t p bs (hears_nothing t p d S))
-        (one t Inner (Hears p d) S (hears_nothing t p d S) refl refl refl)
+        (one t Inner (Hears p d) S (hears_nothing t p d S) refl refl (refl, refl))
         (given-such t Inner sends-inner p bs (hears_nothing t p d S))
 
     new : (m : Content) (v : Verdict) → Such t Inner S (takes_new t p d m v n S)
@@ -201,7 +205,7 @@ heard-such t p d n S =
         let S3 = next t p S2 in
         both t Inner S S3 (takes_new t p d m v n S)
         (both t Inner S S2 S3
-        (both t Inner S S1 S2 (one t Inner (Hears p d) S S1 refl refl refl)
+        (both t Inner S S1 S2 (one t Inner (Hears p d) S S1 refl refl (refl, refl))
         (given-such t Inner sends-inner p (replies m.mid v.reply) S1))
         (next-such t Inner sends-inner p S2))
         (all-told-such t Inner answer-inner (told_for (length S.entries) (matter_of t p m v S) S.readers) S3)
@@ -226,7 +230,7 @@ heard-such t p d n S =
 
 hears-such : (t : ℕ) (p : Peer) (d : List ℕ) (n : Numbers) (S : State)
     → Such t Inner S (hears_in_room t p d n S)
-hears-such t p d n S = unsealed t Inner S (heard t p d n S) refl (heard-such t p d n S)
+hears-such t p d n S = unsealed t Inner S (heard t p d n S) (refl, refl) (heard-such t p d n S)
 
 late-such : (t : ℕ) (S : State) → Such t Inner S (late t S)
 late-such t S = all-told-such t Inner answer-inner (told_late (filter (is_past t) S.exchanges) S.readers) S
@@ -237,7 +241,7 @@ ticked-such t S =
     let S2 = move_all t S1 in
     either t Inner (something_due t S) S (fold (tells t) S2 (told_late (timed_out t S) S.readers)) S
     (both t Inner S S2 (fold (tells t) S2 (told_late (timed_out t S) S.readers))
-    (both t Inner S S1 S2 (one t Inner Passes S S1 refl refl refl)
+    (both t Inner S S1 S2 (one t Inner Passes S S1 refl refl (refl, refl))
     (all-fold t Inner (moves t) (moves-such t Inner sends-inner) (map peer_of S1.links) S1))
     (all-told-such t Inner answer-inner (told_late (timed_out t S) S.readers) S2)) (none t Inner S)
 
@@ -246,16 +250,18 @@ ticks-such t S =
     either t Inner S.sealed S (late t S) _ (late-such t S)
     (either t Inner (fits (ticked t S)) S (ticked t S) (late t (seals t S)) (ticked-such t S)
     (both t Inner S (seals t S) (late t (seals t S))
-    (one t Inner Seals S (seals t S) refl refl refl) (late-such t (seals t S))))
+    (one t Inner Seals S (seals t S) refl refl (refl, refl)) (late-such t (seals t S))))
 
 -- What is added is the same, however it is said.
 
-adds-such : (t : ℕ) (P : Deed → Type 0) (S S1 : State) → Such t P S S1 → Adds t S S1
-adds-such t P S S1 a = record {
+adds-such : (t : ℕ) (P : Deed → Type 0) (S S1 : State) → ((d : Deed) → P d → Own d) → Such t P S S1 → Adds t S S1
+adds-such t P S S1 own a = record {
   more = a.more;
   entries = a.entries;
   at = all-more (λ (w : Written). (w.moment ≡ t) × P w.deed) (λ (w : Written). w.moment ≡ t)
       (λ w h. h.0) a.more a.are;
+  own = all-more (λ (w : Written). (w.moment ≡ t) × P w.deed) (λ (w : Written). Own w.deed)
+      (λ w h. own w.deed h.1) a.more a.are;
   conns = a.conns;
 }
 
@@ -267,39 +273,49 @@ all-such t P S S1 a x =
     (all-more (λ (w : Written). (w.moment ≡ t) × P w.deed) (λ (w : Written). P w.deed)
     (λ w h. h.1) a.more a.are)
 
-abbrev Any : Deed → Type 0
-Any d = ⊤
+own-itself : (d : Deed) → Own d → Own d
+own-itself d h = h
+
+inner-own : (d : Deed) → Inner d → Own d
+inner-own d h = h.1
+
+of-ask-own : (k c : ℕ) (a : Ask) (d : Deed) → IsOfAsk k c a d → Own d
+of-ask-own k c a (Carries n mark done) h = absurd h
+of-ask-own k c a d h = refl
 
 pub opens-add : OpensAdd
-opens-add t S = adds-such t Any S (opens_in_room t S)
-    (unsealed t Any S (opens t S) tt (one t Any (Opens S.opened) S (opens t S) refl refl tt))
+opens-add t S = adds-such t Own S (opens_in_room t S) own-itself
+    (unsealed t Own S (opens t S) refl (one t Own (Opens S.opened) S (opens t S) refl refl refl))
 
 pub shuts-add : ShutsAdd
-shuts-add t c S = adds-such t Any S (shuts t c S) (one t Any (Shuts c) S (shuts t c S) refl refl tt)
+shuts-add t c S = adds-such t Own S (shuts t c S) own-itself (one t Own (Shuts c) S (shuts t c S) refl refl refl)
 
 pub seals-add : SealsAdd
-seals-add t S = adds-such t Any S (seals t S) (one t Any Seals S (seals t S) refl refl tt)
+seals-add t S = adds-such t Own S (seals t S) own-itself (one t Own Seals S (seals t S) refl refl refl)
 
 pub asks-add : AsksAdd
-asks-add t c a n S = adds-such t _ S (asks_in_room t c a n S) (asks-such t c a n S)
+asks-add t c a n S = adds-such t _ S (asks_in_room t c a n S) (of-ask-own (length S.entries) c a) (asks-such t c a n S)
 
 pub hears-add : HearsAdd
-hears-add t p d n S = adds-such t Inner S (hears_in_room t p d n S) (hears-such t p d n S)
+hears-add t p d n S = adds-such t Inner S (hears_in_room t p d n S) inner-own (hears-such t p d n S)
 
 pub late-adds : LateAdds
-late-adds t S = adds-such t Inner S (late t S) (late-such t S)
+late-adds t S = adds-such t Inner S (late t S) inner-own (late-such t S)
 
 pub ticks-add : TicksAdd
-ticks-add t S = adds-such t Inner S (ticks_in_room t S) (ticks-such t S)
+ticks-add t S = adds-such t Inner S (ticks_in_room t S) inner-own (ticks-such t S)
 
 pub asks-answer : AsksAnswer
 asks-answer t c a n S x = all-such t _ S (asks_in_room t c a n S) (asks-such t c a n S) x
 
+no-client : (ws : List Written) → AllByRecursion (λ (w : Written). Inner w.deed) ws → HasNoClient ws
+no-client ws h = all-more (λ (w : Written). Inner w.deed) (λ (w : Written). by_client w.deed ≡ false) (λ w h. h.0) ws h
+
 pub hears-answer : HearsAnswer
-hears-answer t p d n S x = all-such t Inner S (hears_in_room t p d n S) (hears-such t p d n S) x
+hears-answer t p d n S x = no-client x.more (all-such t Inner S (hears_in_room t p d n S) (hears-such t p d n S) x)
 
 pub ticks-answer : TicksAnswer
-ticks-answer t S x = all-such t Inner S (ticks_in_room t S) (ticks-such t S) x
+ticks-answer t S x = no-client x.more (all-such t Inner S (ticks_in_room t S) (ticks-such t S) x)
 
 abbrev OpenedBy : ℕ → State → List Written → Type 0
 OpenedBy t S more =

@@ -11,23 +11,25 @@ use Rattle.ask_model.specs.Sharing.{asked_key, asks_same, is_get}
 use Rattle.blockwise.specs.Uploads.{begun as begun_as}
 use Rattle.ask_model.specs.Requests.{CoapRequest, asking}
 use Rattle.ask_model.specs.Views.{Ask}
-use Rattle.journal_book.specs.Entries.{Hears, Asks, Written}
+use Rattle.journal_book.specs.Entries.{Ground, Hears, Asks, Carries, Written}
+use Rattle.journal_book.specs.Entries as D
 use Rattle.history_laws.specs.Responses.{Response, whole_fetched, whole_given, whole_of}
-use Rattle.history_laws.specs.Readings.{Says, at, Noted, Note, noted}
+use Rattle.history_laws.specs.Readings.{Says, Recalls, at, Noted, Note, noted}
 use Rattle.history_laws.specs.Progress.{Reply, numbers, messages}
 use Rattle.history_laws.specs.Joining.{asks_the_same}
 use Rattle.history_laws.specs.Exchanges.{Begun, begun, replies}
-use Rattle.history_laws.specs.Laws.{IsReplyTo}
-use Rattle.history_laws.specs.Storing.{ComesSo}
+use Rattle.history_laws.specs.Laws.{IsCarriedReply, IsReplyTo}
+use Rattle.history_laws.specs.Storing.{ComesSo, IsBrought, IsCarried, IsStored}
 use Rattle.history_laws.proofs.CallerLemmas.{comes-fit, first-response, shared-is, ends-all, contains-later, replies-fit, some-is, all-more, all-of, at-entries, at-same, reader, reader-alike}
 use Rattle.exchange_model.specs.Reads.{PairIn, ExchangeIn, Reads}
-use Rattle.exchange_model.specs.Growing.{IsHeardAt, AreHeardAt, IsHeardIn, StoreHeard, RiseByAsk, ReadersRise, IsKnown, IsWorkOf, ReadersKnown}
+use Rattle.exchange_model.specs.Growing.{IsHeardAt, AreHeardAt, IsCopiedAt, AreCopiedAt, IsHeardIn, StoreHeard, RiseByAsk, ReadersRise, IsKnown, IsWorkOf, ReadersKnown}
 use Rattle.exchange_model.specs.declared.kept.Exchange.{Exchange}
 use Rattle.exchange_model.specs.declared.kept.Reader.{Reader}
 use Rattle.exchange_model.specs.declared.kept.Work.{Work}
 use Rattle.exchange_model.specs.declared.kept.Work.TheVariants as W
 use Rattle.exchange_model.specs.State.{State}
 use Rattle.exchange_model.specs.Calls.{is_reader_of}
+use Rattle.exchange_model.proofs.Carried.{reply-stands}
 use Rattle.exchange_model.proofs.Works.{work-of}
 use Rattle.exchange_model.proofs.Readers.{ReaderIn, readers-wait, readers-rise-in}
 
@@ -126,33 +128,76 @@ whole-come l o e w r rs q same get (inr update) =
     ∙ first-response q e update.sending update.message w (r ∷ rs) get update.whole
 
 -- What is stored was heard in the replies.
-heard-one : (l : List Noted) (S : State) → Reads l S → (p : Pair) → PairIn l p → IsHeardIn S p
+get-by : (q x : CoapRequest) → asks_same q x ≡ true → eqb q.method 1 ≡ true
+get-by q x e =
+    let b = and_parts (is_get q) (is_get x && same_key (asked_key q) (asked_key x)) e in
+    (and_parts (eqb q.method 1) _ b.0).0
+
+brought-one : (l : List Noted) (S : State) → Reads l S → (p : Pair) (q : CoapRequest) → IsBrought l q p.stored → IsHeardIn S p
 unfolding are-heard all-heard heard-at
-heard-one l S r p a =
-    let s = a.stored in
+brought-one l S r p q s =
     let rs : List Reply = s.first ∷ s.more in
     let fit : ((x : Reply) → Contains rs x → IsReplyTo l s.opening x) =
     λ x has. comes-fit l s.opening s.ending p.stored.response rs x r.legal s.comes has in
     let fits = fit s.first (zero, omega arith, refl) in
-    let both = and_parts (asks_the_same a.request (begun l s.opening)) _ s.shared in
-    let joined = shared-is l a.request s.opening s.shared in
+    let both = and_parts (asks_the_same q (begun l s.opening)) _ s.shared in
+    let joined = shared-is l q s.opening s.shared in
     let entry : noted fits.moment (Hears fits.peer fits.bytes) (Says s.first.message (Some s.first.sending) fits.notice) ≡ s.entry =
     some-is _ _ (sym fits.heard ∙ s.heard_in) in
+    let heard = all-heard l S r s.opening rs fit in
     record {
       number = s.first.number;
       others = numbers s.more;
       message = s.first.message;
       more = messages s.more;
       list = s.list;
-      heard = all-heard l S r s.opening rs fit;
-      first = ap (λ (x : Noted). x.written.moment) entry ∙ sym s.heard;
-      whole = whole-come l s.opening s.ending p.stored.response s.first s.more a.request both.0 (is-get a.request joined.exchange.request joined.same) s.comes;
+      heard = inl (heard.0, ap (λ (x : Noted). x.written.moment) entry ∙ sym s.heard, heard.1);
+      whole = whole-come l s.opening s.ending p.stored.response s.first s.more q both.0 (get-by q joined.exchange.request joined.same) s.comes;
     }
+
+-- Or they stand as copies.
+copied-at : (l : List Noted) (S : State) → Reads l S → (o : ℕ) (q : CoapRequest) (r : Reply) → IsCarriedReply l o q r → IsCopiedAt S r.number r.message
+copied-at l S reads o q r fits = record {
+  moment = fits.moment;
+  number = fits.number;
+  peer = q.peer;
+  bytes = fits.bytes;
+  stands = subst (λ (h : List Written). slice_get h r.number ≡ Some (record { moment = fits.moment; deed = Carries fits.number Ground (D.Heard q.peer fits.bytes) })) reads.entries_are
+      (at-entries l r.number _ fits.heard);
+  spelled = fits.spelled;
+}
+
+all-copied : (l : List Noted) (S : State) → Reads l S → (o : ℕ) (q : CoapRequest) (rs : List Reply) → ((r : Reply) → Contains rs r → IsCarriedReply l o q r) → AreCopiedAt S (numbers rs) (messages rs)
+all-copied l S reads o q [] h = tt
+all-copied l S reads o q (r ∷ rs) h = (copied-at l S reads o q r (h r (zero, omega arith, refl)), all-copied l S reads o q rs (λ x has. h x (contains-later r rs x has)))
+
+carried-one : (l : List Noted) (S : State) → Reads l S → (p : Pair) (q : CoapRequest) → IsCarried l q p.stored → IsHeardIn S p
+unfolding all-copied copied-at
+carried-one l S r p q s =
+    let rs : List Reply = s.first ∷ s.more in
+    let asked : CoapRequest = s.carries.exchange.request in
+    let fit : ((x : Reply) → Contains rs x → IsCarriedReply l s.opening asked x) =
+    λ x has. reply-stands l s.opening p.stored.response rs r.legal s.carries x has in
+    let fits = fit s.first (zero, omega arith, refl) in
+    let entry : noted fits.moment (Carries fits.number Ground (D.Heard asked.peer fits.bytes)) (Recalls s.first.message fits.answer) ≡ s.entry =
+    some-is _ _ (sym fits.heard ∙ s.heard_in) in
+    let copied = all-copied l S r s.opening asked rs fit in
+    record {
+      number = s.first.number;
+      others = numbers s.more;
+      message = s.first.message;
+      more = messages s.more;
+      list = s.list;
+      heard = inr (copied.0, ap (λ (x : Noted). x.written.moment) entry ∙ sym s.heard, copied.1);
+      whole = sym (whole-get asked s.first.message (messages s.more) (and_parts (eqb asked.method 1) _ s.carries.get).0) ∙ s.carries.whole;
+    }
+
+heard-one : (l : List Noted) (S : State) → Reads l S → (p : Pair) → PairIn l p → IsHeardIn S p
+heard-one l S r p a = by a.stored
   where
-    is-get : (q x : CoapRequest) → asks_same q x ≡ true → eqb q.method 1 ≡ true
-    is-get q x e =
-        let b = and_parts (is_get q) (is_get x && same_key (asked_key q) (asked_key x)) e in
-        (and_parts (eqb q.method 1) _ b.0).0
+    by : IsStored l a.request p.stored → IsHeardIn S p
+    by (inl s) = brought-one l S r p a.request s
+    by (inr s) = carried-one l S r p a.request s
 
 pub store-heard : StoreHeard
 store-heard S k =

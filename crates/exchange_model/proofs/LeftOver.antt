@@ -175,7 +175,7 @@ module _ (l : List Noted) (t : ℕ) (p : Peer) (d : List ℕ) (m : Content) (n :
         watches_are = left;
         unnoticed = λ q away. over-unnoticed l t p d m n S h spelled none room e over.it left q away;
         store_is = subst (λ (u : Ending). StoreIn (x ∷ l) (settled S.entries (Some e) (newest_content S.entries t e u) S.store)) (sym over.same)
-            (store-settled x l S r legal e over.it.has ends over.real over.ends silent tt first-fresh);
+            (store-settled x l S r legal e over.it.has ends over.real over.ends silent refl tt first-fresh);
         tokens_are = r.tokens_are;
         waiting_are = left-all (λ (f : Exchange). WaitsUnder (link_of _ f.peer).waiting f) (λ f k. k) S.entries (e ∷ []) others
             (waits-with p _ S.links others (all-more _ _ (λ f k at_p. subst (λ (q : Peer). WaitsUnder (link_of S.links q).waiting f) at_p k) others waits) waits);

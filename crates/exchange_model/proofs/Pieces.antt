@@ -1,16 +1,18 @@
 -- The replies by which open exchanges go on.
-use Rattle.std.proofs.Common.{◌≡◌, inl, inr, ℕ, ◌<◌, ◌≤◌, Bool, true, false, cond, eqb, List, [], ◌∷◌, length, Option, Some, None, refl, sym, ap, ◌∙◌, arith}
+use Rattle.std.proofs.Common.{◌≡◌, inl, inr, ℕ, ◌<◌, ◌≤◌, Bool, true, false, cond, eqb, List, [], ◌∷◌, length, Option, Some, None, refl, sym, ap, subst, ◌∙◌, arith}
 use Rattle.std.specs.Prelude.{find, option_map}
 use Rattle.blockwise.specs.Downloads.{no_pieces}
 use Rattle.blockwise.specs.Uploads.{begun as begun_as}
 use Rattle.ask_model.specs.Requests.{CoapRequest}
 use Rattle.std.specs.List.{AllByRecursion}
-use Rattle.history_laws.specs.Readings.{Noted}
+use Rattle.journal_book.specs.Entries.{Mark, Carries}
+use Rattle.journal_book.specs.Entries as D
+use Rattle.history_laws.specs.Readings.{Noted, Note, First, at, before, noted}
 use Rattle.history_laws.specs.Transmissions.{FirstSending, firsts, sent_last}
-use Rattle.history_laws.specs.Justified.{Legal}
+use Rattle.history_laws.specs.Justified.{CopiedNote, Legal}
 use Rattle.history_laws.specs.Progress.{Reply, numbers, Fetches, Gives, progress}
 use Rattle.history_laws.specs.Exchanges.{Begun, begun, replies}
-use Rattle.history_laws.proofs.CallerLemmas.{all-listed, all-more, at-below, begun-keeps, eqb-same, find-some, IsFirst-below, IsListed, sent-for}
+use Rattle.history_laws.proofs.CallerLemmas.{all-listed, all-more, at-below, begun-keeps, carried-below, eqb-same, find-some, follows-at, IsFirst-below, IsListed, length-before, sent-for}
 use Rattle.exchange_model.specs.declared.kept.Exchange.{Exchange}
 use Rattle.exchange_model.specs.declared.kept.Piece.{Piece}
 use Rattle.exchange_model.specs.Reads.{got_for, got_in, PiecesIn}
@@ -72,7 +74,21 @@ unsent-by l f legal (inl first) =
     let below = IsFirst-below l f.moment f.opening f.number f.peer f.message first in
     let after = it.after in
     omega (arith, after, below)
-unsent-by l f legal (inr copy) = let below = at-below l f.number _ copy.stands in let own = copy.own in omega (arith, below, own)
+unsent-by l f legal (inr copy) = elim copy.own [
+  | inl own ↦ let below = at-below l f.number _ copy.stands in let same = own.1 in omega (arith, below, same)
+  | inr first ↦
+      let stands = subst (λ (note : Note). at l f.number ≡ Some (noted f.moment (Carries copy.old copy.mark (D.Sent f.peer copy.bytes copy.timeout)) note)) first copy.stands in
+      let below = at-below l f.number _ stands in
+      let size = length-before l f.number _ stands in
+      let asked = asked-before copy.mark f.moment copy.bytes copy.timeout (follows-at l f.number _ legal stands).2 in
+      omega (arith, below, size, asked)
+]
+  where
+    -- a copy of a message that was sent for an ask stands behind the copy of that
+    asked-before : (mark : Mark) (t : ℕ) (bytes : List ℕ) (w : Option ℕ) → CopiedNote (before l f.number) t mark (D.Sent f.peer bytes w) (First f.opening f.message)
+        → f.opening < length (before l f.number)
+    asked-before D.Past t bytes w h = absurd h
+    asked-before D.Ground t bytes w h = carried-below (before l f.number) f.opening h.1.exchange h.1.asked
 
 pub unsent-new : (l : List Noted) → Legal l → sent_last l (length l) ≡ None
 unsent-new l legal = by (find (λ (f : FirstSending). eqb f.opening (length l)) (firsts l)) refl

@@ -18,14 +18,12 @@ use Rattle.ask_model.specs.Requests.{CoapRequest, Sense, Requests, Refuses}
 use Rattle.ask_model.specs.Views.{Ask}
 use Rattle.ask_model.specs.Sharing.{asked_key, is_get}
 use Rattle.journal_book.specs.Entries.{Asks, Sends, Hears}
-use Rattle.history_laws.specs.Exchanges.{Begun, begun}
-use Rattle.history_laws.specs.Joining.{asks_the_same}
 use Rattle.history_laws.specs.Storing.{MissesAlone, IsStored}
 use Rattle.history_laws.specs.Readings.{noted, Noted, Note, Begins, First, Says, Bygone, Recalls, Serves, Plain, Joins, Copies, Confirms, Repeats, Garbled}
 use Rattle.history_laws.specs.Observing.{Watch, asked_by, asked_last_by, watches}
 use Rattle.history_laws.specs.Transmissions.{FirstSending}
 use Rattle.history_laws.specs.Justified.{AskNote, Follows}
-use Rattle.history_laws.proofs.CallerLemmas.{any-find, any-of, at-newest, find-any, all-of, find-some, none-some, some-is, entries-length}
+use Rattle.history_laws.proofs.CallerLemmas.{any-find, any-of, find-any, all-of, find-some, none-some, some-is, entries-length}
 use Rattle.history_links.specs.Agrees.{Agrees}
 use Rattle.history_links.specs.Steps.{copy}
 use Rattle.history_links.proofs.CallerLemmas.{copy-elsewhere, copy-follows, garbled-agrees, repeat-agrees, silent-agrees, still, still-copy}
@@ -37,7 +35,7 @@ use Rattle.exchange_model.specs.Watching.{touched}
 use Rattle.exchange_model.specs.Reads.{held_of, PairIn, Reads}
 use Rattle.exchange_model.specs.Steps.{joins, given_out, read_last, recalls, sends_copy}
 use Rattle.exchange_model.proofs.Watches.{touched-tells}
-use Rattle.exchange_model.proofs.Storing.{stored-one, stored-alike}
+use Rattle.exchange_model.proofs.Storing.{stored-alike, stored-by-now, stored-get, stored-one}
 use Rattle.exchange_model.proofs.Stores.{store-served, store-still}
 use Rattle.exchange_model.proofs.Tables.{still-reads, all-links, given-agrees, unread}
 use Rattle.exchange_model.proofs.Silent.{later-than, link-before, silent-reads}
@@ -162,11 +160,7 @@ misses-tell l t q S b none s is fresh = elim (b.reads.store_is.kept q s is lasts
 ]
   where
     get : is_get q ≡ true
-    get = by (begun l is.opening) (and_parts (asks_the_same q (begun l is.opening)) _ is.shared).0
-      where
-        by : (v : Option Begun) → asks_the_same q v ≡ true → is_get q ≡ true
-        by None e = absurd (false≢true e)
-        by (Some f) e = (and_parts (is_get q) _ e).0
+    get = stored-get l q s is
 
     -- It was heard before now.
     lasts : is_never_fresh s ≡ false
@@ -175,12 +169,11 @@ misses-tell l t q S b none s is fresh = elim (b.reads.store_is.kept q s is lasts
         never : (c : Bool) → is_never_fresh s ≡ c → c ≡ false
         never false e = refl
         never true e =
-            let before = at-newest l is.first.number is.entry b.reads.legal is.heard_in in
+            let before = stored-by-now l q s b.reads.legal is in
             let now = later-than l t S b in
-            let heard = is.heard in
             let zero_time : lifetime s.response.max_age ≡ 0 = (Decides-eqb (lifetime s.response.max_age) 0).0 e in
             let less : t < s.heard + lifetime s.response.max_age = (Decides-ltb t (s.heard + lifetime s.response.max_age)).0 fresh in
-            absurd (omega (arith, before, now, heard, zero_time, less))
+            absurd (omega (arith, before, now, zero_time, less))
 
     unserved : served (asked_key q) t S.store ≡ None
     unserved = sym (ap (λ (c : Bool). cond c (served (asked_key q) t S.store) None) get) ∙ none

@@ -20,11 +20,12 @@ use Rattle.exchange_model.specs.Reads.{AreLastFirst, HasPair, StoreIn, PairIn, R
 use Rattle.exchange_model.specs.declared.kept.Exchange.{Exchange}
 use Rattle.exchange_model.specs.State.{State}
 use Rattle.exchange_model.specs.Steps.{asked_in, put_by, settled_by, settled, retired}
+use Rattle.exchange_model.proofs.Carried.{IsOwn}
 use Rattle.exchange_model.proofs.Came.{none-updates}
 use Rattle.exchange_model.proofs.Watches.{outdated-quiet}
-use Rattle.exchange_model.proofs.Storing.{stored-unwritten, stored-was, pair-stays}
+use Rattle.exchange_model.proofs.Storing.{stored-earlier, stored-unwritten, stored-was, pair-stays}
 use Rattle.exchange_model.proofs.Stores.{every}
-use Rattle.exchange_model.proofs.Uses.{crowded-stays, has-filtered, NotServing, order-filter, order-stays, order-weaker, unserved, Unused}
+use Rattle.exchange_model.proofs.Uses.{crowded-stays, has-filtered, NotServing, order-filter, order-stays, order-weaker, own-quiet, unserved, Unused}
 use Rattle.exchange_model.proofs.Outrun.{EndsThose}
 use Rattle.exchange_model.proofs.Settling.{all-kept, Apart, unwritten, is-away, was-going}
 
@@ -115,21 +116,24 @@ module _ (x : Noted) (l : List Noted) (S : State) (r : Reads l S) (legal : Legal
   store-retired over ends silent quiet none = record {
     pairs = all-more (λ (p : Pair). PairIn l p × ((e : Exchange) → Contains over e → Apart x l S r legal e p)) (PairIn (x ∷ l))
         (λ p h. pair-stays x l legal p h.0 (record {
+          own = own;
           unwritten = unwritten x l S r legal over ends p h.0 h.1;
           untold = λ n. outdated-quiet x l (asked_key h.0.request) n silent;
           unanswered = λ o w r rs comes joins fresh. none-come o w (r ∷ rs) comes;
         }))
         (retired S.entries over S.store) (retired-all (PairIn l) over S.store r.store_is.pairs);
     order = order-weaker (x ∷ l) (length l) (length (x ∷ l)) (retired S.entries over S.store) (omega arith)
-        (order-stays x l (length l) (retired S.entries over S.store) legal (every (λ (p : Pair). Unused x l p.key) (λ p. unused p.key) (retired S.entries over S.store))
+        (order-stays x l (length l) (retired S.entries over S.store) legal own (every (λ (p : Pair). Unused x l p.key) (λ p. unused p.key) (retired S.entries over S.store))
         (retired-order over (length l) S.store r.store_is.order));
-    kept = λ q s is lasts. elim (r.store_is.kept q s (stored-was x l q s legal (stored-unwritten x l q s legal is) is
-        (λ e. none-come is.opening s.response (is.first ∷ is.more) (subst (λ (n : ℕ). ComesSo (x ∷ l) is.opening n s.response (is.first ∷ is.more)) e is.comes))) lasts) [
-          | inl has ↦ inl (retired-has over (asked_key q) S.store (λ e in_over w at write p of_q. is-away x l S r legal over ends q (stored-unwritten x l q s legal is) e in_over w at write p of_q) has)
-          | inr out ↦ inr (crowded-stays x l (asked_key q) legal (unused (asked_key q)) out)
-        ];
+    kept = λ q s is lasts. elim (r.store_is.kept q s (stored-was x l q s legal own (stored-unwritten x l q s legal own is) is (stored-earlier x l q s none-come is)) lasts) [
+      | inl has ↦ inl (retired-has over (asked_key q) S.store (λ e in_over w at write p of_q. is-away x l S r legal over ends q (stored-unwritten x l q s legal own is) e in_over w at write p of_q) has)
+      | inr out ↦ inr (crowded-stays x l (asked_key q) legal own (unused (asked_key q)) out)
+    ];
   }
     where
+      own : IsOwn x
+      own = own-quiet x quiet
+
       none-come : (o : ℕ) (w : Response) (rs : List Reply) → ComesSo (x ∷ l) o (length l) w rs → ⊥
       none-come o w rs (inl so) = none o w rs (was-going x l S r legal o (length l) w rs so refl) so.ended
       none-come o w rs (inr u) = none-updates x l o w rs silent u

@@ -1,10 +1,10 @@
 -- What a notification that counts leaves in the store.
-use Rattle.std.proofs.Common.{◌≡◌, ◌≢◌, ◌<◌, ℕ, zero, ◌⊎◌, inl, inr, Bool, true, false, cond, not, eqb, List, [], ◌∷◌, length, map, Option, Some, None, Ok, Err, refl, sym, ap, subst, ◌∙◌, arith}
+use Rattle.std.proofs.Common.{◌≡◌, ◌≢◌, ◌<◌, ℕ, inl, inr, Bool, true, false, cond, not, eqb, List, [], ◌∷◌, length, map, Option, Some, None, Ok, Err, refl, sym, ap, subst, ◌∙◌, arith}
 use Rattle.std.specs.Prelude.{◌&&◌}
 use Rattle.std.specs.Option.{option_map_or}
 use Rattle.std.proofs.lemmas.Bool.{false≢true, and_parts, not-true}
 use Rattle.std.proofs.lemmas.Option.{slice_get_past}
-use Rattle.std.proofs.lemmas.Bool.Decides.{Decides-eqb, eqb_tells}
+use Rattle.std.proofs.lemmas.Bool.Decides.{Decides-eqb}
 use Rattle.coap_codec.specs.Spelling.{Content, Spells}
 use Rattle.uri_map.specs.declared.peer.Peer.{Peer}
 use Rattle.cache_key.specs.Keys.{CacheKey, same_key}
@@ -13,7 +13,7 @@ use Rattle.cache_key.proofs.CallerLemmas.{keys_decided}
 use Rattle.observe_share.specs.declared.registration.Registration.{Registration}
 use Rattle.observe_share.specs.declared.notice.Notice.{Notice as Told}
 use Rattle.observe_share.specs.declared.notice.Notice.TheVariants.{Update, Other}
-use Rattle.resp_cache.specs.Stored.{Stored, is_never_fresh, stored_of}
+use Rattle.resp_cache.specs.Stored.{Stored, stored_of}
 use Rattle.resp_cache.specs.Stores.{is_of, is_of_another, others}
 use Rattle.resp_cache.specs.declared.pair.Pair.{Pair}
 use Rattle.ask_model.specs.Requests.{CoapRequest}
@@ -30,24 +30,23 @@ use Rattle.history_laws.specs.Hearing.{answers, can_be_remembered, counts_as, no
 use Rattle.history_laws.specs.Joining.{asks_the_same, is_joinable, outrun}
 use Rattle.history_laws.specs.Observing.{Watch, as_first, first_reply, notice_by, notice_in, is_some_of, is_current, outdated, version, watch_under, watches}
 use Rattle.history_laws.specs.Observing as O
-use Rattle.history_laws.specs.Storing.{ComesSo, content, EndsSo, IsStored, IsCrowdedOut, UpdatesSo}
+use Rattle.history_laws.specs.Storing.{ComesSo, content, EndsSo, IsStored, UpdatesSo}
 use Rattle.history_laws.specs.Justified.{Legal}
-use Rattle.history_laws.proofs.CallerLemmas.{all-more, all-of, at-below, at-new, at-old, before-new, begun-keeps, comes-fit, contains-none, entries-length, EndsWrite, find-some, first-whole, outrun-quiet, some-is, watch-fits, WatchFits}
+use Rattle.history_laws.proofs.CallerLemmas.{all-more, all-of, at-below, at-new, at-old, before-new, begun-keeps, contains-none, entries-length, EndsWrite, find-some, first-whole, outrun-quiet, some-is, watch-fits, WatchFits}
 use Rattle.history_links.specs.Steps.{heard}
 use Rattle.exchange_model.specs.State.{State}
-use Rattle.exchange_model.specs.Reads.{HasPair, PairIn, StoreIn}
+use Rattle.exchange_model.specs.Reads.{PairIn, StoreIn}
 use Rattle.exchange_model.specs.Steps.{answered_in, found_in, moment_in, Numbers, put_by, retold, stored_by}
 use Rattle.exchange_model.specs.Laws.{MayHear}
 use Rattle.exchange_model.proofs.Answered.{ended}
 use Rattle.exchange_model.proofs.Bare.{bare, bare_progress, step-bare}
 use Rattle.exchange_model.proofs.Brought.{Brings, store-brought}
-use Rattle.exchange_model.proofs.Came.{comes-back}
 use Rattle.exchange_model.proofs.Fresh.{outdated-late, outdated-now}
 use Rattle.exchange_model.proofs.Left.{legal-so}
 use Rattle.exchange_model.proofs.Noticing.{IsTold}
 use Rattle.exchange_model.proofs.Outrun.{EndsThose}
 use Rattle.exchange_model.proofs.Settling.{all-kept, is-ended, true-not, was-going, write-of}
-use Rattle.exchange_model.proofs.Storing.{pair-stays, stored-unwritten, stored-was}
+use Rattle.exchange_model.proofs.Storing.{pair-stays, stored-earlier, stored-fresh, stored-unwritten, stored-was}
 use Rattle.exchange_model.proofs.Stores.{every}
 use Rattle.exchange_model.proofs.Unwritten.{watches-current}
 use Rattle.exchange_model.proofs.Uses.{crowded-stays, has-filtered, order-filter, order-stays, order-weaker, unserved, Unused}
@@ -224,6 +223,7 @@ module _ (l : List Noted) (t : ℕ) (p : Peer) (d : List ℕ) (m : Content) (n :
 
       pair-of-other : (y : Pair) → PairIn l y × (is_of_another r.key y ≡ true) → PairIn (x ∷ l) y
       pair-of-other y a = pair-stays x l legal y a.0 (record {
+        own = refl;
         unwritten = writes (asked_place a.0.request);
         untold = λ i. out-not (asked_key a.0.request) i (by (same_key r.key (asked_key a.0.request)) refl);
         unanswered = λ o w f rs comes joins fresh. nothing o w (f ∷ rs) comes;
@@ -237,33 +237,24 @@ module _ (l : List Noted) (t : ℕ) (p : Peer) (d : List ℕ) (m : Content) (n :
       taken = record {
         pairs = all-more (λ (y : Pair). PairIn l y × (is_of_another r.key y ≡ true)) (PairIn (x ∷ l)) pair-of-other (others r.key S.store) (all-kept (PairIn l) (is_of_another r.key) S.store h.before.reads.store_is.pairs);
         order = order-weaker (x ∷ l) (length l) (length (x ∷ l)) (others r.key S.store) (omega arith)
-            (order-stays x l (length l) (others r.key S.store) legal (every (λ (y : Pair). Unused x l y.key) (λ y. unused y.key) (others r.key S.store))
+            (order-stays x l (length l) (others r.key S.store) legal refl (every (λ (y : Pair). Unused x l y.key) (λ y. unused y.key) (others r.key S.store))
             (order-filter l (length l) (is_of_another r.key) S.store h.before.reads.store_is.order));
-        kept = λ c s stored lasts. kept_so c s stored lasts (eqb_tells stored.ending (length l));
+        kept = λ c s stored lasts. elim (h.before.reads.store_is.kept c s (was-so c s stored) lasts) [
+          | inl had ↦ inl (has-filtered (asked_key c) (is_of_another r.key) S.store (λ y of_c. another c s stored y of_c (same_key y.key r.key) refl) had)
+          | inr out ↦ inr (crowded-stays x l (asked_key c) legal refl (unused (asked_key c)) out)
+        ];
       }
         where
-          kept_so : (c : CoapRequest) (s : Stored) → (stored : IsStored (x ∷ l) c s) → is_never_fresh s ≡ false
-              → ((eqb stored.ending (length l) ≡ true) × (stored.ending ≡ length l)) ⊎ ((eqb stored.ending (length l) ≡ false) × (stored.ending ≢ length l))
-              → HasPair (others r.key S.store) (asked_key c) ⊎ IsCrowdedOut (x ∷ l) (asked_key c)
-          kept_so c s stored lasts (inl now) = absurd (nothing stored.opening s.response (stored.first ∷ stored.more)
-              (subst (λ (i : ℕ). ComesSo (x ∷ l) stored.opening i s.response (stored.first ∷ stored.more)) now.1 stored.comes))
-          kept_so c s stored lasts (inr other) = elim (h.before.reads.store_is.kept c s (stored-was x l c s legal (stored-unwritten x l c s legal stored) stored other.1) lasts) [
-            | inl had ↦ inl (has-filtered (asked_key c) (is_of_another r.key) S.store (λ y of_c. another y of_c (same_key y.key r.key) refl) had)
-            | inr out ↦ inr (crowded-stays x l (asked_key c) legal (unused (asked_key c)) out)
-          ]
-            where
-              old : ComesSo l stored.opening stored.ending s.response (stored.first ∷ stored.more)
-              old = comes-back x l stored.opening stored.ending s.response (stored.first ∷ stored.more) stored.comes other.1
+          was-so : (c : CoapRequest) (s : Stored) → IsStored (x ∷ l) c s → IsStored l c s
+          was-so c s stored = stored-was x l c s legal refl (stored-unwritten x l c s legal refl stored) stored (stored-earlier x l c s nothing stored)
 
-              below : stored.first.number < length l
-              below =
-                  let fit = comes-fit l stored.opening stored.ending s.response (stored.first ∷ stored.more) stored.first h.before.reads.legal old (zero, omega arith, refl) in
-                  at-below l stored.first.number _ fit.heard
-
-              another : (y : Pair) → is_of (asked_key c) y ≡ true → (b : Bool) → same_key y.key r.key ≡ b → not b ≡ true
-              another y of_c false e = refl
-              another y of_c true e = absurd (false≢true (sym stored.newest ∙ out-now (asked_key c) stored.first.number
-                  ((keys_decided r.key (asked_key c)).1 (sym ((keys_decided y.key r.key).0 e) ∙ (keys_decided y.key (asked_key c)).0 of_c)) below))
+          -- What is stored is newer than all that was told, and so of another key.
+          another : (c : CoapRequest) (s : Stored) → IsStored (x ∷ l) c s → (y : Pair) → is_of (asked_key c) y ≡ true → (b : Bool) → same_key y.key r.key ≡ b → not b ≡ true
+          another c s stored y of_c false e = refl
+          another c s stored y of_c true e =
+              let it = stored-fresh x l c s legal refl stored (stored-earlier x l c s nothing stored) in
+              absurd (false≢true (sym it.fresh ∙ out-now (asked_key c) it.first
+              ((keys_decided r.key (asked_key c)).1 (sym ((keys_decided y.key r.key).0 e) ∙ (keys_decided y.key (asked_key c)).0 of_c)) it.below))
 
     -- what comes by it is a whole update
     comes-whole : (o : ℕ) (w : Response) (rs : List Reply) → ComesSo (x ∷ l) o (length l) w rs

@@ -1,9 +1,9 @@
 -- What is stored after an exchange has ended.
-use Rattle.std.proofs.Common.{◌≢◌, ◌≡◌, ℕ, ◌⊎◌, zero, inl, inr, Bool, true, false, not, cond, eqb, List, [], ◌∷◌, length, map, Option, Some, None, refl, sym, ap, subst, ◌∙◌, arith}
+use Rattle.std.proofs.Common.{◌≡◌, ℕ, ◌⊎◌, zero, inl, inr, Bool, true, false, not, cond, eqb, List, [], ◌∷◌, length, map, Option, Some, None, refl, sym, ap, subst, ◌∙◌, arith}
 use Rattle.std.specs.Prelude.{◌==◌, ◌&&◌, filter}
 use Rattle.std.specs.List.{AllByRecursion, Contains}
 use Rattle.std.proofs.lemmas.Bool.{false≢true, and_parts}
-use Rattle.std.proofs.lemmas.Bool.Decides.{Decides-eqb, eqb_tells}
+use Rattle.std.proofs.lemmas.Bool.Decides.{Decides-eqb}
 use Rattle.cache_key.specs.Keys.{CacheKey, same_key, same_place}
 use Rattle.cache_key.specs.declared.place.Place.{Place}
 use Rattle.cache_key.proofs.CallerLemmas.{keys_decided}
@@ -13,7 +13,7 @@ use Rattle.resp_cache.specs.declared.pair.Pair.{Pair}
 use Rattle.ask_model.specs.Requests.{CoapRequest}
 use Rattle.ask_model.specs.Sharing.{asked_key, asked_place, asks_same, is_get}
 use Rattle.ask_model.proofs.CallerLemmas.{same-key, same-place}
-use Rattle.history_laws.specs.Storing.{ComesSo, IsStored, IsUse, IsCrowdedOut, content, EndsSo}
+use Rattle.history_laws.specs.Storing.{ComesSo, IsBrought, IsStored, IsUse, IsCrowdedOut, content, EndsSo}
 use Rattle.history_laws.specs.Observing.{counting, outdated}
 use Rattle.history_laws.specs.Readings.{Noted}
 use Rattle.history_laws.specs.Responses.{Response}
@@ -28,9 +28,10 @@ use Rattle.exchange_model.specs.State.{State}
 use Rattle.exchange_model.specs.Steps.{asked_in, content_by, moment_in, newest_by, newest_content, put_by, settled_by, settled}
 use Rattle.exchange_model.proofs.Bare.{bare, bare_ending, numbers-bare}
 use Rattle.exchange_model.proofs.Brought.{Brings, store-brought}
+use Rattle.exchange_model.proofs.Carried.{IsOwn}
 use Rattle.exchange_model.proofs.Came.{fresh-before, none-updates}
 use Rattle.exchange_model.proofs.Watches.{outdated-quiet}
-use Rattle.exchange_model.proofs.Storing.{stored-unwritten, stored-was, pair-stays}
+use Rattle.exchange_model.proofs.Storing.{IsEarlier, stored-unwritten, stored-was, stored-when, pair-stays}
 use Rattle.exchange_model.proofs.Stores.{every}
 use Rattle.exchange_model.proofs.Uses.{crowded-stays, has-filtered, NotServing, order-filter, order-stays, order-weaker, unserved, Unused}
 use Rattle.exchange_model.proofs.Outrun.{asked-here, EndsThose}
@@ -44,7 +45,7 @@ newest-bare (f ∷ g ∷ rs) b = refl
 module _ (x : Noted) (l : List Noted) (S : State) (r : Reads l S) (legal : Legal (x ∷ l)) where
   -- the exchange that ends alone, by which nothing else is told
   module _ (e : Exchange) (has : Contains S.exchanges e) (ends : EndsThose x l S (e ∷ [])) (real : Ending) (came : Ends (x ∷ l) e.opening (length l) real)
-      (silent : counting l x.note ≡ None) where
+      (silent : counting l x.note ≡ None) (own : IsOwn x) where
     abbrev a : ExchangeIn r.start l e
     a = kept x l S r legal e has
 
@@ -94,6 +95,7 @@ module _ (x : Noted) (l : List Noted) (S : State) (r : Reads l S) (legal : Legal
         → ((w : Response) (f : Reply) (rs : List Reply) → EndsSo (x ∷ l) e.opening (length l) w (f ∷ rs) → Answers p b → outdated (x ∷ l) (asked_key b.request) f.number ≡ false → ⊥)
         → PairIn (x ∷ l) p
     spared p b writes none = pair-stays x l legal p b (record {
+      own = own;
       unwritten = writes;
       untold = λ n. outdated-quiet x l (asked_key b.request) n silent;
       unanswered = λ o w f rs comes joins fresh.
@@ -172,7 +174,7 @@ module _ (x : Noted) (l : List Noted) (S : State) (r : Reads l S) (legal : Legal
           }
 
       -- what is stored anew is its own
-      anew : (k : CoapRequest) (s : Stored) → (is : IsStored (x ∷ l) k s) → is.ending ≡ length l → is_never_fresh s ≡ false → Uses
+      anew : (k : CoapRequest) (s : Stored) → (is : IsBrought (x ∷ l) k s) → is.ending ≡ length l → is_never_fresh s ≡ false → Uses
       anew k s is now lasts =
           let comes = subst (λ (n : ℕ). ComesSo (x ∷ l) is.opening n s.response (is.first ∷ is.more)) now is.comes in
           let so = ends-only is.opening s.response (is.first ∷ is.more) comes in
@@ -201,27 +203,27 @@ module _ (x : Noted) (l : List Noted) (S : State) (r : Reads l S) (legal : Legal
           get-by k same = (and_parts (is_get q) (same_key (asked_key k) (asked_key q)) ((and_parts (is_get k) (is_get q && same_key (asked_key k) (asked_key q)) same).1)).0
 
       -- What was stored before stays so, or is crowded out.
-      before-it : (k : CoapRequest) (s : Stored) → (is : IsStored (x ∷ l) k s) → is_never_fresh s ≡ false → is.ending ≢ length l → HasPair S.store (asked_key k) ⊎ IsCrowdedOut l (asked_key k)
-      before-it k s is lasts other = r.store_is.kept k s (stored-was x l k s legal (stored-unwritten x l k s legal is) is other) lasts
+      before-it : (k : CoapRequest) (s : Stored) → (is : IsStored (x ∷ l) k s) → is_never_fresh s ≡ false → IsEarlier x l k s is → HasPair S.store (asked_key k) ⊎ IsCrowdedOut l (asked_key k)
+      before-it k s is lasts earlier = r.store_is.kept k s (stored-was x l k s legal own (stored-unwritten x l k s legal own is) is earlier) lasts
 
       -- where nothing is stored
       still-all : (ps : List Pair) → AllByRecursion (PairIn (x ∷ l)) ps → AreLastFirst l (length l) ps → (Uses → ⊥)
-          → ((k : CoapRequest) (s : Stored) → (is : IsStored (x ∷ l) k s) → is.ending ≢ length l → HasPair S.store (asked_key k) → HasPair ps (asked_key k))
+          → ((k : CoapRequest) (s : Stored) → IsStored (x ∷ l) k s → HasPair S.store (asked_key k) → HasPair ps (asked_key k))
           → StoreIn (x ∷ l) ps
       still-all ps pairs order none has = record {
         pairs = pairs;
         order = order-weaker (x ∷ l) (length l) (length (x ∷ l)) ps (omega arith)
-            (order-stays x l (length l) ps legal (every (λ (p : Pair). Unused x l p.key) (λ p u. none (uses p.key u)) ps) order);
-        kept = λ k s is lasts. kept_so k s is lasts (eqb_tells is.ending (length l));
+            (order-stays x l (length l) ps legal own (every (λ (p : Pair). Unused x l p.key) (λ p u. none (uses p.key u)) ps) order);
+        kept = λ k s is lasts. kept_so k s is lasts (stored-when x l k s is);
       }
         where
           kept_so : (k : CoapRequest) (s : Stored) → (is : IsStored (x ∷ l) k s) → is_never_fresh s ≡ false
-              → ((eqb is.ending (length l) ≡ true) × (is.ending ≡ length l)) ⊎ ((eqb is.ending (length l) ≡ false) × (is.ending ≢ length l))
+              → ((a : IsBrought (x ∷ l) k s) × (a.ending ≡ length l)) ⊎ IsEarlier x l k s is
               → HasPair ps (asked_key k) ⊎ IsCrowdedOut (x ∷ l) (asked_key k)
-          kept_so k s is lasts (inl now) = absurd (none (anew k s is now.1 lasts))
-          kept_so k s is lasts (inr other) = elim (before-it k s is lasts other.1) [
-            | inl had ↦ inl (has k s is other.1 had)
-            | inr out ↦ inr (crowded-stays x l (asked_key k) legal (λ u. none (uses (asked_key k) u)) out)
+          kept_so k s is lasts (inl now) = absurd (none (anew k s now.0 now.1 lasts))
+          kept_so k s is lasts (inr earlier) = elim (before-it k s is lasts earlier) [
+            | inl had ↦ inl (has k s is had)
+            | inr out ↦ inr (crowded-stays x l (asked_key k) legal own (λ u. none (uses (asked_key k) u)) out)
           ]
 
       -- a write
@@ -233,8 +235,8 @@ module _ (x : Noted) (l : List Noted) (S : State) (r : Reads l S) (legal : Legal
           (all-kept (PairIn l) (is_elsewhere (asked_place q)) S.store r.store_is.pairs))
           (order-filter l (length l) (is_elsewhere (asked_place q)) S.store r.store_is.order)
           (λ u. false≢true (sym write ∙ method-of u.get))
-          (λ k s is other had. has-filtered (asked_key k) (is_elsewhere (asked_place q)) S.store
-          (is-away x l S r legal (e ∷ []) ends k (stored-unwritten x l k s legal is) e (zero, omega arith, refl) q (asked-here l S r e a) write) had)
+          (λ k s is had. has-filtered (asked_key k) (is_elsewhere (asked_place q)) S.store
+          (is-away x l S r legal (e ∷ []) ends k (stored-unwritten x l k s legal own is) e (zero, omega arith, refl) q (asked-here l S r e a) write) had)
         where
           away : (p : Pair) → is_elsewhere (asked_place q) p ≡ true → (g : Exchange) → Contains (e ∷ []) g → (u : CoapRequest) → asked_in S.entries g.opening ≡ Some u → is_elsewhere (asked_place u) p ≡ true
           away p h g in_e u is = subst (λ (k : CoapRequest). is_elsewhere (asked_place k) p ≡ true)
@@ -247,7 +249,7 @@ module _ (x : Noted) (l : List Noted) (S : State) (r : Reads l S) (legal : Legal
       stays get none = still-all S.store
           (all-more (PairIn l) (PairIn (x ∷ l)) (λ p b. spared p b (gets get (asked_place b.request))
           (λ w f rs so it fresh. none w f rs so (get-of p b it) it.current (ap (λ (z : CacheKey). outdated (x ∷ l) z f.number) (sym (same-key b.request q it.same)) ∙ fresh))) S.store r.store_is.pairs)
-          r.store_is.order (λ u. none u.response u.first u.more u.so u.get u.current u.fresh) (λ k s is other had. had)
+          r.store_is.order (λ u. none u.response u.first u.more u.so u.get u.current u.fresh) (λ k s is had. had)
 
       other-than : (u : Ending) → Ends (x ∷ l) e.opening (length l) u → ((w : Response) (rs : List Reply) → u ≡ Whole w rs → ⊥) → eqb q.method 1 ≡ true → StoreIn (x ∷ l) S.store
       other-than u c none get = stays get (λ w f rs so g k fresh. no-whole (length l) u w (f ∷ rs) (none w (f ∷ rs)) (sym c ∙ so.ended))

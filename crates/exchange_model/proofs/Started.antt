@@ -23,7 +23,7 @@ start-keeps = record {
       exchanges_are = tt;
       pieces_are = record { fetched = tt; below = tt };
       watches_are = refl;
-      store_is = no-store [] refl;
+      store_is = no-store [] refl (λ o. refl);
       tokens_are = tt;
       waiting_are = tt;
       links_are = λ p. record { turn = refl; known = refl; last = λ t later. tt; count_up = λ t later. tt; given = λ t later. refl; waits = tt; awaits = λ token. refl; acks = λ mid token. refl; heard = record { repeats = λ t mid later. refl; live = λ t later. refl } };

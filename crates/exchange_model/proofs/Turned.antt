@@ -1,5 +1,5 @@
 -- After a turn a state reads the copies.
-use Rattle.std.proofs.Common.{◌≡◌, ℕ, ◌<◌, ◌≤◌, Bool, true, false, cond, List, [], ◌∷◌, length, map, Option, Some, None, refl, sym, ap, subst, ◌∙◌, arith}
+use Rattle.std.proofs.Common.{◌≡◌, ℕ, ◌<◌, ◌≤◌, Bool, true, false, cond, List, [], ◌∷◌, length, map, Option, Some, None, refl, sym, ap, subst, ◌∙◌, arith, append-nil}
 use Rattle.std.specs.Prelude.{not, ◌||◌, nat_lt, filter, is_some}
 use Rattle.std.specs.List.{AllByRecursion, list_any, find}
 use Rattle.std.proofs.lemmas.Bool.{false≢true, ltb-false}
@@ -12,10 +12,11 @@ use Rattle.uri_map.proofs.CallerLemmas.{same_peer-same}
 use Rattle.message_layer.specs.Values.{LinkState, empty_link}
 use Rattle.message_layer.specs.Mids.{is_in_use}
 use Rattle.message_layer.specs.Calls.{kept_link}
-use Rattle.journal_book.specs.Entries.{Past, Written, Deed, Sends, Hears, Carries}
+use Rattle.journal_book.specs.Entries.{Written, Deed, Asks, Sends, Hears, Carries}
 use Rattle.journal_book.specs.Entries as D
 use Rattle.history_laws.specs.Numbering.{token_number}
-use Rattle.history_laws.specs.Readings.{Noted, Note, First, Says, Bygone, Recalls, Answered, ticked}
+use Rattle.history_laws.specs.Readings.{Noted, Note, First, Says, Bygone, Recalls, Answered, entries, ticked}
+use Rattle.history_laws.proofs.CallerLemmas.{all-more}
 use Rattle.history_laws.specs.Connections.{opened}
 use Rattle.history_laws.specs.Confirming.{owed}
 use Rattle.history_laws.specs.Transmissions.{FirstSending, firsts_by, firsts}
@@ -23,19 +24,24 @@ use Rattle.history_laws.specs.Hearing.{is_such, knows, recalls_by, recalls}
 use Rattle.history_laws.specs.Justified.{Follows, IsNextConn, Legal}
 use Rattle.history_links.specs.Agrees.{Start, Agrees}
 use Rattle.exchange_model.specs.State.{PeerLink, State, link_of}
-use Rattle.exchange_model.specs.Reads.{Reads, held_of}
+use Rattle.exchange_model.specs.Reads.{PairIn, Reads, held_of}
 use Rattle.exchange_model.specs.Resting.{LinkRests}
 use Rattle.exchange_model.specs.Keeping.{HasMids}
-use Rattle.exchange_model.specs.Rotating.{RotatesKeeps, copies, fault_of, has_copy, is_spent, keep_peer, turned, all_over, Unsealed, Connected, Exchanging, Spent}
-use Rattle.exchange_model.proofs.CopiedIdle.{openings-copied, conns-copied, readers-copied, has-copied, none-issued, none-open, opened-copied, opens-copied, sealed-copied, unwatched}
-use Rattle.exchange_model.proofs.Stores.{no-store}
+use Rattle.exchange_model.specs.Rotating.{RotatesKeeps, Backed, carried_numbers, copied_entries, copies_with, has, place_of, taken, fault_of, has_copy, is_spent, keep_peer, turned, all_over, Unsealed, Connected, Exchanging, Spent}
+use Rattle.exchange_model.proofs.CopiedIdle.{conns-copied, readers-copied, has-copied, none-issued, none-open, opened-copied, opens-copied, sealed-copied, unwatched}
 use Rattle.exchange_model.proofs.Tables.{reads-from, reads-later}
-use Rattle.exchange_model.proofs.Shapes.{Sending, Hearing, kept_as, still_kept, copy_as, opening_as, first_as, firsts-as, if_such}
-use Rattle.exchange_model.proofs.Copies.{cons_if, add_kept, copied, newest-copied}
+use Rattle.exchange_model.proofs.Shapes.{Sending, Hearing, Copy, Sent, Aimed, Heard, Bare, kept_as, still_kept, copy_as, copy_by, past_if, past_of, kept-copy, Fits, opening_as, first_as, firsts-as, if_such}
+use Rattle.exchange_model.proofs.Copies.{add_copy, copied, copy_in, fits-in, kept_in, newest-copied}
+use Rattle.exchange_model.proofs.Backed.{AreBacked, ArePlaced, are-sound}
+use Rattle.exchange_model.proofs.StoredFacts.{StoredFacts, stored-facts}
+use Rattle.exchange_model.proofs.Taken.{AreTaken, are-taken, keys-apart}
+use Rattle.exchange_model.proofs.TakenBacked.{are-backed}
+use Rattle.exchange_model.proofs.TakenPlaced.{are-placed}
+use Rattle.exchange_model.proofs.TakenStore.{store-turned}
 use Rattle.exchange_model.proofs.CopiedEntries.{entries-copied}
 use Rattle.exchange_model.proofs.CopiedLegal.{legal-copied}
 use Rattle.exchange_model.proofs.CopiedLinks.{kept-agrees}
-use Rattle.exchange_model.proofs.CopiedUnknown.{known-copied, knows-copy, none-agrees, of_peer}
+use Rattle.exchange_model.proofs.CopiedUnknown.{known-copied, knows-copy, none-agrees, of_copy, of_peer}
 use Rattle.exchange_model.proofs.Shapes as H
 
 -- A turn is made where there are numbers left.
@@ -64,9 +70,14 @@ of_kept p None = false
 of_kept p (Some (Sending q b w m)) = same_peer q p
 of_kept p (Some (Hearing q b m a)) = same_peer q p
 
+abbrev of_any : Peer → Option Copy → Bool
+of_any p None = false
+of_any p (Some c) = of_copy p c
+
 abbrev adds : Peer → Deed → Note → Bool
 adds p (Sends q b w) (First o m) = same_peer q p
 adds p (Carries k mark (D.Sent q b w)) (Bygone m) = same_peer q p
+adds p (Carries k mark (D.Sent q b w)) (First o m) = same_peer q p
 adds p (Carries k mark (D.Heard q b)) (Recalls m a) = same_peer q p
 adds p d note = false
 
@@ -85,6 +96,7 @@ knows-by : (p : Peer) (n s : ℕ) (d : Deed) (note : Note) (old : List FirstSend
 knows-by p n s (Sends q b w) (First o m) old any = one-more (same_peer q p) _ (find (λ (f : FirstSending). same_peer f.peer p) old) any
 knows-by p n s (Sends q b w) note old any = refl
 knows-by p n s (Carries k mark (D.Sent q b w)) (Bygone m) old any = one-more (same_peer q p) _ (find (λ (f : FirstSending). same_peer f.peer p) old) any
+knows-by p n s (Carries k mark (D.Sent q b w)) (First o m) old any = one-more (same_peer q p) _ (find (λ (f : FirstSending). same_peer f.peer p) old) any
 knows-by p n s (Carries k mark (D.Sent q b w)) note old any = refl
 knows-by p n s (Carries k mark (D.Heard q b)) (Recalls m a) old any = or-swap (is_some (find (λ (f : FirstSending). same_peer f.peer p) old)) (same_peer q p) any
 knows-by p n s (Carries k mark (D.Heard q b)) note old any = refl
@@ -110,41 +122,57 @@ kept-known l s p (Hears q b) (Says m to notice) f e =
     subst (λ (r : Peer). knows l r ≡ true) (same_peer-same q p (of-such (is_such m.kind) p q b m _ e)) f.2
 kept-known l s p (Hears q b) note f e = absurd (false≢true e)
 kept-known l s p (Carries k mark (D.Sent q b w)) (Bygone m) f e = or-left (same_peer q p) (knows l p) e
+kept-known l s p (Carries k mark (D.Sent q b w)) (First o m) f e = or-left (same_peer q p) (knows l p) e
 kept-known l s p (Carries k mark (D.Sent q b w)) note f e = absurd (false≢true e)
 kept-known l s p (Carries k mark (D.Heard q b)) (Recalls m a) f e = or-left (same_peer q p) (knows l p) (of-such (is_such m.kind) p q b m a e)
 kept-known l s p (Carries k mark (D.Heard q b)) note f e = absurd (false≢true e)
 kept-known l s p (Carries k mark (D.Asked c a)) note f e = absurd (false≢true e)
 kept-known l s p d note f e = absurd (false≢true e)
 
+past-known : (t s : ℕ) (p : Peer) (k : Option H.Kept) → of_any p (past_of t s k) ≡ true → of_kept p k ≡ true
+past-known t s p None e = e
+past-known t s p (Some k) e = by k (still_kept t s k) e
+  where
+    by : (k : H.Kept) (b : Bool) → of_any p (past_if b k) ≡ true → of_kept p (Some k) ≡ true
+    by (Sending q b w m) true e = e
+    by (Hearing q b m a) true e = e
+    by k false e = absurd (false≢true e)
+
+copy-known : (f : ℕ → ℕ) (t : ℕ) (l : List Noted) (s : ℕ) (p : Peer) (d : Deed) (note : Note) (c : Bool) → Follows l s d note
+    → of_any p (copy_by c f t s d note) ≡ true → (adds p d note || knows l p) ≡ true
+copy-known f t l s p d note false h e = kept-known l s p d note h (past-known t s p (kept_as d note) e)
+copy-known f t l s p (Asks c a) note true h e = absurd (false≢true e)
+copy-known f t l s p (Sends q b w) (First o m) true h e = or-left (same_peer q p) (knows l p) e
+copy-known f t l s p (Sends q b w) note true h e = absurd (false≢true e)
+copy-known f t l s p (Hears q b) (Says m to notice) true h e = subst (λ (r : Peer). knows l r ≡ true) (same_peer-same q p e) h.2
+copy-known f t l s p (Hears q b) note true h e = absurd (false≢true e)
+copy-known f t l s p (Carries k mark (D.Sent q b w)) (First o m) true h e = or-left (same_peer q p) (knows l p) e
+copy-known f t l s p (Carries k mark (D.Sent q b w)) (Bygone m) true h e = or-left (same_peer q p) (knows l p) e
+copy-known f t l s p (Carries k mark (D.Sent q b w)) note true h e = absurd (false≢true e)
+copy-known f t l s p (Carries k mark (D.Heard q b)) (Recalls m a) true h e = or-left (same_peer q p) (knows l p) e
+copy-known f t l s p (Carries k mark (D.Heard q b)) note true h e = absurd (false≢true e)
+copy-known f t l s p (Carries k mark (D.Asked c a)) note true h e = absurd (false≢true e)
+copy-known f t l s p d note true h e = absurd (false≢true e)
+
 or-right : (a b : Bool) → b ≡ true → (a || b) ≡ true
 or-right true b e = refl
 or-right false b e = e
 
-known-cons : (p : Peer) (b : Bool) (n s : ℕ) (k : H.Kept) (l m : List Noted) → (of_kept p (Some k) ≡ true → knows m p ≡ true)
-    → (knows l p ≡ true → knows m p ≡ true) → knows (cons_if b (copy_as n s k) l) p ≡ true → knows m p ≡ true
-known-cons p false n s k l m here older e = older e
-known-cons p true n s (Sending q b w m) l all here older e = by (same_peer q p) here (sym (knows-copy p n s (Sending q b w m) l) ∙ e)
+known-add : (p : Peer) (n s : ℕ) (oc : Option Copy) (l m : List Noted) → (of_any p oc ≡ true → knows m p ≡ true)
+    → (knows l p ≡ true → knows m p ≡ true) → knows (add_copy n s oc l) p ≡ true → knows m p ≡ true
+known-add p n s None l m here older e = older e
+known-add p n s (Some c) l all here older e = by (of_copy p c) here (sym (knows-copy p n s c l) ∙ e)
   where
-    by : (c : Bool) → (c ≡ true → knows all p ≡ true) → (c || knows l p) ≡ true → knows all p ≡ true
-    by true h e = h refl
-    by false h e = older e
-known-cons p true n s (Hearing q b m a) l all here older e = by (same_peer q p) here (sym (knows-copy p n s (Hearing q b m a) l) ∙ e)
-  where
-    by : (c : Bool) → (c ≡ true → knows all p ≡ true) → (c || knows l p) ≡ true → knows all p ≡ true
+    by : (b : Bool) → (b ≡ true → knows all p ≡ true) → (b || knows l p) ≡ true → knows all p ≡ true
     by true h e = h refl
     by false h e = older e
 
-known-add : (p : Peer) (t n s : ℕ) (k : Option H.Kept) (l m : List Noted) → (of_kept p k ≡ true → knows m p ≡ true)
-    → (knows l p ≡ true → knows m p ≡ true) → knows (add_kept t n s k l) p ≡ true → knows m p ≡ true
-known-add p t n s None l m here older e = older e
-known-add p t n s (Some k) l m here older e = known-cons p (still_kept t s k) n s k l m here older e
-
-known-before : (p : Peer) (t : ℕ) (l : List Noted) → Legal l → knows (copied t l) p ≡ true → knows l p ≡ true
-known-before p t [] legal e = e
-known-before p t (x ∷ older) legal e =
-    known-add p t (length older) x.written.moment (kept_as x.written.deed x.note) (copied t older) (x ∷ older)
-    (λ h. knows-entry p x older ∙ kept-known older x.written.moment p x.written.deed x.note legal.2 h)
-    (λ h. knows-entry p x older ∙ or-right (adds p x.written.deed x.note) (knows older p) (known-before p t older legal.0 h))
+known-before : (p : Peer) (f : ℕ → ℕ) (gs : List ℕ) (t : ℕ) (l : List Noted) → Legal l → knows (copied f gs t l) p ≡ true → knows l p ≡ true
+known-before p f gs t [] legal e = e
+known-before p f gs t (x ∷ older) legal e =
+    known-add p (length older) x.written.moment (copy_in f gs t (length older) x) (copied f gs t older) (x ∷ older)
+    (λ h. knows-entry p x older ∙ copy-known f t older x.written.moment p x.written.deed x.note (has gs (length older)) legal.2 h)
+    (λ h. knows-entry p x older ∙ or-right (adds p x.written.deed x.note) (knows older p) (known-before p f gs t older legal.0 h))
     e
 
 -- each link as the turn leaves it
@@ -178,38 +206,42 @@ module _ (P : Content → Type 0) where
   abbrev All : List FirstSending → Type 0
   All fs = AllByRecursion (λ (f : FirstSending). P f.message) fs
 
-  issued-cons : (b : Bool) (n s o : ℕ) (k : H.Kept) (old : List FirstSending) (l : List Noted) → All (first_as n s o (Some k) old)
-      → (All old → All (firsts l)) → All (firsts (cons_if b (copy_as n s k) l))
-  issued-cons true n s o (Sending p b w m) old l h more = (h.0, more h.1)
-  issued-cons true n s o (Hearing p b m a) old l h more = more h
-  issued-cons false n s o (Sending p b w m) old l h more = more h.1
-  issued-cons false n s o (Hearing p b m a) old l h more = more h
+  first-more : (n s o m u q : ℕ) (k : Option H.Kept) (old new : List FirstSending) → All (first_as n s o k old) → (All old → All new) → All (first_as m u q k new)
+  first-more n s o m u q None old new h more = more h
+  first-more n s o m u q (Some (Hearing p b c a)) old new h more = more h
+  first-more n s o m u q (Some (Sending p b w c)) old new h more = (h.0, more h.1)
 
-  issued-add : (t n s o : ℕ) (k : Option H.Kept) (old : List FirstSending) (l : List Noted) → All (first_as n s o k old)
-      → (All old → All (firsts l)) → All (firsts (add_kept t n s k l))
-  issued-add t n s o None old l h more = more h
-  issued-add t n s o (Some k) old l h more = issued-cons (still_kept t s k) n s o k old l h more
+  issued-add : (t n s o : ℕ) (oc : Option Copy) (k : Option H.Kept) (old : List FirstSending) (l : List Noted) → Fits t s oc k → All (first_as n s o k old)
+      → (All old → All (firsts l)) → All (firsts (add_copy n s oc l))
+  issued-add t n s o None None old l fits h more = more h
+  issued-add t n s o None (Some (Hearing p b c a)) old l fits h more = more h
+  issued-add t n s o None (Some (Sending p b w c)) old l fits h more = more h.1
+  issued-add t n s o (Some c) k old l fits h more =
+      let y = copy_as n s c in
+      subst All (sym (firsts-as (length l) y.written.moment y.written.deed y.note (firsts l)))
+      (first-more n s o (length l) y.written.moment (opening_as (length l) y.note) (kept_in y) old (firsts l)
+      (subst (λ (k : Option H.Kept). All (first_as n s o k old)) (sym (kept-copy n s c ∙ fits)) h) more)
 
-  issued-copied : (t : ℕ) (l : List Noted) → All (firsts l) → All (firsts (copied t l))
-  issued-copied t [] h = tt
-  issued-copied t (x ∷ older) h =
-      issued-add t (length older) x.written.moment (opening_as (length older) x.note) (kept_as x.written.deed x.note) (firsts older) (copied t older)
-      (subst All (firsts-as (length older) x.written.moment x.written.deed x.note (firsts older)) h) (λ old. issued-copied t older old)
+  issued-copied : (f : ℕ → ℕ) (gs : List ℕ) (t : ℕ) (l : List Noted) → All (firsts l) → All (firsts (copied f gs t l))
+  issued-copied f gs t [] h = tt
+  issued-copied f gs t (x ∷ older) h =
+      issued-add t (length older) x.written.moment (opening_as (length older) x.note) (copy_in f gs t (length older) x) (kept_in x) (firsts older) (copied f gs t older)
+      (fits-in f gs t (length older) x)
+      (subst All (firsts-as (length older) x.written.moment x.written.deed x.note (firsts older)) h) (λ old. issued-copied f gs t older old)
 
 -- Nothing is owed, and no tick was made.
 
-unowed-cons : (b : Bool) (n s : ℕ) (k : H.Kept) (l : List Noted) → owed l ≡ None → owed (cons_if b (copy_as n s k) l) ≡ None
-unowed-cons true n s (Sending p b w m) l e = refl
-unowed-cons true n s (Hearing p b m a) l e = refl
-unowed-cons false n s k l e = e
+unowed-add : (n s : ℕ) (oc : Option Copy) (l : List Noted) → owed l ≡ None → owed (add_copy n s oc l) ≡ None
+unowed-add n s None l e = e
+unowed-add n s (Some (Sent mark p b w m)) l e = refl
+unowed-add n s (Some (Aimed p b w o m)) l e = refl
+unowed-add n s (Some (Heard mark p b m a)) l e = refl
+unowed-add n s (Some (Bare done)) l e = refl
 
-unowed-add : (t n s : ℕ) (k : Option H.Kept) (l : List Noted) → owed l ≡ None → owed (add_kept t n s k l) ≡ None
-unowed-add t n s None l e = e
-unowed-add t n s (Some k) l e = unowed-cons (still_kept t s k) n s k l e
-
-unowed-copied : (t : ℕ) (l : List Noted) → owed (copied t l) ≡ None
-unowed-copied t [] = refl
-unowed-copied t (x ∷ older) = unowed-add t (length older) x.written.moment (kept_as x.written.deed x.note) (copied t older) (unowed-copied t older)
+unowed-copied : (f : ℕ → ℕ) (gs : List ℕ) (t : ℕ) (l : List Noted) → owed (copied f gs t l) ≡ None
+unowed-copied f gs t [] = refl
+unowed-copied f gs t (x ∷ older) =
+    unowed-add (length older) x.written.moment (copy_in f gs t (length older) x) (copied f gs t older) (unowed-copied f gs t older)
 
 -- So the state reads the copies.
 
@@ -219,43 +251,76 @@ after t S = record { moment = t; issued = S.issued; opened = S.opened }
 fewer : {X : Type 0} (q : X → Bool) (xs : List X) → length (filter q xs) ≤ length xs
 fewer q xs = let is = length-filter q xs in let le = count_by-le-length q xs in omega (arith, is, le)
 
-link-agrees : (t : ℕ) (l : List Noted) (S : State) (p : Peer) (r : Reads l S) → S.moment ≤ t → Agrees (after t S) (copied t l) p (link_of (turned t S).links p)
-link-agrees t l S p r later = subst (Agrees (after t S) (copied t l) p) (sym (turned-link t (copies t S.entries) S.links p)) (by (of_peer p (copies t S.entries)) refl)
-  where
-    known : knows (copied t l) p ≡ of_peer p (copies t S.entries)
-    known = known-copied p t l ∙ ap (of_peer p) (entries-copied t l r.legal ∙ ap (copies t) r.entries_are)
+module _ (t : ℕ) (l : List Noted) (S : State) (r : Reads l S) where
+  abbrev bs : List Backed
+  bs = taken t S
 
-    by : (b : Bool) → of_peer p (copies t S.entries) ≡ b → Agrees (after t S) (copied t l) p (cond b (kept_link t (link_of S.links p)) empty_link)
-    by true is =
-        let now = known ∙ is in
-        kept-agrees r.start (after t S) t l p (link_of S.links p) r.legal refl (reads-from l t S r later, reads-later l t S r later)
-        ((r.links_are p).known ∙ (known-before p t l r.legal now ∙ sym now)) (r.links_are p)
-    by false is = none-agrees (after t S) t l p (known ∙ is)
+  abbrev gs : List ℕ
+  gs = carried_numbers bs
 
-pub reads-copied : (t : ℕ) (l : List Noted) (S : State) → Reads l S → S.moment ≤ t → fault_of t S ≡ None → Reads (copied t l) (turned t S)
-reads-copied t l S r later fit = record {
-  start = after t S;
-  few = few-left t S fit;
-  entries_are = entries-copied t l r.legal ∙ ap (copies t) r.entries_are;
-  legal = legal-copied t l r.legal;
-  sealed_is = sealed-copied t l;
-  moment_is =
-      let old = newest-copied t l r.legal in let new = reads-later l t S r later in
-      omega (arith, old, new);
-  opened_are = subst (λ (b : Bool). IsNextConn b (opened (copied t l)) S.opened) (sym (has-copied t l)) (let none = opened-copied t l in omega (arith, none));
-  opens_are = let none = opens-copied t l in omega (arith, none);
-  issued_are = let none = none-issued t l in omega (arith, none);
-  conns_are = conns-copied t l;
-  readers_are = readers-copied t l;
-  keys = none-open t l;
-  exchanges_are = tt;
-  pieces_are = record { fetched = tt; below = tt };
-  watches_are = ap (map held_of) (unwatched t l);
-  store_is = no-store (copied t l) (openings-copied t l);
-  tokens_are = issued-copied (λ (m : Content). token_number m.token < S.issued) t l r.tokens_are;
-  waiting_are = tt;
-  links_are = λ p. link-agrees t l S p r later;
-}
+  abbrev ws : List Written
+  ws = copied_entries t S
+
+  abbrev f : ℕ → ℕ
+  f n = place_of ws n
+
+  abbrev pub next : List Noted
+  next = copied f gs t l
+
+  are_taken : AreTaken l bs
+  are_taken = are-taken t S l r.entries_are
+      (all-more (PairIn l) (StoredFacts l) (λ p a. stored-facts l p r.legal a) S.store r.store_is.pairs)
+      (keys-apart l (length l) S.store r.store_is.order)
+
+  all_backed : AreBacked gs l
+  all_backed = are-backed l bs r.legal are_taken
+
+  entries_next : entries next ≡ ws
+  entries_next = entries-copied gs f t l r.legal ∙ ap (λ (es : List Written). copies_with t es gs) r.entries_are
+
+  placed : ArePlaced gs f t l
+  placed = are-placed gs f t ws (λ n. refl) l [] (sym entries_next ∙ sym (append-nil (entries next))) all_backed
+
+  legal_next : Legal next
+  legal_next = legal-copied f gs t l r.legal all_backed placed
+
+  link-agrees : (p : Peer) → S.moment ≤ t → Agrees (after t S) next p (link_of (turned t S).links p)
+  link-agrees p later = subst (Agrees (after t S) next p) (sym (turned-link t ws S.links p)) (by (of_peer p ws) refl)
+    where
+      known : knows next p ≡ of_peer p ws
+      known = known-copied p f gs t l (are-sound gs f t l all_backed) ∙ ap (of_peer p) entries_next
+
+      by : (b : Bool) → of_peer p ws ≡ b → Agrees (after t S) next p (cond b (kept_link t (link_of S.links p)) empty_link)
+      by true is =
+          let now = known ∙ is in
+          kept-agrees r.start (after t S) f gs t l p (link_of S.links p) r.legal refl (reads-from l t S r later, reads-later l t S r later)
+          ((r.links_are p).known ∙ (known-before p f gs t l r.legal now ∙ sym now)) (r.links_are p)
+      by false is = none-agrees (after t S) f gs t l p (known ∙ is)
+
+  pub reads-copied : S.moment ≤ t → fault_of t S ≡ None → Reads next (turned t S)
+  reads-copied later fit = record {
+    start = after t S;
+    few = few-left t S fit;
+    entries_are = entries_next;
+    legal = legal_next;
+    sealed_is = sealed-copied f gs t l;
+    moment_is =
+        let old = newest-copied f gs t l r.legal in let new = reads-later l t S r later in
+        omega (arith, old, new);
+    opened_are = subst (λ (b : Bool). IsNextConn b (opened next) S.opened) (sym (has-copied f gs t l)) (let none = opened-copied f gs t l in omega (arith, none));
+    opens_are = let none = opens-copied f gs t l in omega (arith, none);
+    issued_are = let none = none-issued f gs t l in omega (arith, none);
+    conns_are = conns-copied f gs t l;
+    readers_are = readers-copied f gs t l;
+    keys = none-open f gs t l;
+    exchanges_are = tt;
+    pieces_are = record { fetched = tt; below = tt };
+    watches_are = ap (map held_of) (unwatched f gs t l);
+    store_is = store-turned ws t l bs r.legal are_taken placed legal_next;
+    tokens_are = issued-copied (λ (m : Content). token_number m.token < S.issued) f gs t l r.tokens_are;
+    waiting_are = tt;
+    links_are = λ p. link-agrees p later;
+  }
 
 -- What is kept of a core between two steps is kept of what a turn leaves.
 
@@ -273,13 +338,14 @@ mids-kept t false s h = record { small = tt; enough = omega arith }
 pub rotates-keeps : RotatesKeeps
 rotates-keeps t S k later fit =
     let l = k.reading in
-    let ws = copies t S.entries in
+    let r = k.rests.reads in
+    let ws = copied_entries t S in
     record {
-      reading = copied t l;
+      reading = next t l S r;
       rests = record {
-        reads = reads-copied t l S k.rests.reads later fit;
-        quiet = unowed-copied t l;
-        links = λ p. subst (LinkRests (ticked (copied t l))) (sym (turned-link t ws S.links p)) (rests-undue t (ticked (copied t l)) (of_peer p ws) (link_of S.links p));
+        reads = reads-copied t l S r later fit;
+        quiet = unowed-copied (place_of ws) (carried_numbers (taken t S)) t l;
+        links = λ p. subst (LinkRests (ticked (next t l S r))) (sym (turned-link t ws S.links p)) (rests-undue t (ticked (next t l S r)) (of_peer p ws) (link_of S.links p));
         in_time = tt;
         served = tt;
         reading = tt;

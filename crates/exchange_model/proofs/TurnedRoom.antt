@@ -1,5 +1,5 @@
 -- After a turn the journal is within its limits.
-use Rattle.std.proofs.Common.{◌≡◌, ℕ, ◌≤◌, Bool, true, false, cond, not, List, [], ◌∷◌, length, map, None, refl, sym, arith}
+use Rattle.std.proofs.Common.{◌≡◌, ℕ, ◌≤◌, Bool, true, false, cond, not, List, [], ◌∷◌, ◌++◌, length, map, None, refl, sym, ap, ◌∙◌, arith, append-nil, append_assoc}
 use Rattle.std.specs.Prelude.{◌||◌, nat_le, nat_lt, filter, sum_by}
 use Rattle.std.specs.List.{AllByRecursion, list_any}
 use Rattle.std.proofs.lemmas.Bool.{false≢true, and_parts}
@@ -10,25 +10,46 @@ use Rattle.exchange_model.specs.State.{PeerLink, State}
 use Rattle.exchange_model.specs.Calls.{peer_of}
 use Rattle.exchange_model.specs.Entering.{StandsOnce}
 use Rattle.exchange_model.specs.Room.{AreApart, IsShort}
-use Rattle.exchange_model.specs.Rotating.{RotatesInRoom, RotatesDrained, Unsealed, Connected, Exchanging, Spent, Crowded, all_over, are_few, copies, fault_of, has_copy, is_spent, keep_peer, turned}
+use Rattle.exchange_model.specs.Rotating.{RotatesInRoom, RotatesDrained, Unsealed, Connected, Exchanging, Spent, Crowded, Backed, all_over, are_few, backed, carried_numbers, copied_entries, copies, copies_with, few_of, fault_of, has_copy, is_spent, keep_peer, turned}
 use Rattle.exchange_model.proofs.InRoom.{fits-from, le-true}
 use Rattle.exchange_model.proofs.Turned.{first-none, rotates-keeps}
 
--- There are few copies.
-few-copies : (t : ℕ) (S : State) → fault_of t S ≡ None
-    → (length (copies t S.entries) ≤ 32768) × (sum_by entry_size (copies t S.entries) ≤ 134217728)
-few-copies t S e =
+-- There are few copies of what is remembered,
+
+is-true : (b : Bool) → not b ≡ false → b ≡ true
+is-true true e = refl
+is-true false e = absurd (false≢true (sym e))
+
+few-remembered : (t : ℕ) (S : State) → fault_of t S ≡ None → are_few (copies t S.entries) ≡ true
+few-remembered t S e =
     let a = first-none (not S.sealed) Unsealed _ e in
     let b = first-none (nat_lt 0 (length S.conns)) Connected _ a.1 in
     let c = first-none (not (all_over t S)) Exchanging _ b.1 in
     let d = first-none (is_spent S) Spent _ c.1 in
     let f = first-none (not (are_few (copies t S.entries))) Crowded None d.1 in
-    let both = and_parts (nat_le (length (copies t S.entries)) 32768) (nat_le (sum_by entry_size (copies t S.entries)) 134217728) (is-true (are_few (copies t S.entries)) f.0) in
-    (le-true (length (copies t S.entries)) 32768 both.0, le-true (sum_by entry_size (copies t S.entries)) 134217728 both.1)
+    is-true (are_few (copies t S.entries)) f.0
+
+-- and of what is taken.
+few-taken : (t : ℕ) (ws : List Written) (gs : List ℕ) (bs : List Backed) → are_few (copies_with t ws gs) ≡ true
+    → are_few (copies_with t ws (gs ++ carried_numbers (few_of t ws gs bs))) ≡ true
+few-taken t ws gs [] e = ap (λ (ns : List ℕ). are_few (copies_with t ws ns)) (append-nil gs) ∙ e
+few-taken t ws gs (b ∷ bs) e = by (are_few (copies_with t ws (gs ++ b.numbers))) refl (λ few. few-taken t ws (gs ++ b.numbers) bs few)
   where
-    is-true : (b : Bool) → not b ≡ false → b ≡ true
-    is-true true e = refl
-    is-true false e = absurd (false≢true (sym e))
+    by : (c : Bool) → are_few (copies_with t ws (gs ++ b.numbers)) ≡ c
+        → (are_few (copies_with t ws (gs ++ b.numbers)) ≡ true → are_few (copies_with t ws ((gs ++ b.numbers) ++ carried_numbers (few_of t ws (gs ++ b.numbers) bs))) ≡ true)
+        → are_few (copies_with t ws (gs ++ carried_numbers (cond c (b ∷ few_of t ws (gs ++ b.numbers) bs) []))) ≡ true
+    by true few ih =
+        ap (λ (ns : List ℕ). are_few (copies_with t ws ns)) (sym (append_assoc gs b.numbers (carried_numbers (few_of t ws (gs ++ b.numbers) bs))))
+        ∙ ih few
+    by false many ih = ap (λ (ns : List ℕ). are_few (copies_with t ws ns)) (append-nil gs) ∙ e
+
+few-copies : (t : ℕ) (S : State) → fault_of t S ≡ None
+    → (length (copied_entries t S) ≤ 32768) × (sum_by entry_size (copied_entries t S) ≤ 134217728)
+few-copies t S e =
+    let ws = copied_entries t S in
+    let few : are_few ws ≡ true = few-taken t S.entries [] (backed t S S.store) (few-remembered t S e) in
+    let both = and_parts (nat_le (length ws) 32768) (nat_le (sum_by entry_size ws) 134217728) few in
+    (le-true (length ws) 32768 both.0, le-true (sum_by entry_size ws) 134217728 both.1)
 
 -- Each link goes on without what waits.
 all-short : (t : ℕ) (ws : List Written) (xs : List PeerLink) → AllByRecursion (λ (x : PeerLink). IsShort x.link) (filter (has_copy ws) (map (keep_peer t) xs))
@@ -118,12 +139,12 @@ rotates-in-room t S k later fit =
     record {
       kept = rotates-keeps t S k.kept later fit;
       fit = fits-from (turned t S) (omega (arith, entries)) (omega (arith, bytes));
-      short = all-short t (copies t S.entries) S.links;
-      apart = apart-kept t (copies t S.entries) S.links k.apart;
+      short = all-short t (copied_entries t S) S.links;
+      apart = apart-kept t (copied_entries t S) S.links k.apart;
     }
 
 pub rotates-drained : RotatesDrained
 rotates-drained t S d = record {
-  once = once-kept t (copies t S.entries) S.links d.once;
-  out = all-out t (copies t S.entries) S.links;
+  once = once-kept t (copied_entries t S) S.links d.once;
+  out = all-out t (copied_entries t S) S.links;
 }

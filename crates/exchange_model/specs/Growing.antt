@@ -7,7 +7,8 @@ use Rattle.uri_map.specs.declared.peer.Peer.{Peer}
 use Rattle.resp_cache.specs.declared.pair.Pair.{Pair}
 use Rattle.ask_model.specs.Requests.{CoapRequest, Requests}
 use Rattle.ask_model.specs.Views.{Ask}
-use Rattle.journal_book.specs.Entries.{Deed, Opens, Asks, Sends, Hears, Answers, Shuts, Seals, Written}
+use Rattle.journal_book.specs.Entries.{Ground, Heard, Deed, Opens, Asks, Sends, Hears, Answers, Shuts, Seals, Carries, Written}
+use Rattle.history_laws.specs.Readings.{carries}
 use Rattle.history_laws.specs.Responses.{whole_fetched}
 use Rattle.exchange_model.specs.declared.kept.Conn.{Conn}
 use Rattle.exchange_model.specs.declared.kept.Exchange.{Exchange}
@@ -25,11 +26,13 @@ abbrev pub conns_with : List Conn → ℕ → List Written → List Conn
 conns_with cs n [] = cs
 conns_with cs n (w ∷ ws) = conns_with (conns_after cs n w.deed) (n + 1) ws
 
--- A step at this moment adds to the journal, and the connections follow from what it adds.
+-- A step at this moment adds to the journal, and no copies, and the connections follow from what it
+-- adds.
 pub record Adds (t : ℕ) (S S1 : State) : Type 0 where
   pub more : List Written
   pub entries : S1.entries ≡ S.entries ++ more
   pub at : AllByRecursion (λ (w : Written). w.moment ≡ t) more
+  pub own : AllByRecursion (λ (w : Written). carries w.deed ≡ false) more
   pub conns : S1.conns ≡ conns_with S.conns (length S.entries) more
 
 abbrev pub OpensAdd : Type 0
@@ -155,15 +158,40 @@ AreHeardAt S [] [] = ⊤
 AreHeardAt S (n ∷ ns) (m ∷ ms) = IsHeardAt S n m × AreHeardAt S ns ms
 AreHeardAt S _ _ = ⊥
 
--- What is stored under a key was heard whole in the journal, in reply to a GET: at that moment the first of it.
+-- Or they are copies of such, on which an answer may rest.
+pub record IsCopiedAt (S : State) (n : ℕ) (m : Content) : Type 0 where
+  pub moment : ℕ
+  pub number : ℕ
+  pub peer : Peer
+  pub bytes : List ℕ
+  pub stands : slice_get S.entries n
+      ≡ Some (at_moment moment (Carries number Ground (Heard peer bytes)))
+  pub spelled : Spells m bytes
+
+abbrev pub AreCopiedAt : State → List ℕ → List Content → Type 0
+AreCopiedAt S [] [] = ⊤
+AreCopiedAt S (n ∷ ns) (m ∷ ms) = IsCopiedAt S n m × AreCopiedAt S ns ms
+AreCopiedAt S _ _ = ⊥
+
+-- the first of them at this moment
+abbrev pub AreHeardFrom : State → ℕ → List ℕ → List Content → Type 0
+AreHeardFrom S t (n ∷ ns) (m ∷ ms) = (h : IsHeardAt S n m) × (h.moment ≡ t) × AreHeardAt S ns ms
+AreHeardFrom S t _ _ = ⊥
+
+abbrev pub AreCopiedFrom : State → ℕ → List ℕ → List Content → Type 0
+AreCopiedFrom S t (n ∷ ns) (m ∷ ms) = (h : IsCopiedAt S n m) × (h.moment ≡ t) × AreCopiedAt S ns ms
+AreCopiedFrom S t _ _ = ⊥
+
+-- What is stored under a key was heard whole, in this journal or before it, in reply to a GET: at
+-- that moment the first of it.
 pub record IsHeardIn (S : State) (p : Pair) : Type 0 where
   pub number : ℕ
   pub others : List ℕ
   pub message : Content
   pub more : List Content
   pub list : p.stored.list ≡ number ∷ others
-  pub heard : AreHeardAt S (number ∷ others) (message ∷ more)
-  pub first : heard.0.moment ≡ p.stored.heard
+  pub heard : AreHeardFrom S p.stored.heard (number ∷ others) (message ∷ more)
+      ⊎ AreCopiedFrom S p.stored.heard (number ∷ others) (message ∷ more)
   pub whole : whole_fetched message more ≡ Some p.stored.response
 
 abbrev pub StoreHeard : Type 0

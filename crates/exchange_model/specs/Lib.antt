@@ -3,6 +3,7 @@ pub mod State
 pub mod Reads
 pub mod Steps
 pub mod Resting
+pub mod Backing
 pub mod Rotating
 pub mod Laws
 pub mod Calls

@@ -1,5 +1,5 @@
 -- A state says what a history says.
-use Rattle.std.specs.Prelude.{◌≡◌, ◌⊎◌, ⊤, ℕ, ◌+◌, ◌<◌, ◌≤◌, max, Bool, true, false, not, List, [], ◌∷◌, ◌++◌, length, map, Option, Some, None, is_some, if◌then◌else◌}
+use Rattle.std.specs.Prelude.{◌≡◌, ◌≢◌, ◌⊎◌, ⊤, ℕ, ◌+◌, ◌<◌, ◌≤◌, max, Bool, true, false, not, List, [], ◌∷◌, ◌++◌, length, map, Option, Some, None, is_some, if◌then◌else◌}
 use Rattle.std.specs.List.{AllByRecursion, Contains, list_any}
 use Rattle.limits.specs.declared.TheConstants.{MAX_BODY_LEN, MAX_NUMBERED}
 use Rattle.uri_map.specs.declared.peer.Peer.{Peer}
@@ -16,7 +16,7 @@ use Rattle.ask_model.specs.Views.{Ask}
 use Rattle.journal_book.specs.Entries.{Deed, Opens, Asks}
 use Rattle.history_laws.specs.Numbering.{token_number}
 use Rattle.history_laws.specs.Joining.{outrun}
-use Rattle.history_laws.specs.Storing.{IsStored, IsUse, IsCrowdedOut}
+use Rattle.history_laws.specs.Storing.{IsStored, IsUse, IsUnused, IsCrowdedOut}
 use Rattle.history_laws.specs.Readings.{Noted, Note, Begins, Joins, entries, at, newest, noted}
 use Rattle.history_laws.specs.Connections.{is_sealed, opened, has_opened}
 use Rattle.history_laws.specs.Transmissions.{FirstSending, firsts, first_at, sent_last, bears_token}
@@ -125,10 +125,18 @@ pub record IsLastUse (l : List Noted) (n : ℕ) (key : CacheKey) : Type 0 where
   pub used : IsUse l n key
   pub last : (m : ℕ) → IsUse l m key → m ≤ n
 
--- The pairs stand in the order of their last uses, which lie before this entry.
+-- What is stored under these keys is what the journal begins with, and wasn't used since.
+abbrev pub AreUnused : List Noted → List Pair → Type 0
+AreUnused l [] = ⊤
+AreUnused l (p ∷ ps) =
+    IsUnused l p.key × AllByRecursion (λ (r : Pair). p.key ≢ r.key) ps × AreUnused l ps
+
+-- The pairs stand in the order of their last uses, which lie before this entry; behind them those
+-- that weren't used.
 abbrev pub AreLastFirst : List Noted → ℕ → List Pair → Type 0
 AreLastFirst l b [] = ⊤
-AreLastFirst l b (p ∷ ps) = (n : ℕ) × (n < b) × IsLastUse l n p.key × AreLastFirst l n ps
+AreLastFirst l b (p ∷ ps) =
+    ((n : ℕ) × (n < b) × IsLastUse l n p.key × AreLastFirst l n ps) ⊎ AreUnused l (p ∷ ps)
 
 abbrev pub HasPair : List Pair → CacheKey → Type 0
 HasPair ps key = list_any (is_of key) ps ≡ true

@@ -51,7 +51,7 @@ pub fn connections_rise()
     ensures rise { ConnsRise }
 {}
 
-/// What is stored was heard whole, in entries of the journal.
+/// What is stored was heard whole, in entries of the journal, or in those that it has copies of.
 pub fn stored_was_heard()
     ensures { StoreHeard }
 {}

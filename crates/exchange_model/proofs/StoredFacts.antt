@@ -1,0 +1,366 @@
+-- What a stored response rests on, be it brought by this journal or carried into it.
+use Rattle.std.proofs.Common.{◌≡◌, ◌⊎◌, ℕ, suc, ◌+◌, ◌<◌, ◌≤◌, Bool, true, false, ◌&&◌, cond, eqb, inl, inr, List, [], ◌∷◌, ◌++◌, length, Option, Some, None, refl, sym, ap, subst, ◌∙◌, arith}
+use Rattle.std.specs.List.{AllByRecursion, Contains}
+use Rattle.std.proofs.lemmas.Bool.{and_parts}
+use Rattle.coap_codec.specs.Spelling.{Content, Spells}
+use Rattle.coap_codec.specs.declared.block.Block.{Block}
+use Rattle.uri_map.specs.declared.peer.Peer.{Peer}
+use Rattle.ask_model.specs.Requests.{CoapRequest, Requests, asking}
+use Rattle.ask_model.specs.Sharing.{asked_key, asks_same, is_get}
+use Rattle.ask_model.specs.Views.{Ask}
+use Rattle.cache_key.specs.Keys.{same_key}
+use Rattle.cache_key.proofs.CallerLemmas.{keys_decided}
+use Rattle.resp_cache.specs.declared.pair.Pair.{Pair}
+use Rattle.journal_book.specs.Entries.{Mark, done_of, Deed, Asks, Sends, Hears, Carries}
+use Rattle.journal_book.specs.Entries as D
+use Rattle.history_laws.specs.Responses.{Response, whole_of}
+use Rattle.history_laws.specs.Readings.{Noted, Note, First, Says, Recalls, Begins, at, before, noted}
+use Rattle.history_laws.specs.Progress.{Reply, numbers, messages}
+use Rattle.history_laws.specs.Transmissions.{FirstSending, first_at}
+use Rattle.history_laws.specs.Exchanges.{Begun, begun, replies, replies_by, Turn, Sent, Replied, Rejected, Expired, Nothing, turn}
+use Rattle.history_laws.specs.Carrying.{carried_replies, carried_replies_by, replied_by, reply_to}
+use Rattle.history_laws.specs.Hearing.{IsReplyKind}
+use Rattle.history_laws.specs.Laws.{IsReplyTo, IsCarriedReply}
+use Rattle.history_laws.specs.Storing.{ComesSo, IsBrought, IsCarried, content}
+use Rattle.history_laws.specs.Justified.{Legal}
+use Rattle.history_laws.proofs.CallerLemmas.{all-push, asked-for, at-below, at-old, carried-at, carried-fit, comes-fit, ends-all, ends-whole, eqb-itself, first-found, first-older, first-response, first-whole, follows-at, length-before, next-is, sent-for, shared-is, some-is}
+use Rattle.exchange_model.specs.Reads.{PairIn}
+use Rattle.exchange_model.proofs.Backed.{BackedAsk, BackedEntry, BackedReply, BackedSending}
+
+-- the ask that the entry with this number says, or copies
+pub record AskFacts (l : List Noted) (o : ℕ) (q : CoapRequest) : Type 0 where
+  pub entry : Noted
+  pub stands : at l o ≡ Some entry
+  pub conn : ℕ
+  pub ask : Ask
+  pub done : done_of entry.written.deed ≡ Some (D.Asked conn ask)
+  pub sense : ask.sense ≡ Requests q
+  pub backs : (gs : List ℕ) (k : List Noted) → BackedAsk gs k ask → BackedEntry gs k entry.written.deed entry.note
+
+-- What an entry says that was heard, if it can be a reply.
+abbrev pub HearsAs : Deed → Note → Peer → Content → Type 0
+HearsAs (Hears q b) (Says m to notice) p n = (q ≡ p) × (m ≡ n)
+HearsAs (Carries k mark (D.Heard q b)) (Recalls m a) p n = (q ≡ p) × (m ≡ n)
+HearsAs d note p n = ⊥
+
+-- A reply to a message that was sent for it, be they copies.
+pub record ReplyFacts (l : List Noted) (o : ℕ) (q : CoapRequest) (r : Reply) : Type 0 where
+  pub sent : Content
+  pub sent_in : Noted
+  pub sending : at l r.sending ≡ Some sent_in
+  pub sent_at : ℕ
+  pub listed : first_at l r.sending ≡ Some (record { number = r.sending; moment = sent_at; opening = o; peer = q.peer; message = sent })
+  pub after : o < r.sending
+  pub size : length sent.token ≡ 8
+  pub text : List ℕ
+  pub timeout : Option ℕ
+  pub sent_done : done_of sent_in.written.deed ≡ Some (D.Sent q.peer text timeout)
+  pub observes : Bool
+  pub block : Option Block
+  pub asks : sent ≡ asking observes q block sent.mid sent.token
+  pub sends : (gs : List ℕ) (k : List Noted) → BackedSending gs k q.peer o sent → BackedEntry gs k sent_in.written.deed sent_in.note
+  pub heard_in : Noted
+  pub heard : at l r.number ≡ Some heard_in
+  pub bytes : List ℕ
+  pub done : done_of heard_in.written.deed ≡ Some (D.Heard q.peer bytes)
+  pub spelled : Spells r.message bytes
+  pub later : r.sending < r.number
+  pub token : r.message.token ≡ sent.token
+  pub response : 32 ≤ r.message.code
+  pub kind : IsReplyKind r.message.kind r.message.mid sent.mid
+  pub says : HearsAs heard_in.written.deed heard_in.note q.peer r.message
+  pub hears : (gs : List ℕ) (k : List Noted) → BackedReply gs k q.peer r.message → BackedEntry gs k heard_in.written.deed heard_in.note
+
+-- the replies stand in order
+abbrev pub AreRising : List Reply → Type 0
+AreRising [] = Unit {0}
+AreRising (r ∷ rs) = AllByRecursion (λ (x : Reply). r.number < x.number) rs × AreRising rs
+
+-- what is stored, and what it rests on
+pub record StoredFacts (l : List Noted) (p : Pair) : Type 0 where
+  pub request : CoapRequest
+  pub get : is_get request ≡ true
+  pub key : asked_key request ≡ p.key
+  pub ask : AskFacts l p.stored.opening request
+  pub first : Reply
+  pub more : List Reply
+  pub replies : (r : Reply) → Contains (first ∷ more) r → ReplyFacts l p.stored.opening request r
+  pub list : p.stored.list ≡ numbers (first ∷ more)
+  pub rising : AreRising (first ∷ more)
+  pub whole : whole_of request (messages (first ∷ more)) ≡ Some p.stored.response
+  pub code : p.stored.response.code ≡ content
+  pub entry : Noted
+  pub heard_in : at l first.number ≡ Some entry
+  pub heard : p.stored.heard ≡ entry.written.moment
+
+-- of what was heard for an exchange,
+
+own-reply : (l : List Noted) (o : ℕ) (b : Begun) (r : Reply) → Legal l → begun l o ≡ Some b → IsReplyTo l o r → ReplyFacts l o b.request r
+own-reply l o b r legal opened fits =
+    let sent = sent-for l fits.sent_at o r.sending fits.peer fits.sent legal fits.first in
+    let next = next-is _ sent.exchange.request _ fits.sent.mid fits.sent.token fits.sent sent.next in
+    let same : sent.exchange ≡ b = some-is _ _ (sym sent.opened ∙ opened) in
+    let peer : fits.peer ≡ b.request.peer = sent.peer ∙ ap (λ (b : Begun). b.request.peer) same in
+    record {
+      sent = fits.sent;
+      sent_in = noted fits.sent_at (Sends fits.peer fits.first.bytes fits.first.timeout) (First o fits.sent);
+      sending = fits.first.stands;
+      sent_at = fits.sent_at;
+      listed =
+          first-found l fits.sent_at o r.sending fits.peer fits.sent fits.first
+          ∙ ap (λ (p : Peer). Some (record { number = r.sending; moment = fits.sent_at; opening = o; peer = p; message = fits.sent })) peer;
+      after = sent.after;
+      size = (follows-at l r.sending _ legal fits.first.stands).1.1.token_size;
+      text = fits.first.bytes;
+      timeout = fits.first.timeout;
+      sent_done = ap (λ (p : Peer). Some (D.Sent p fits.first.bytes fits.first.timeout)) peer;
+      observes = next.1;
+      block = next.0;
+      asks = next.2 ∙ ap (λ (b : Begun). asking next.1 b.request next.0 fits.sent.mid fits.sent.token) same;
+      sends = λ gs k h. subst (λ (p : Peer). BackedSending gs k p o fits.sent) (sym peer) h;
+      heard_in = noted fits.moment (Hears fits.peer fits.bytes) (Says r.message (Some r.sending) fits.notice);
+      heard = fits.heard;
+      bytes = fits.bytes;
+      done = ap (λ (p : Peer). Some (D.Heard p fits.bytes)) peer;
+      spelled = fits.spelled;
+      later = fits.after;
+      token = fits.token;
+      response = fits.response;
+      kind = fits.kind;
+      says = (peer, refl);
+      hears = λ gs k h. subst (λ (p : Peer). BackedReply gs k p r.message) (sym peer) h;
+    }
+
+-- and of what is carried
+
+first-carried : (l : List Noted) (i t k : ℕ) (mark : Mark) (p : Peer) (b : List ℕ) (w : Option ℕ) (o : ℕ) (m : Content)
+    → at l i ≡ Some (noted t (Carries k mark (D.Sent p b w)) (First o m))
+    → first_at l i ≡ Some (record { number = i; moment = t; opening = o; peer = p; message = m })
+first-carried [] i t k mark p b w o m e = cc
+first-carried (x ∷ older) i t k mark p b w o m e =
+    elim (at-old x older i _ e) [
+      | inl u ↦
+          let y : Noted = noted t (Carries k mark (D.Sent p b w)) (First o m) in
+          let here : first_at (y ∷ older) (length older) ≡ Some (record { number = length older; moment = t; opening = o; peer = p; message = m }) =
+          rw (eqb-itself (length older)) refl in
+          subst (λ (x : Noted). first_at (x ∷ older) i ≡ Some (record { number = i; moment = t; opening = o; peer = p; message = m })) (sym u.1)
+          (subst (λ (i : ℕ). first_at (y ∷ older) i ≡ Some (record { number = i; moment = t; opening = o; peer = p; message = m })) (sym u.0) here)
+      | inr u ↦ first-older x older i (at-below older i _ u) ∙ first-carried older i t k mark p b w o m u
+    ]
+
+asking-anew : (observes : Bool) (q : CoapRequest) (block : Option Block) (mid : ℕ) (token : List ℕ)
+    → asking observes q block mid token ≡ asking observes q block (asking observes q block mid token).mid (asking observes q block mid token).token
+asking-anew true q None mid token = refl
+asking-anew false q None mid token = refl
+asking-anew observes q (Some b) mid token = refl
+
+asking-token : (observes : Bool) (q : CoapRequest) (block : Option Block) (mid : ℕ) (token : List ℕ) → (asking observes q block mid token).token ≡ token
+asking-token true q None mid token = refl
+asking-token false q None mid token = refl
+asking-token observes q (Some b) mid token = refl
+
+asking-mid : (observes : Bool) (q : CoapRequest) (block : Option Block) (mid : ℕ) (token : List ℕ) → (asking observes q block mid token).mid ≡ mid
+asking-mid true q None mid token = refl
+asking-mid false q None mid token = refl
+asking-mid observes q (Some b) mid token = refl
+
+carried-facts : (l : List Noted) (o : ℕ) (q : CoapRequest) (r : Reply) → Legal l → IsCarriedReply l o q r → ReplyFacts l o q r
+carried-facts l o q r legal h =
+    let sent : Content = asking h.observes q h.block h.mid r.message.token in
+    record {
+      sent = sent;
+      sent_in = noted h.sent_at (Carries h.old D.Ground (D.Sent q.peer h.text h.timeout)) (First o sent);
+      sending = h.sent;
+      sent_at = h.sent_at;
+      listed = first-carried l r.sending h.sent_at h.old D.Ground q.peer h.text h.timeout o sent h.sent;
+      after = h.opened;
+      size = (follows-at l r.sending _ legal h.sent).2.0.token_size;
+      text = h.text;
+      timeout = h.timeout;
+      sent_done = refl;
+      observes = h.observes;
+      block = h.block;
+      asks = asking-anew h.observes q h.block h.mid r.message.token;
+      sends = λ gs k b. b;
+      heard_in = noted h.moment (Carries h.number D.Ground (D.Heard q.peer h.bytes)) (Recalls r.message h.answer);
+      heard = h.heard;
+      bytes = h.bytes;
+      done = refl;
+      spelled = h.spelled;
+      later = h.after;
+      token = sym (asking-token h.observes q h.block h.mid r.message.token);
+      response = h.response;
+      kind = subst (IsReplyKind r.message.kind r.message.mid) (sym (asking-mid h.observes q h.block h.mid r.message.token)) h.kind;
+      says = (refl, refl);
+      hears = λ gs k b. b;
+    }
+
+-- Replies stand in order.
+
+plus-one : (n : ℕ) → n + 1 ≡ suc n
+plus-one n = omega arith
+
+rising-push : (rs : List Reply) (r : Reply) → AreRising rs → AllByRecursion (λ (x : Reply). x.number < r.number) rs → AreRising (rs ++ r ∷ [])
+rising-push [] r h below = (tt, tt)
+rising-push (x ∷ rs) r h below = (all-push (λ (y : Reply). x.number < y.number) rs r h.0 below.0, rising-push rs r h.1 below.1)
+
+rising-last : (before after : List Reply) → AreRising (before ++ after) → AreRising after
+rising-last [] after h = h
+rising-last (r ∷ before) after h = rising-last before after h.1
+
+abbrev Below : ℕ → List Reply → Type 0
+Below n rs = AllByRecursion (λ (r : Reply). r.number < n) rs
+
+below-more : (n : ℕ) (rs : List Reply) → Below n rs → Below (n + 1) rs
+below-more n [] h = tt
+below-more n (r ∷ rs) h = (let lt = h.0 in omega (arith, lt), below-more n rs h.1)
+
+replies-rise : (l : List Noted) (o : ℕ) → AreRising (replies l o) × Below (length l) (replies l o)
+replies-rise [] o = (tt, tt)
+replies-rise (x ∷ older) o = by (turn older o x) (replies-rise older o)
+  where
+    by : (u : Turn) → AreRising (replies older o) × Below (length older) (replies older o)
+        → AreRising (replies_by (length older) u (replies older o)) × Below (length (x ∷ older)) (replies_by (length older) u (replies older o))
+    by (Replied i m place) h = (
+      rising-push (replies older o) (record { number = length older; sending = i; message = m }) h.0 h.1,
+      all-push (λ (r : Reply). r.number < length (x ∷ older)) (replies older o) (record { number = length older; sending = i; message = m })
+          (subst (λ (n : ℕ). Below n (replies older o)) (plus-one (length older)) (below-more (length older) (replies older o) h.1)) (omega arith),
+    )
+    by (Sent i) h = (h.0, subst (λ (n : ℕ). Below n (replies older o)) (plus-one (length older)) (below-more (length older) (replies older o) h.1))
+    by Rejected h = (h.0, subst (λ (n : ℕ). Below n (replies older o)) (plus-one (length older)) (below-more (length older) (replies older o) h.1))
+    by Expired h = (h.0, subst (λ (n : ℕ). Below n (replies older o)) (plus-one (length older)) (below-more (length older) (replies older o) h.1))
+    by Nothing h = (h.0, subst (λ (n : ℕ). Below n (replies older o)) (plus-one (length older)) (below-more (length older) (replies older o) h.1))
+
+comes-rising : (l : List Noted) (o e : ℕ) (w : Response) (rs : List Reply) → ComesSo l o e w rs → AreRising rs
+comes-rising l o e w rs (inl ends) =
+    let it = ends-whole l o e w rs ends.ended in
+    let u = it.turned in
+    let all = replies-rise (before l e) o in
+    let below : Below e (replies (before l e) o) = subst (λ (n : ℕ). Below n (replies (before l e) o)) (length-before l e it.entry it.stands) all.1 in
+    rising-last u.made.before rs
+    (subst AreRising u.made.split (rising-push (replies (before l e) o) (record { number = e; sending = u.sending; message = u.message }) all.0 below))
+comes-rising l o e w rs (inr u) =
+    subst AreRising (sym (first-whole e u.sending u.message w rs u.whole)) (tt, tt)
+
+carried-rise : (l : List Noted) (o : ℕ) → AreRising (carried_replies l o) × Below (length l) (carried_replies l o)
+carried-rise [] o = (tt, tt)
+carried-rise (x ∷ older) o = by x.written.deed x.note (carried-rise older o)
+  where
+    n : ℕ
+    n = length older
+
+    old : List Reply
+    old = carried_replies older o
+
+    same : AreRising old × Below n old → AreRising old × Below (length (x ∷ older)) old
+    same h = (h.0, subst (λ (n : ℕ). Below n old) (plus-one n) (below-more n old h.1))
+
+    to : (m : Content) (v : Option FirstSending) → AreRising old × Below n old → (AreRising (reply_to o n m v old) × Below (length (x ∷ older)) (reply_to o n m v old))
+    to m None h = same h
+    to m (Some g) h = here (eqb g.opening o)
+      where
+        r : Reply
+        r = record { number = n; sending = g.number; message = m }
+
+        here : (b : Bool) → (AreRising (cond b (old ++ r ∷ []) old) × Below (length (x ∷ older)) (cond b (old ++ r ∷ []) old))
+        here true = (
+          rising-push old r h.0 h.1,
+          all-push (λ (r : Reply). r.number < length (x ∷ older)) old r (same h).1 (omega arith),
+        )
+        here false = same h
+
+    by : (d : Deed) (note : Note) → AreRising old × Below n old → (AreRising (carried_replies_by older o d note old) × Below (length (x ∷ older)) (carried_replies_by older o d note old))
+    by (Carries k D.Ground (D.Heard p b)) (Recalls m a) h = to m (replied_by older p m) h
+    by d note h = same h
+
+-- what a stored response of this journal rests on, and one that is carried
+
+is-method : (q x : CoapRequest) → asks_same q x ≡ true → (is_get x ≡ true) × (asked_key x ≡ asked_key q)
+is-method q x e =
+    let a = and_parts (is_get q) (is_get x && same_key (asked_key q) (asked_key x)) e in
+    let b = and_parts (is_get x) (same_key (asked_key q) (asked_key x)) a.1 in
+    (b.0, sym ((keys_decided (asked_key q) (asked_key x)).0 b.1))
+
+brought-facts : (l : List Noted) (p : Pair) → Legal l → (a : PairIn l p) → IsBrought l a.request p.stored → StoredFacts l p
+brought-facts l p legal a s =
+    let shared = shared-is l a.request s.opening s.shared in
+    let b : Begun = shared.exchange in
+    let of_get = is-method a.request b.request shared.same in
+    let ask = asked-for l s.opening b legal shared.opened in
+    let fit : ((r : Reply) → Contains (s.first ∷ s.more) r → ReplyFacts l s.opening b.request r) =
+    λ r has. own-reply l s.opening b r legal shared.opened (comes-fit l s.opening s.ending p.stored.response (s.first ∷ s.more) r legal s.comes has) in
+    record {
+      request = b.request;
+      get = of_get.0;
+      key = of_get.1 ∙ a.key;
+      ask = subst (λ (o : ℕ). AskFacts l o b.request) (sym s.origin) (record {
+        entry = noted b.since (Asks ask.conn ask.ask) (Begins b.request);
+        stands = ask.stands;
+        conn = ask.conn;
+        ask = ask.ask;
+        done = refl;
+        sense = ask.sense;
+        backs = λ gs k h. h;
+      });
+      first = s.first;
+      more = s.more;
+      replies = λ r has. subst (λ (o : ℕ). ReplyFacts l o b.request r) (sym s.origin) (fit r has);
+      list = s.list;
+      rising = comes-rising l s.opening s.ending p.stored.response (s.first ∷ s.more) s.comes;
+      whole = whole s.comes b shared.opened (and_parts (eqb b.request.method 1) _ of_get.0).0;
+      code = code s.comes;
+      entry = s.entry;
+      heard_in = s.heard_in;
+      heard = s.heard;
+    }
+  where
+    whole : ComesSo l s.opening s.ending p.stored.response (s.first ∷ s.more) → (b : Begun) → begun l s.opening ≡ Some b → eqb b.request.method 1 ≡ true
+        → whole_of b.request (messages (s.first ∷ s.more)) ≡ Some p.stored.response
+    whole (inl ends) b opened get =
+        let it = ends-all l s.opening s.ending p.stored.response (s.first ∷ s.more) ends.ended in
+        ap (λ (b : Begun). whole_of b.request (messages (s.first ∷ s.more))) (some-is _ _ (sym opened ∙ it.opened)) ∙ it.whole
+    whole (inr u) b opened get = first-response b.request s.ending u.sending u.message p.stored.response (s.first ∷ s.more) get u.whole
+
+    code : ComesSo l s.opening s.ending p.stored.response (s.first ∷ s.more) → p.stored.response.code ≡ content
+    code (inl ends) = ends.code
+    code (inr u) = u.code
+
+again-facts : (l : List Noted) (p : Pair) → Legal l → (a : PairIn l p) → IsCarried l a.request p.stored → StoredFacts l p
+again-facts l p legal a s =
+    let c = s.carries in
+    let b : Begun = c.exchange in
+    let of_get = is-method a.request b.request s.same in
+    let ask = carried-at l s.opening b c.asked in
+    let fit : ((r : Reply) → Contains (s.first ∷ s.more) r → ReplyFacts l s.opening b.request r) =
+    λ r has. carried-facts l s.opening b.request r legal (carried-fit l s.opening b r legal c.asked (subst (λ (rs : List Reply). Contains rs r) (sym c.replies) has)) in
+    record {
+      request = b.request;
+      get = of_get.0;
+      key = of_get.1 ∙ a.key;
+      ask = subst (λ (o : ℕ). AskFacts l o b.request) (sym s.origin) (record {
+        entry = noted b.since (Carries ask.old D.Ground (D.Asked ask.conn ask.ask)) ask.note;
+        stands = ask.stands;
+        conn = ask.conn;
+        ask = ask.ask;
+        done = refl;
+        sense = ask.sense;
+        backs = λ gs k h. h;
+      });
+      first = s.first;
+      more = s.more;
+      replies = λ r has. subst (λ (o : ℕ). ReplyFacts l o b.request r) (sym s.origin) (fit r has);
+      list = s.list;
+      rising = subst AreRising c.replies (carried-rise l s.opening).0;
+      whole = c.whole;
+      code = s.code;
+      entry = s.entry;
+      heard_in = s.heard_in;
+      heard = s.heard;
+    }
+
+pub stored-facts : (l : List Noted) (p : Pair) → Legal l → PairIn l p → StoredFacts l p
+stored-facts l p legal a = by a.stored
+  where
+    by : IsBrought l a.request p.stored ⊎ IsCarried l a.request p.stored → StoredFacts l p
+    by (inl s) = brought-facts l p legal a s
+    by (inr s) = again-facts l p legal a s
