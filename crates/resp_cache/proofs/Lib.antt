@@ -3,6 +3,7 @@ pub mod Room
 pub mod Lists
 pub mod Apart
 pub mod Keeping
+mod Walking
 pub mod Lasting
 pub mod Linking
 pub mod Looking

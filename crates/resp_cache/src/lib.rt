@@ -12,6 +12,7 @@
 //! `take_out` and `retire` can't fail.
 #![tactic(auto)]
 
+mod filling;
 mod laws;
 mod names;
 mod pair;

@@ -106,6 +106,16 @@ fn begin(older: &mut Vec<u16>, newer: &mut Vec<u16>)
     }
 }
 
+/// The next older number, or 0.
+fn older_in(older: &[u16], number: u16) -> u16
+    ensures { result ≡ get_or older.now number 0 }
+{
+    match older.get(usize::from(number)) {
+        Some(next) => *next,
+        None => 0,
+    }
+}
+
 impl Ring {
     /// No numbers.
     pub fn new(alloc: Global) -> Ring
@@ -181,6 +191,19 @@ impl Ring {
         self.older.push_reserved(0);
         self.newer.push_reserved(0);
         link_last(&mut self.older, &mut self.newer, number);
+    }
+
+    /// The numbers, the one used last first.
+    pub fn numbers(&self, alloc: Global) -> Result<Vec<u16>, AllocError>
+        ensures { IfOk result (λ numbers. numbers.items ≡ self.now.items) }
+    {
+        let mut numbers = Vec::with_capacity(alloc, self.older.len())?;
+        let mut number = 0;
+        'each: for _ in 1..self.older.len() {
+            number = older_in(&self.older, number);
+            numbers.push(number)?;
+        }
+        Ok(numbers)
     }
 
     /// The same numbers in the same order.

@@ -9,6 +9,7 @@ ghost use Rattle.resp_cache.specs.Stores.{IsStore, is_of, is_elsewhere, is_fresh
 ghost use Rattle.resp_cache.specs.Slots.{slot_at};
 ghost use Rattle.resp_cache.specs.Tables.{IsTable, has_table_room, pairs_of};
 
+use crate::filling::{pairs_in_use, table_of};
 use crate::pair::Pair;
 use crate::ring::Ring;
 use crate::search::{pair_at, slot_of, slot_sought};
@@ -223,6 +224,25 @@ impl Store {
         let alloc = *self.table.slots.allocator();
         Ok(Store {
             table: copy_table(alloc, &self.table)?,
+        })
+    }
+
+    /// The pairs in their order, which share their keys and responses.
+    pub fn to_pairs(&self) -> Result<Vec<Pair>, AllocError>
+        ensures pairs { IfOk result (λ pairs. pairs.items ≡ self.now.pairs) }
+        ensures store { IfOk result (λ pairs. IsStore pairs.items) }
+    {
+        let alloc = *self.table.slots.allocator();
+        pairs_in_use(alloc, &self.table)
+    }
+
+    /// The store of these pairs.
+    pub fn from_pairs(alloc: Global, pairs: Vec<Pair>) -> Result<Store, AllocError>
+        requires { IsStore pairs.items }
+        ensures { IfOk result (λ s. s.pairs ≡ pairs.items) }
+    {
+        Ok(Store {
+            table: table_of(alloc, pairs)?,
         })
     }
 }

@@ -132,4 +132,18 @@ impl StoredResponse {
             record: Arc::try_clone(&self.record)?,
         })
     }
+
+    /// The same response, which isn't copied, with what it rests on in another journal.
+    pub fn carried(
+        &self,
+        alloc: Global,
+        opening: u32,
+        list: Vec<u32>,
+    ) -> Result<StoredResponse, AllocError>
+        ensures { IfOk result (λ s.
+            s ≡ stored_of self.now.response opening self.now.heard list.items) }
+    {
+        let response = Arc::try_clone(&self.record.response)?;
+        StoredResponse::new(alloc, response, opening, self.record.heard, list)
+    }
 }
