@@ -1,204 +1,155 @@
--- One entry more is looked at.
-use Rattle.std.proofs.Common.{◌≡◌, ℕ, ◌+◌, ◌<◌, ◌≤◌, Bool, true, false, ◌&&◌, cond, eqb, ltb, List, [], ◌∷◌, ◌++◌, length, Option, Some, None, refl, sym, ap, subst, ◌∙◌, arith, suc, append_assoc, append-nil, length-append}
-use Rattle.std.specs.Prelude.{◌||◌, is_some, option_to_list, sum_by}
+-- The copies of what is marked, and what they count.
+use Rattle.std.proofs.Common.{◌≡◌, ℕ, ◌+◌, ◌<◌, Bool, true, false, ◌&&◌, leb, List, [], ◌∷◌, ◌++◌, length, get_or, Option, Some, None, option_map, refl, sym, ap, ◌∙◌, arith, suc, append_assoc, append-nil, length-append, le-leb, leb-false, leb-true}
+use Rattle.std.specs.Prelude.{◌||◌, option_to_list, sum_by, ◌-◌, ◌^◌}
 use Rattle.std.specs.List.{list_any}
-use Rattle.std.specs.HashMap.{HashMap}
-use Rattle.std.proofs.lemmas.Bool.{false≢true}
-use Rattle.std.proofs.lemmas.List.Sums.{sum_by_push}
+use Rattle.std.proofs.lemmas.Bool.{lt-leb}
+use Rattle.std.proofs.lemmas.List.Sums.{sum_by_push, sum_by-append}
 use Rattle.ask_model.specs.Sizes.{capped}
-use Rattle.limits.specs.declared.TheConstants.{EXCHANGE_LIFETIME, MESSAGE_ID_LIFETIME}
-use Rattle.coap_codec.specs.Reading.{message_at}
-use Rattle.coap_codec.specs.Spelling.{Content}
-use Rattle.coap_codec.specs.declared.fault.CodecFault.{CodecFault}
+use Rattle.limits.specs.declared.TheConstants.{MAX_COPIES, MAX_COPIES_LEN}
 use Rattle.uri_map.specs.declared.peer.Peer.{Peer}
 use Rattle.uri_map.specs.Peers.{same_peer}
-use Rattle.journal_book.specs.Entries.{Past, Done, Asked, Sent, Heard, done_of, carried_as, Deed, Opens, Asks, Sends, Hears, Passes, Answers, Shuts, Seals, Carries, Written, entry_size}
-use Rattle.exchange_model.specs.Rotating.{Seen, seen_so, seen_by, seen_from, seen, is_recent_first, is_recent_seen, is_remembered, copy_if, copy_of, copies_from, copies, is_of}
-use Rattle.journal_copies.specs.declared.source.Source.{Source}
-use Rattle.journal_copies.specs.Sources.{same_source}
-use Rattle.journal_copies.specs.Knowing.{Knows, AreBefore, Sees, such_id, with_seen, source_of}
-use Rattle.journal_copies.specs.Copying.{peer_of, peers_in, heard_in, timeout_in, is_recent_by, copied_if, Looks}
-use Rattle.journal_copies.proofs.Known.{none-here, so-none, so-some, before-more, other}
+use Rattle.journal_book.specs.Entries.{Mark, Ground, Past, Done, Asked, Sent, Heard, done_of, done_size, deed_size, Deed, Opens, Asks, Sends, Hears, Passes, Answers, Shuts, Seals, Carries, Written, entry_size}
+use Rattle.journal_book.specs.declared.entry.Mark.{Mark as RustMark}
+use Rattle.exchange_model.specs.Rotating.{Seen, seen, are_few, copies_from, copies_with, copy_if, copy_of, is_of, mark_of}
+use Rattle.journal_copies.specs.declared.marks.Marks.{Marks}
+use Rattle.journal_copies.specs.Marking.{AreMarks, count_some, kept_as, mark_if, marks_from, one_of, size_if, weigh}
+use Rattle.journal_copies.specs.Copying.{copied_by, peer_of, peers_in}
 
--- What was seen of one entry more.
-seen-more : (n : ℕ) (ws : List Written) (w : Written) (old : List Seen)
-    → seen_from n (ws ++ w ∷ []) old ≡ seen_by (n + length ws) w.moment (done_of w.deed) (seen_from n ws old)
-seen-more n [] w old = ap (λ (k : ℕ). seen_by k w.moment (done_of w.deed) old) (by n)
+-- the copies of what is marked
+abbrev pub copied_from : ℕ → List Written → List (Option RustMark) → List Written
+copied_from n [] ms = []
+copied_from n (w ∷ ws) [] = []
+copied_from n (w ∷ ws) (m ∷ ms) = copied_by m n w ++ copied_from (n + 1) ws ms
+
+-- of one entry more
+pub copied-more : (n : ℕ) (vs : List Written) (ms : List (Option RustMark)) (w : Written)
+    → copied_from n (vs ++ w ∷ []) ms
+    ≡ copied_from n vs ms ++ copied_by (get_or ms (length vs) None) (n + length vs) w
+copied-more n [] [] w = refl
+copied-more n (v ∷ vs) [] w = refl
+copied-more n [] (m ∷ ms) w =
+    append-nil (copied_by m n w) ∙ ap (λ (k : ℕ). copied_by m k w) (by n)
   where
     by : (k : ℕ) → k ≡ k + 0
     by k = omega arith
-seen-more n (v ∷ ws) w old =
-    let first = seen_by n v.moment (done_of v.deed) old in
-    seen-more (n + 1) ws w first
-    ∙ ap (λ (k : ℕ). seen_by k w.moment (done_of w.deed) (seen_from (n + 1) ws first)) (by n (length ws))
+copied-more n (v ∷ vs) (m ∷ ms) w =
+    let here = copied_by m n v in
+    ap (λ (cs : List Written). here ++ cs) (copied-more (n + 1) vs ms w
+    ∙ ap (λ (k : ℕ). copied_from (n + 1) vs ms ++ copied_by (get_or ms (length vs) None) k w)
+    (by n (length vs)))
+    ∙ sym (append_assoc here (copied_from (n + 1) vs ms) _)
   where
     by : (k i : ℕ) → (k + 1) + i ≡ k + suc i
     by k i = omega arith
 
--- A newer one changes no copy of those before it.
-recent-seen : (t n N s : ℕ) (more : Bool) (x : Source) (old : List Seen) → n < N
-    → list_any (is_recent_seen t n) (with_seen more N s x old) ≡ list_any (is_recent_seen t n) old
-recent-seen t n N s true x old lt = rw (other N n (λ e. omega (arith, lt, e))) refl
-recent-seen t n N s false x old lt = refl
-
--- what was seen by an entry, as one more or none
-so-with : (n s : ℕ) (p : Peer) (b : List ℕ) (old : List Seen)
-    → (more : Bool) × (x : Source) × (seen_by n s (Some (Heard p b)) old ≡ with_seen more n s x old)
-so-with n s p b old = by (such_id (message_at b)) refl
-  where
-    by : (v : Option ℕ) → such_id (message_at b) ≡ v → (more : Bool) × (x : Source) × (seen_by n s (Some (Heard p b)) old ≡ with_seen more n s x old)
-    by None e = (false, source_of p 0, so-none n s p (message_at b) old e)
-    by (Some mid) e = (_, source_of p mid, so-some n s p mid (message_at b) old e)
-
-recent-later : (t n N s : ℕ) (done : Option Done) (old : List Seen) → n < N
-    → list_any (is_recent_seen t n) (seen_by N s done old) ≡ list_any (is_recent_seen t n) old
-recent-later t n N s None old lt = refl
-recent-later t n N s (Some (Asked c a)) old lt = refl
-recent-later t n N s (Some (Sent p b w)) old lt = refl
-recent-later t n N s (Some (Heard p b)) old lt =
-    let is = so-with N s p b old in
-    ap (list_any (is_recent_seen t n)) is.2 ∙ recent-seen t n N s is.0 is.1 old lt
-
-copy-later : (t n N s u : ℕ) (d done : Option Done) (old : List Seen) → n < N → copy_of t (seen_by N s d old) n u done ≡ copy_of t old n u done
-copy-later t n N s u d None old lt = refl
-copy-later t n N s u d (Some done) old lt =
-    ap (λ (b : Bool). copy_if (is_recent_first t u done || b) n u done) (recent-later t n N s d old lt)
-
-copies-later : (t n N s : ℕ) (d : Option Done) (old : List Seen) (ws : List Written) → n + length ws ≤ N
-    → copies_from t (seen_by N s d old) n ws ≡ copies_from t old n ws
-copies-later t n N s d old [] le = refl
-copies-later t n N s d old (w ∷ ws) le =
-    ap (λ (cs : List Written). cs ++ copies_from t (seen_by N s d old) (n + 1) ws) (copy-later t n N s w.moment d (done_of w.deed) old (omega (arith, le)))
-    ∙ ap (λ (cs : List Written). copy_of t old n w.moment (done_of w.deed) ++ cs) (copies-later t (n + 1) N s d old ws (omega (arith, le)))
-
-copies-more : (t : ℕ) (xs : List Seen) (n : ℕ) (ws : List Written) (w : Written)
-    → copies_from t xs n (ws ++ w ∷ []) ≡ copies_from t xs n ws ++ copy_of t xs (n + length ws) w.moment (done_of w.deed)
-copies-more t xs n [] w = append-nil (copy_of t xs n w.moment (done_of w.deed)) ∙ ap (λ (k : ℕ). copy_of t xs k w.moment (done_of w.deed)) (by n)
-  where
-    by : (k : ℕ) → k ≡ k + 0
-    by k = omega arith
-copies-more t xs n (v ∷ ws) w =
-    let here = copy_of t xs n v.moment (done_of v.deed) in
-    ap (λ (cs : List Written). here ++ cs) (copies-more t xs (n + 1) ws w ∙ ap (λ (k : ℕ). copies_from t xs (n + 1) ws ++ copy_of t xs k w.moment (done_of w.deed)) (by n (length ws)))
-    ∙ sym (append_assoc here (copies_from t xs (n + 1) ws) _)
-  where
-    by : (k i : ℕ) → (k + 1) + i ≡ k + suc i
-    by k i = omega arith
-
--- the copies of one entry more
-pub copies-next : (t : ℕ) (ws : List Written) (w : Written)
-    → copies t (ws ++ w ∷ [])
-    ≡ copies t ws ++ copy_of t (seen_by (length ws) w.moment (done_of w.deed) (seen ws)) (length ws) w.moment (done_of w.deed)
-copies-next t ws w =
-    let later = seen_by (length ws) w.moment (done_of w.deed) (seen ws) in
-    ap (λ (xs : List Seen). copies_from t xs 0 (ws ++ w ∷ [])) (seen-more 0 ws w [] ∙ ap (λ (k : ℕ). seen_by k w.moment (done_of w.deed) (seen ws)) (zero (length ws)))
-    ∙ (copies-more t later 0 ws w
-    ∙ (ap (λ (cs : List Written). cs ++ copy_of t later (0 + length ws) w.moment (done_of w.deed)) (copies-later t 0 (length ws) w.moment (done_of w.deed) (seen ws) ws (omega arith))
-    ∙ ap (λ (k : ℕ). copies t ws ++ copy_of t later k w.moment (done_of w.deed)) (zero (length ws))))
-  where
-    zero : (i : ℕ) → 0 + i ≡ i
-    zero i = omega arith
-
-pub seen-next : (ws : List Written) (w : Written) → seen (ws ++ w ∷ []) ≡ seen_by (length ws) w.moment (done_of w.deed) (seen ws)
-seen-next ws w = seen-more 0 ws w [] ∙ ap (λ (k : ℕ). seen_by k w.moment (done_of w.deed) (seen ws)) (zero (length ws))
-  where
-    zero : (i : ℕ) → 0 + i ≡ i
-    zero i = omega arith
-
--- What of an entry is copied.
-
-or-false : (b : Bool) → (b || false) ≡ b
-or-false true = refl
-or-false false = refl
-
-copied-done : (b : Bool) (n : ℕ) (w : Written) (done : Done) → done_of w.deed ≡ Some done → copy_if b n w.moment done ≡ copied_if b n w
-copied-done true n w done e = rw (e) refl
-copied-done false n w done e = refl
-
-abbrev first_or : Peer → Option (Peer × List ℕ) → Peer
-first_or p None = p
-first_or p (Some x) = x.0
-
-abbrev second_or : Option (Peer × List ℕ) → List ℕ
-second_or None = []
-second_or (Some x) = x.1
-
-module _ {S : Type 0} (m : HashMap Source ℕ S) where
-  -- what was heard
-  pub looks-heard : (t n : ℕ) (w : Written) (p : Peer) (b : List ℕ) (old : List Seen) (more : Bool) → heard_in (done_of w.deed) ≡ Some (p, b)
-      → Sees n w.moment (Some (Heard p b)) old m more → Looks t n w old m (more && ltb t (w.moment + EXCHANGE_LIFETIME))
-  looks-heard t n w p b old more is s = by (done_of w.deed) refl is
+-- An entry that is marked is copied.
+module _ (t : ℕ) (xs : List Seen) (gs : List ℕ) where
+  copy-is : (n : ℕ) (w : Written)
+      → copied_by (mark_if t xs gs n w.moment (done_of w.deed)) n w
+      ≡ copy_of t xs gs n w.moment (done_of w.deed)
+  copy-is n w = by (done_of w.deed) refl
     where
-      by : (d : Option Done) → done_of w.deed ≡ d → heard_in d ≡ Some (p, b) → Looks t n w old m (more && ltb t (w.moment + EXCHANGE_LIFETIME))
-      by (Some (Heard q c)) e is = heard q c e (ap (first_or p) is, ap second_or is)
-        where
-          heard : (q : Peer) (c : List ℕ) → done_of w.deed ≡ Some (Heard q c) → (q ≡ p) × (c ≡ b) → Looks t n w old m (more && ltb t (w.moment + EXCHANGE_LIFETIME))
-          heard q c e same =
-              let done : done_of w.deed ≡ Some (Heard p b) = e ∙ (ap (λ (r : Peer). Some (Heard r c)) same.0 ∙ ap (λ (d : List ℕ). Some (Heard p d)) same.1) in
-              record {
-                knows = subst (λ (d : Option Done). Knows m (seen_by n w.moment d old)) (sym done) s.knows;
-                before = subst (λ (d : Option Done). AreBefore (n + 1) (seen_by n w.moment d old)) (sym done) s.before;
-                kept_is =
-                    ap (λ (d : Option Done). copy_of t (seen_by n w.moment d old) n w.moment d) done
-                    ∙ (ap (λ (v : Bool). copy_if v n w.moment (Heard p b)) (s.more_is t)
-                    ∙ copied-done (more && ltb t (w.moment + EXCHANGE_LIFETIME)) n w (Heard p b) done);
-              }
-      by (Some (Asked c a)) e is = absurd cc
-      by (Some (Sent q c v)) e is = absurd cc
-      by None e is = absurd cc
+      of : (m : Option Mark) (done : Done) → done_of w.deed ≡ Some done
+          → copied_by (option_map kept_as m) n w ≡ copy_if m n w.moment done
+      of None done e = refl
+      of (Some Ground) done e = rw (e) refl
+      of (Some Past) done e = rw (e) refl
 
-  -- all else
-  pub looks-else : (t n : ℕ) (w : Written) (old : List Seen) (kept : Bool) → heard_in (done_of w.deed) ≡ None → AreBefore n old → Knows m old
-      → kept ≡ is_recent_by t w.moment (done_of w.deed) → Looks t n w old m kept
-  looks-else t n w old kept is before knows same =
-      subst (λ (b : Bool). Looks t n w old m b) (sym same) (by (done_of w.deed) refl is)
+      by : (d : Option Done) → done_of w.deed ≡ d
+          → copied_by (mark_if t xs gs n w.moment d) n w ≡ copy_of t xs gs n w.moment d
+      by None e = refl
+      by (Some done) e = of (mark_of t xs gs n w.moment done) done e
+
+  pub copied-is : (n : ℕ) (ws : List Written)
+      → copied_from n ws (marks_from t xs gs n ws) ≡ copies_from t xs gs n ws
+  copied-is n [] = refl
+  copied-is n (w ∷ ws) =
+      ap (λ (cs : List Written). cs ++ copied_from (n + 1) ws (marks_from t xs gs (n + 1) ws))
+      (copy-is n w)
+      ∙ ap (λ (cs : List Written). copy_of t xs gs n w.moment (done_of w.deed) ++ cs)
+      (copied-is (n + 1) ws)
+
+  -- how many they are
+  one-is : (n s : ℕ) (d : Option Done)
+      → length (copy_of t xs gs n s d) ≡ one_of (mark_if t xs gs n s d)
+  one-is n s None = refl
+  one-is n s (Some done) = by (mark_of t xs gs n s done)
     where
-      as_it_is : (d : Option Done) → done_of w.deed ≡ d → seen_by n w.moment d old ≡ old → copy_of t old n w.moment d ≡ copied_if (is_recent_by t w.moment d) n w
-          → Looks t n w old m (is_recent_by t w.moment (done_of w.deed))
-      as_it_is d e same copy =
-          let seen_is : seen_by n w.moment (done_of w.deed) old ≡ old = ap (λ (x : Option Done). seen_by n w.moment x old) e ∙ same in
-          record {
-            knows = subst (Knows m) (sym seen_is) knows;
-            before = subst (AreBefore (n + 1)) (sym seen_is) (before-more n old before);
-            kept_is =
-                ap (λ (xs : List Seen). copy_of t xs n w.moment (done_of w.deed)) seen_is
-                ∙ (ap (copy_of t old n w.moment) e ∙ (copy ∙ ap (λ (x : Option Done). copied_if (is_recent_by t w.moment x) n w) (sym e)));
-          }
+      by : (m : Option Mark) → length (copy_if m n s done) ≡ one_of (option_map kept_as m)
+      by None = refl
+      by (Some Ground) = refl
+      by (Some Past) = refl
 
-      of-done : (done : Done) → done_of w.deed ≡ Some done → copy_of t old n w.moment (Some done) ≡ copied_if (is_recent_first t w.moment done) n w
-      of-done done e =
-          ap (λ (v : Bool). copy_if (is_recent_first t w.moment done || v) n w.moment done) (none-here t n old before)
-          ∙ (ap (λ (v : Bool). copy_if v n w.moment done) (or-false (is_recent_first t w.moment done))
-          ∙ copied-done (is_recent_first t w.moment done) n w done e)
+  pub count-is : (n : ℕ) (ws : List Written)
+      → length (copies_from t xs gs n ws) ≡ count_some (marks_from t xs gs n ws)
+  count-is n [] = refl
+  count-is n (w ∷ ws) =
+      let both = length-append (copy_of t xs gs n w.moment (done_of w.deed)) (copies_from t xs gs (n + 1) ws) in
+      let one = one-is n w.moment (done_of w.deed) in
+      let ih = count-is (n + 1) ws in
+      omega (arith, both, one, ih)
 
-      by : (d : Option Done) → done_of w.deed ≡ d → heard_in d ≡ None → Looks t n w old m (is_recent_by t w.moment (done_of w.deed))
-      by (Some (Heard q c)) e is = absurd cc
-      by (Some (Asked c a)) e is = as_it_is (Some (Asked c a)) e refl (of-done (Asked c a) e)
-      by (Some (Sent q c v)) e is = as_it_is (Some (Sent q c v)) e refl (of-done (Sent q c v) e)
-      by None e is = as_it_is None e refl refl
+  -- what they count
+  abbrev size_of : Option Done → ℕ
+  size_of None = 0
+  size_of (Some done) = done_size done
 
--- One step of the way through the entries.
-pub record Goes {S : Type 0} (t : ℕ) (vs : List Written) (m : HashMap Source ℕ S) (es : List Written) : Type 0 where
-  pub knows : Knows m (seen vs)
-  pub before : AreBefore (length vs) (seen vs)
-  pub copied : es ≡ copies t vs
+  size-same : (d : Deed) (done : Done) → done_of d ≡ Some done → done_size done ≡ deed_size d
+  size-same (Asks c a) done e = ap size_of (sym e)
+  size-same (Sends p b v) done e = ap size_of (sym e)
+  size-same (Hears p b) done e = ap size_of (sym e)
+  size-same (Carries k mark d) done e = ap size_of (sym e)
+  size-same (Opens c) done e = absurd cc
+  size-same Passes done e = absurd cc
+  size-same (Answers c k g) done e = absurd cc
+  size-same (Shuts c) done e = absurd cc
+  size-same Seals done e = absurd cc
 
-pub goes-on : {S : Type 0} (t n : ℕ) (ws : List Written) (w : Written) (m : HashMap Source ℕ S) (kept : Bool) (es es1 : List Written)
-    → length ws ≡ n → Looks t n w (seen ws) m kept → es ≡ copies t ws → es1 ≡ es ++ copied_if kept n w → Goes t (ws ++ w ∷ []) m es1
-goes-on t n ws w m kept es es1 len looks old new =
-    let now : seen (ws ++ w ∷ []) ≡ seen_by n w.moment (done_of w.deed) (seen ws) =
-    seen-next ws w ∙ ap (λ (k : ℕ). seen_by k w.moment (done_of w.deed) (seen ws)) len in
-    record {
-      knows = subst (Knows m) (sym now) looks.knows;
-      before =
-          subst (λ (k : ℕ). AreBefore k (seen (ws ++ w ∷ []))) (let long = length-append ws (w ∷ []) in omega (arith, long, len))
-          (subst (AreBefore (n + 1)) (sym now) looks.before);
-      copied =
-          new ∙ (ap (λ (vs : List Written). vs ++ copied_if kept n w) old
-          ∙ (ap (λ (vs : List Written). copies t ws ++ vs) (sym looks.kept_is)
-          ∙ sym (copies-next t ws w
-          ∙ ap (λ (k : ℕ). copies t ws ++ copy_of t (seen_by k w.moment (done_of w.deed) (seen ws)) k w.moment (done_of w.deed)) len)));
-    }
+  size-is : (n : ℕ) (w : Written)
+      → sum_by entry_size (copy_of t xs gs n w.moment (done_of w.deed))
+      ≡ size_if (mark_if t xs gs n w.moment (done_of w.deed)) (entry_size w)
+  size-is n w = by (done_of w.deed) refl
+    where
+      of : (m : Option Mark) (done : Done) → done_of w.deed ≡ Some done
+          → sum_by entry_size (copy_if m n w.moment done) ≡ size_if (option_map kept_as m) (entry_size w)
+      of None done e = refl
+      of (Some Ground) done e = let same = size-same w.deed done e in omega (arith, same)
+      of (Some Past) done e = let same = size-same w.deed done e in omega (arith, same)
+
+      by : (d : Option Done) → done_of w.deed ≡ d
+          → sum_by entry_size (copy_of t xs gs n w.moment d)
+          ≡ size_if (mark_if t xs gs n w.moment d) (entry_size w)
+      by None e = refl
+      by (Some done) e = of (mark_of t xs gs n w.moment done) done e
+
+  pub bytes-are : (n : ℕ) (ws : List Written)
+      → sum_by entry_size (copies_from t xs gs n ws) ≡ weigh (marks_from t xs gs n ws) ws
+  bytes-are n [] = refl
+  bytes-are n (w ∷ ws) =
+      let both = sum_by-append entry_size (copy_of t xs gs n w.moment (done_of w.deed)) (copies_from t xs gs (n + 1) ws) in
+      let one = size-is n w in
+      let ih = bytes-are (n + 1) ws in
+      omega (arith, both, one, ih)
+
+-- A count that is capped is as small as it is.
+capped-le : (n k : ℕ) → k < 2 ^ 64 - 1 → leb (capped n) k ≡ leb n k
+capped-le n k small = by (leb n k) refl
+  where
+    by : (b : Bool) → leb n k ≡ b → leb (capped n) k ≡ leb n k
+    by true e = let le = leb-true n k e in le-leb (capped n) k (omega (arith, le)) ∙ sym e
+    by false e = let lt = leb-false n k e in lt-leb (capped n) k (omega (arith, lt, small)) ∙ sym e
+
+pub few-is : (t : ℕ) (ws : List Written) (gs : List ℕ) (m : Marks) → AreMarks t ws gs m
+    → (leb m.count MAX_COPIES && leb m.bytes MAX_COPIES_LEN) ≡ are_few (copies_with t ws gs)
+few-is t ws gs m h =
+    let count : m.count ≡ capped (length (copies_with t ws gs)) =
+    h.count ∙ ap capped (ap count_some h.marks ∙ sym (count-is t (seen ws) gs 0 ws)) in
+    let bytes : m.bytes ≡ capped (sum_by entry_size (copies_with t ws gs)) =
+    h.bytes ∙ ap capped (ap (λ (ms : List (Option RustMark)). weigh ms ws) h.marks ∙ sym (bytes-are t (seen ws) gs 0 ws)) in
+    ap (λ (b : Bool). b && leb m.bytes MAX_COPIES_LEN)
+    (ap (λ (k : ℕ). leb k MAX_COPIES) count ∙ capped-le (length (copies_with t ws gs)) MAX_COPIES (omega arith))
+    ∙ ap (λ (b : Bool). leb (length (copies_with t ws gs)) MAX_COPIES && b)
+    (ap (λ (k : ℕ). leb k MAX_COPIES_LEN) bytes ∙ capped-le (sum_by entry_size (copies_with t ws gs)) MAX_COPIES_LEN (omega arith))
 
 -- What a copy adds to the count.
 pub counted-bytes : (es : List Written) (w : Written) → capped (capped (sum_by entry_size es) + capped (entry_size w)) ≡ capped (sum_by entry_size (es ++ w ∷ []))

@@ -1,4 +1,9 @@
+pub mod Carrying
 pub mod Copying
 pub mod Equal
+pub mod EqualLines
 pub mod Knowing
+pub mod Lines
+pub mod Marking
 pub mod Sources
+pub mod Tracing

@@ -1,18 +1,15 @@
 //! The copies of a journal.
 
-ghost use Rattle.std.specs.Prelude.{ℕ, ◌≡◌, ◌≤◌, ◌<◌, ◌∷◌, ◌++◌, [], true, List, length, option_map, IfOk, OnOk};
+ghost use Rattle.std.specs.Prelude.{ℕ, ◌≡◌, ◌≤◌, ◌<◌, ◌∷◌, ◌++◌, [], List, length, IfOk, OnOk};
 ghost use Rattle.std.specs.Option.{option_to_list};
 ghost use Rattle.limits.specs.declared.TheConstants.{MAX_ENTRIES};
-ghost use Rattle.exchange_model.specs.Rotating.{Seen, copies};
-ghost use Rattle.journal_book.specs.Entries.{done_of};
+ghost use Rattle.exchange_model.specs.Rotating.{copies_with};
 ghost use Rattle.journal_book.specs.Views.{event_of, item_of};
-ghost use Rattle.journal_copies.specs.Copying.{AreCounted, Looks, copied_if, heard_in, is_recent_by, peer_of, received, timeout_in};
-ghost use Rattle.journal_copies.specs.Knowing.{AreBefore, Knows};
+ghost use Rattle.journal_copies.specs.Copying.{AreCounted, copied_by, peer_of};
+ghost use Rattle.journal_copies.specs.Marking.{AreMarks};
 
-use crate::seen::{SeenMessages, is_fresh};
-use coap_codec::Bytes;
+use crate::marks::Marks;
 use journal_book::{Done, Entry, Event, Journal, Mark};
-use limits::MESSAGE_ID_LIFETIME;
 use std::alloc::{AllocError, Global};
 use transformers::Relation;
 use uri_map::Peer;
@@ -25,67 +22,6 @@ pub struct Copies<R: Relation> {
     pub bytes: u64,
     /// of which endpoints they are, one for each copy
     pub peers: Vec<Peer>,
-}
-
-/// A datagram that was heard.
-#[derive(Clone, Copy)]
-struct Received<'a> {
-    peer: Peer,
-    bytes: &'a Bytes,
-}
-
-/// What was heard, be it in a copy.
-fn heard_in<R: Relation>(event: &Event<R>) -> Option<Received<'_>>
-    ensures { option_map received result ≡ heard_in (done_of (event_of event.now)) }
-{
-    match event {
-        Event::Heard { peer, bytes } => Some(Received { peer: *peer, bytes }),
-        Event::Carried { done, .. } => match done {
-            Done::Heard { peer, bytes } => Some(Received { peer: *peer, bytes }),
-            _ => None,
-        },
-        _ => None,
-    }
-}
-
-/// The first timeout of what was sent: a first sending has one (RFC 7252 section 4.2).
-fn first_timeout<R: Relation>(event: &Event<R>) -> Option<u32>
-    ensures { result ≡ timeout_in (done_of (event_of event.now)) }
-{
-    match event {
-        Event::Sent { timeout, .. } => *timeout,
-        Event::Carried { done, .. } => match done {
-            Done::Sent { timeout, .. } => *timeout,
-            _ => None,
-        },
-        _ => None,
-    }
-}
-
-/// Whether what was done at that moment is a first sending, whose message ID is in use at this one.
-fn is_recent_first<R: Relation>(entry: &Entry<R>, moment: u64) -> bool
-    ensures { result ≡ is_recent_by moment entry.now.moment (done_of (event_of entry.now.event)) }
-{
-    if first_timeout(&entry.event).is_none() {
-        return false;
-    }
-    moment < entry.moment || moment - entry.moment < MESSAGE_ID_LIFETIME
-}
-
-/// Whether the entry is to be remembered at this moment. Messages that repeat none are noted.
-fn is_remembered<R: Relation>(
-    seen: &mut SeenMessages,
-    entry: &Entry<R>,
-    moment: u64,
-) -> Result<bool, AllocError>
-    ensures { (n : ℕ) (old : List Seen) → AreBefore n old → Knows seen.old.moments old
-        → IfOk result (λ kept. Looks moment n (item_of entry.now) old seen.new.moments kept) }
-{
-    if let Some(received) = heard_in(&entry.event) {
-        let more = seen.see(received.peer, received.bytes.as_slice(), entry.moment)?;
-        return Ok(more && is_fresh(entry.moment, moment));
-    }
-    Ok(is_recent_first(entry, moment))
 }
 
 /// The peer of what was sent or heard.
@@ -141,39 +77,40 @@ impl<R: Relation> Copies<R> {
         Ok(())
     }
 
-    /// Adds a copy of the entry, which has this number in its journal.
-    fn add(&mut self, entry: &Entry<R>, number: u32) -> Result<(), AllocError>
+    /// Adds a copy of the entry, which has this number in its journal, where it is marked.
+    fn add(&mut self, entry: &Entry<R>, number: u32, mark: Option<Mark>) -> Result<(), AllocError>
         requires { AreCounted self.old }
         ensures entries { OnOk result (self.new.journal.entries
-            ≡ self.old.journal.entries ++ copied_if true number (item_of entry.now)) }
+            ≡ self.old.journal.entries ++ copied_by mark number (item_of entry.now)) }
         ensures counted { OnOk result (AreCounted self.new) }
     {
-        if let Some(copy) = entry.carried(number, Mark::Past)? {
+        let Some(mark) = mark else {
+            return Ok(());
+        };
+        if let Some(copy) = entry.carried(number, mark)? {
             self.push(copy)?;
         }
         Ok(())
     }
 }
 
-/// The copies of a journal at this moment.
+/// The copies of the entries that are marked.
 pub fn copies_of<R: Relation>(
     alloc: Global,
     journal: &Journal<R>,
-    moment: u64,
+    marks: &Marks,
 ) -> Result<Copies<R>, AllocError>
     requires { length journal.now.entries ≤ MAX_ENTRIES }
-    ensures entries { IfOk result (λ c. c.journal.entries ≡ copies moment journal.now.entries) }
+    ensures entries { (t : ℕ) (gs : List ℕ) → AreMarks t journal.now.entries gs marks.now
+        → IfOk result (λ c. c.journal.entries ≡ copies_with t journal.now.entries gs) }
     ensures counted { IfOk result (λ c. AreCounted c) }
 {
-    let mut seen = SeenMessages::new(alloc);
     let mut copies = Copies::new(alloc)?;
     'each: for number in 0..journal.len() {
         let Some(entry) = journal.get(number) else {
             unreachable!()
         };
-        if is_remembered(&mut seen, entry, moment)? {
-            copies.add(entry, number as u32)?;
-        }
+        copies.add(entry, number as u32, marks.get(number))?;
     }
     Ok(copies)
 }

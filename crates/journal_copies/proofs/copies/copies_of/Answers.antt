@@ -1,14 +1,12 @@
-use Rattle.std.proofs.Common.{Bool, append-nil, length-append, ◌≡◌, ℕ, ◌+◌, ◌≤◌, [], ◌∷◌, ◌++◌, List, length, take, true, false, ap, sym, subst, ◌∙◌, arith}
+use Rattle.std.proofs.Common.{◌≡◌, ℕ, ◌+◌, [], ◌∷◌, ◌++◌, List, length, get_or, take, Option, None, ap, sym, ◌∙◌, arith, take_all}
 use Rattle.std.proofs.lemmas.List.{length-take-le}
 use Rattle.journal_book.specs.Entries.{Written}
 use Rattle.journal_book.specs.Views.{item_of}
+use Rattle.journal_book.specs.declared.entry.Mark.{Mark}
 use Rattle.journal_book.proofs.Filled.{first-more}
-use Rattle.exchange_model.specs.Rotating.{copies, seen}
-use Rattle.journal_copies.specs.declared.copies.Copies.{Copies}
-use Rattle.journal_copies.specs.Copying.{AreCounted, copied_if, Looks}
-use Rattle.journal_copies.specs.Knowing.{AreBefore, Knows}
-use Rattle.journal_copies.proofs.Copied.{Goes, goes-on}
-use Rattle.journal_copies.proofs.copies.copies_of.Goals.{then-branch+in_ok-add, else-branch}
+use Rattle.exchange_model.specs.Rotating.{seen}
+use Rattle.journal_copies.specs.Copying.{copied_by}
+use Rattle.journal_copies.proofs.Copied.{copied_from, copied-is, copied-more}
 use Rattle.journal_copies.proofs.copies.copies_of.Goals as goal
 
 pub unreachable-requires : goal.unreachable-requires
@@ -18,6 +16,7 @@ unreachable-requires g c =
 pub each-preserved : goal.each-preserved
 each-preserved g c =
     let es : List Written = c.args.journal.now.entries in
+    let ms : List (Option Mark) = c.args.marks.now.marks.items in
     let n : ℕ = c.each.number in
     let ws : List Written = take n es in
     let w : Written = item_of c.in-Some.entry.now in
@@ -25,27 +24,27 @@ each-preserved g c =
     let below = c.each-test.true in
     let end = c.len-number-end.ensures in
     let len : length ws ≡ n = length-take-le n es (omega (arith, below, end)) in
-    let looks : Looks c.args.moment n w (seen ws) c.is_remembered.new.seen.moments c.in_ok-is_remembered.field-0 =
-    c.in_ok-is_remembered.ensures n (seen ws) c.each.invariant.before c.each.invariant.knows in
-    let goes : Goes c.args.moment (ws ++ w ∷ []) c.is_remembered.new.seen.moments c.if-branch.copies.journal.entries =
-    elim c.if-branch.branch [
-      | then-branch+in_ok-add b ↦ goes-on c.args.moment n ws w c.is_remembered.new.seen.moments c.in_ok-is_remembered.field-0
-          c.each.copies.journal.entries c.if-branch.copies.journal.entries len looks c.each.invariant.copied
-          (ap (λ (k : Copies g.row.R.Denot). k.journal.entries) b.copies-is ∙ (b.in_ok-add.ensures.entries
-          ∙ ap (λ (kept : Bool). c.each.copies.journal.entries ++ copied_if kept n w) (sym b.if-branch.true)))
-      | else-branch b ↦ goes-on c.args.moment n ws w c.is_remembered.new.seen.moments c.in_ok-is_remembered.field-0
-          c.each.copies.journal.entries c.if-branch.copies.journal.entries len looks c.each.invariant.copied
-          (ap (λ (k : Copies g.row.R.Denot). k.journal.entries) b.copies-is ∙ (sym (append-nil c.each.copies.journal.entries)
-          ∙ ap (λ (kept : Bool). c.each.copies.journal.entries ++ copied_if kept n w) (sym b.if-branch.false)))
-    ] in
     record {
-      knows = subst (λ (vs : List Written). Knows c.is_remembered.new.seen.moments (seen vs)) (sym next) goes.knows;
-      before =
-          subst (λ (vs : List Written). AreBefore (n + 1) (seen vs)) (sym next)
-          (subst (λ (k : ℕ). AreBefore k (seen (ws ++ w ∷ []))) (let more = length-append ws (w ∷ []) in omega (arith, more, len)) goes.before);
-      copied = goes.copied ∙ ap (copies c.args.moment) (sym next);
-      counted = elim c.if-branch.branch [
-        | then-branch+in_ok-add b ↦ subst (λ (k : Copies g.row.R.Denot). AreCounted k) (sym b.copies-is) b.in_ok-add.ensures.counted
-        | else-branch b ↦ subst (λ (k : Copies g.row.R.Denot). AreCounted k) (sym b.copies-is) c.each.invariant.counted
-      ];
+      copied =
+          c.in_ok-add.ensures.entries
+          ∙ (ap (λ (cs : List Written). cs ++ copied_by c.get-in-each.result n w) c.each.invariant.copied
+          ∙ (ap (λ (m : Option Mark). copied_from 0 ws ms ++ copied_by m n w) c.get-in-each.ensures
+          ∙ (ap (λ (k : ℕ). copied_from 0 ws ms ++ copied_by (get_or ms k None) k w) (sym len)
+          ∙ (ap (λ (k : ℕ). copied_from 0 ws ms ++ copied_by (get_or ms (length ws) None) k w) (by (length ws))
+          ∙ (sym (copied-more 0 ws ms w)
+          ∙ ap (λ (vs : List Written). copied_from 0 vs ms) (sym next))))));
+      counted = c.in_ok-add.ensures.counted;
     }
+  where
+    by : (k : ℕ) → k ≡ 0 + k
+    by k = omega arith
+
+pub returns-clause-entries : goal.returns-clause-entries
+returns-clause-entries g c = λ t gs h.
+    let es : List Written = c.args.journal.now.entries in
+    let past = c.each-test.false in
+    let end = c.len-number-end.ensures in
+    c.each.invariant.copied
+    ∙ (ap (λ (vs : List Written). copied_from 0 vs c.args.marks.now.marks.items) (take_all c.each.number es (omega (arith, past, end)))
+    ∙ (ap (λ (ms : List (Option Mark)). copied_from 0 es ms) h.marks
+    ∙ copied-is t (seen es) gs 0 es))

@@ -1,13 +1,10 @@
 use Rattle.std.proofs.Common.{◌≡◌, take}
-use Rattle.exchange_model.specs.Rotating.{copies, seen}
 use Rattle.journal_copies.specs.Copying.{AreCounted}
-use Rattle.journal_copies.specs.Knowing.{AreBefore, Knows}
+use Rattle.journal_copies.proofs.Copied.{copied_from}
 use Rattle.journal_copies.proofs.copies.copies_of.Given as goal
 
 abbrev pub invariant-each : goal.invariant-each
 invariant-each g l = record {
-  knows : Knows l.seen.moments (seen (take l.number l.journal.entries));
-  before : AreBefore l.number (seen (take l.number l.journal.entries));
-  copied : l.copies.journal.entries ≡ copies l.moment (take l.number l.journal.entries);
+  copied : l.copies.journal.entries ≡ copied_from 0 (take l.number l.journal.entries) l.marks.marks.items;
   counted : AreCounted l.copies;
 }

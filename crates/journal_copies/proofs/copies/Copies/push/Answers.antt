@@ -1,4 +1,4 @@
-use Rattle.std.proofs.Common.{◌≡◌, ℕ, ◌+◌, [], ◌∷◌, ◌++◌, List, length, ap, sym, ◌∙◌, arith, length-append}
+use Rattle.std.proofs.Common.{ℕ, ◌+◌, [], ◌∷◌, ◌++◌, List, ap, sym, ◌∙◌, arith}
 use Rattle.std.specs.Prelude.{option_to_list, sum_by}
 use Rattle.ask_model.specs.Sizes.{capped}
 use Rattle.uri_map.specs.declared.peer.Peer.{Peer}

@@ -5,8 +5,8 @@ use Rattle.journal_book.specs.Entries.{Heard}
 use Rattle.journal_book.specs.Views.{item_of}
 use Rattle.journal_copies.specs.Copying.{Looks, received}
 use Rattle.journal_copies.specs.Knowing.{Sees}
-use Rattle.journal_copies.proofs.Copied.{looks-else, looks-heard}
-use Rattle.journal_copies.proofs.copies.is_remembered.Goals as goal
+use Rattle.journal_copies.proofs.Looked.{looks-else, looks-heard}
+use Rattle.journal_copies.proofs.remembering.is_remembered.Goals as goal
 
 pub returns-then-more : goal.returns-then-more
 returns-then-more g c = λ n old before k.
