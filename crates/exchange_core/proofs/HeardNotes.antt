@@ -1,7 +1,7 @@
 -- What a datagram is prepared as: of an exchange that is open, by the first of its replies or not, and noted so.
-use Rattle.std.proofs.Common.{◌≡◌, ◌⊎◌, inl, inr, ℕ, zero, suc, ◌+◌, Bool, true, false, cond, not, eqb, ◌&&◌, ◌||◌, List, [], ◌∷◌, ◌++◌, length, map, Option, Some, None, Result, Ok, Err, refl, sym, ap, subst, ◌∙◌, arith}
+use Rattle.std.proofs.Common.{◌≡◌, ◌⊎◌, inl, inr, ℕ, ◌+◌, Bool, true, false, cond, not, eqb, ◌&&◌, ◌||◌, List, [], ◌∷◌, ◌++◌, length, map, Option, Some, None, Result, Ok, Err, refl, sym, ap, subst, ◌∙◌, arith}
 use Rattle.std.specs.Prelude.{filter, find, is_none, is_some}
-use Rattle.std.specs.List.{AllByRecursion, Contains, list_any}
+use Rattle.std.specs.List.{Contains, list_any}
 use Rattle.std.proofs.lemmas.Bool.{false≢true}
 use Rattle.std.proofs.lemmas.Slice.Eq.{bytes_eq-Decides}
 use Rattle.coap_codec.specs.Spelling.{Content}
@@ -17,7 +17,7 @@ use Rattle.blockwise.specs.declared.upload.Answered.{Answered}
 use Rattle.blockwise.specs.declared.upload.Answered.TheVariants as A
 use Rattle.observe_share.specs.declared.registration.Registration.{Registration}
 use Rattle.observe_share.specs.declared.notice.Notice.{Notice}
-use Rattle.observe_share.specs.declared.notice.Notice.TheVariants.{Update, Other}
+use Rattle.observe_share.specs.declared.notice.Notice.TheVariants.{Other}
 use Rattle.observe_share.specs.Watches as Watches
 use Rattle.observe_share.specs.Watches.{counts_for}
 use Rattle.resp_cache.specs.Stored.{Stored}
@@ -35,7 +35,7 @@ use Rattle.message_layer.specs.declared.verdict.News.{News}
 use Rattle.message_layer.specs.declared.verdict.News.TheVariants as N
 use Rattle.history_laws.specs.Hearing.{is_such, is_update}
 use Rattle.history_laws.specs.Observing.{as_first, notice_in}
-use Rattle.history_laws.specs.Progress.{Reply, Ending, NotUnderstood, Reset, Turned, Progress, Fetches, Gives, Ends, anew, answered, answered_so, fetched, fetched_by, fetched_whole, step}
+use Rattle.history_laws.specs.Progress.{Reply, NotUnderstood, Reset, Progress, Fetches, Gives, Ends, anew, answered, answered_so, fetched, fetched_by, step}
 use Rattle.history_laws.specs.Responses.{is_tellable}
 use Rattle.history_laws.proofs.CallerLemmas.{all-of, find-some, none-some, some-is}
 use Rattle.exchange_model.specs.declared.kept.Exchange.{Exchange}
@@ -52,7 +52,7 @@ use Rattle.exchange_core.specs.declared.matter.Matter.{Matter as RustMatter}
 use Rattle.exchange_core.specs.declared.matter.Matter.TheVariants as M
 use Rattle.exchange_core.specs.Hearing.{IsFirstBy, IsFirstSo, is_first, watches_after}
 use Rattle.exchange_core.specs.Matters.{Answer, IsMatter, IsPrepared, answer_in, matter_for, matter_with, replied_to}
-use Rattle.exchange_core.specs.Notifying.{IsNoted, IsNotedIn, IsReadBy, IsUnder, IsWatchedBy, ReadsIn, ReadsSo, is_alone, matter_alone, matter_told, notice_told}
+use Rattle.exchange_core.specs.Notifying.{IsNoted, IsNotedIn, IsUnder, IsWatchedBy, ReadsIn, ReadsSo, is_alone, matter_alone, matter_told, notice_told}
 use Rattle.exchange_core.specs.declared.notifying.Watching.{Watching}
 use Rattle.exchange_core.proofs.Heeds.{WatchedAs, nothing-is}
 use Rattle.exchange_core.proofs.MatterBy.{answer-stands, comes-by, goes-exchange, goes-progress}

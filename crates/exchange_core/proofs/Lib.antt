@@ -27,6 +27,7 @@ mod TickSteps
 mod TickNext
 mod Served
 mod Turning
+mod Carries
 mod Outrun
 mod Joins
 mod Recalls

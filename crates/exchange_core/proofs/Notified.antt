@@ -1,11 +1,7 @@
 -- Messages under the tokens of what is observed, and what becomes of that.
-use Rattle.std.proofs.Common.{◌≡◌, ℕ, ◌+◌, ◌<◌, Bool, true, false, cond, not, eqb, ◌&&◌, ◌||◌, List, [], ◌∷◌, ◌++◌, length, map, Option, Some, None, Result, Ok, Err, refl, sym, ap, subst, ◌∙◌, append-nil, arith}
-use Rattle.std.specs.Prelude.{find, is_none, is_some, nat_lt, option_to_list, IfOk, IfSome}
-use Rattle.std.specs.List.{AllByRecursion, Contains, list_any}
-use Rattle.std.proofs.lemmas.Bool.{false≢true, ltb-true}
+use Rattle.std.proofs.Common.{◌≡◌, ℕ, Bool, true, false, cond, ◌&&◌, List, [], ◌∷◌, ◌++◌, length, Option, Some, None, Result, Ok, Err, refl, sym, ap, subst, ◌∙◌, append-nil}
+use Rattle.std.specs.Prelude.{find, nat_lt, option_to_list, IfOk}
 use Rattle.coap_codec.specs.Spelling.{Content}
-use Rattle.coap_codec.specs.Reading.{message_at}
-use Rattle.coap_codec.specs.declared.fault.CodecFault.{CodecFault}
 use Rattle.uri_map.specs.declared.peer.Peer.{Peer}
 use Rattle.observe_share.specs.declared.registration.Registration.{Registration}
 use Rattle.observe_share.specs.declared.notice.Notice.{Notice}
@@ -14,38 +10,29 @@ use Rattle.observe_share.specs.Watches as Watches
 use Rattle.observe_share.specs.Watches.{counts_for, if_counts, noticed, without}
 use Rattle.resp_cache.specs.Stored.{Stored}
 use Rattle.ask_model.specs.Requests.{CoapRequest}
-use Rattle.ask_model.specs.Sharing.{asked_key, is_get}
 use Rattle.journal_book.specs.Entries.{Written}
-use Rattle.message_layer.specs.Values.{LinkState, LinkValue, Told, told, no_news, response, was_reset, timed_out, was_dropped}
-use Rattle.message_layer.specs.Hearing.{says, verdict_of}
-use Rattle.message_layer.specs.Prepared.{IsHearing, IsRead, MayFollow}
+use Rattle.message_layer.specs.Values.{LinkValue, Told, response}
+use Rattle.message_layer.specs.Prepared.{MayFollow}
 use Rattle.message_layer.specs.declared.prepared.Heeding.{Heeding}
-use Rattle.message_layer.specs.declared.prepared.Hearing.{Hearing}
-use Rattle.message_layer.specs.declared.verdict.News.{News}
 use Rattle.message_layer.specs.declared.verdict.News.TheVariants as N
 use Rattle.history_laws.specs.Hearing.{is_such, is_update}
 use Rattle.history_laws.specs.Observing.{as_first, notice_by, notice_in, number_or_zero, version}
-use Rattle.history_laws.specs.Progress.{Reply, Ending, Turned, Progress, Ends}
-use Rattle.history_laws.proofs.CallerLemmas.{all-of, none-some, some-is}
+use Rattle.history_laws.specs.Progress.{Reply, Ending, Progress, Ends}
+use Rattle.history_laws.proofs.CallerLemmas.{none-some, some-is}
 use Rattle.exchange_model.specs.declared.kept.Exchange.{Exchange}
 use Rattle.exchange_model.specs.declared.kept.Work.{Work}
 use Rattle.exchange_model.specs.declared.kept.Work.TheVariants as W
-use Rattle.exchange_model.specs.Keeping.{Kept}
-use Rattle.exchange_model.specs.State.{State, link_of}
-use Rattle.exchange_model.specs.Steps.{Matter, Nothing, Tells, Goes, Over, Numbers, asked_in, comes_to, content_by, found_in, gone_by, has_next_place, is_under, progress_with, replied, tells_of, told_alone, unless_updated, watches_by}
+use Rattle.exchange_model.specs.State.{State}
+use Rattle.exchange_model.specs.Steps.{Matter, Nothing, Tells, Goes, Numbers, asked_in, content_by, found_in, gone_by, progress_with, tells_of, told_alone, unless_updated, watches_by}
 use Rattle.exchange_model.specs.Watching.{is_written_by, registered, registers, registration_of, tokens_of}
-use Rattle.exchange_model.proofs.CallerLemmas.{asks-get, reset-notes}
-use Rattle.exchange_progress.specs.Coming.{IsComing, IsEnded}
 use Rattle.exchange_progress.specs.declared.coming.Ended.{Ended}
 use Rattle.exchange_core.specs.declared.matter.Matter.{Matter as RustMatter}
 use Rattle.exchange_core.specs.declared.matter.Matter.TheVariants as M
 use Rattle.exchange_core.specs.declared.matter.Going.{Going}
 use Rattle.exchange_core.specs.declared.matter.Notification.{Notification}
 use Rattle.exchange_core.specs.declared.notifying.Watching.{Watching}
-use Rattle.exchange_core.specs.Hearing.{watches_after}
-use Rattle.exchange_core.specs.Matters.{Answer, IsMatter, more_in, IsNextToken, IsPrepared, answer_in, matter_for, matter_with}
-use Rattle.exchange_core.specs.Notifying.{IsNoted, IsNotedIn, IsReadBy, IsUnder, IsWatchedBy, ReadsIn, ReadsSo, is_alone, matter_alone, matter_told, notice_told, registered_by, registered_for, unless_more}
-use Rattle.exchange_core.proofs.MatterBy.{answer-stands}
+use Rattle.exchange_core.specs.Matters.{IsMatter, more_in, IsNextToken, IsPrepared, matter_for}
+use Rattle.exchange_core.specs.Notifying.{IsNoted, IsWatchedBy, ReadsSo, is_alone, matter_alone, matter_told, registered_by, registered_for, unless_more}
 
 -- what is told of no exchange
 

@@ -1,5 +1,5 @@
 -- What an ask that the store answers leaves.
-use Rattle.std.proofs.Common.{◌≡◌, ◌≤◌, ◌^◌, ℕ, ◌+◌, Bool, true, false, cond, List, [], ◌∷◌, ◌++◌, length, map, Option, Some, None, refl, sym, ap, subst, ◌∙◌}
+use Rattle.std.proofs.Common.{◌≡◌, ◌≤◌, ◌^◌, ℕ, ◌+◌, inl, inr, Bool, true, false, cond, List, [], ◌∷◌, ◌++◌, length, map, Option, Some, None, refl, sym, ap, subst, ◌∙◌}
 use Rattle.std.specs.Prelude.{sum_by, is_none, ◌&&◌, ◌==◌}
 use Rattle.std.specs.List.{AllByRecursion, find}
 use Rattle.std.proofs.lemmas.Bool.{and_parts}
@@ -14,7 +14,7 @@ use Rattle.ask_model.specs.Requests.{CoapRequest, Sense, Requests}
 use Rattle.ask_model.specs.Sharing.{asked_key, is_get}
 use Rattle.ask_model.specs.Views.{Ask, Mapping}
 use Rattle.ask_model.specs.Sizes.{capped}
-use Rattle.journal_book.specs.Entries.{Kept, Asks, Answers, Written, entry_size}
+use Rattle.journal_book.specs.Entries.{Kept, Ground, Heard, Asks, Hears, Answers, Carries, Written, entry_size}
 use Rattle.journal_book.specs.Views.{ask_of}
 use Rattle.history_laws.proofs.CallerLemmas.{some-is}
 use Rattle.reply_reading.specs.Findings.{Tells}
@@ -22,7 +22,7 @@ use Rattle.exchange_model.specs.State.{State}
 use Rattle.exchange_model.specs.Steps.{seals, Numbers}
 use Rattle.exchange_model.specs.Calls.{IsAlone, asked, served_in}
 use Rattle.exchange_model.specs.Entering.{entered_all, IsDrained}
-use Rattle.exchange_model.specs.Growing.{AreHeardAt, IsHeardAt, IsHeardIn}
+use Rattle.exchange_model.specs.Growing.{AreCopiedAt, AreHeardAt, IsCopiedAt, IsHeardAt, IsHeardIn}
 use Rattle.exchange_model.specs.Room.{fits, KeptInRoom}
 use Rattle.exchange_model.specs.Sealing.{asks_in_room}
 use Rattle.exchange_model.specs.Watching.{touched, touched_for}
@@ -76,7 +76,14 @@ enters-served t c a q n s S sense found =
 -- what is stored was heard
 
 heard-at : (S : State) (n : ℕ) (m : Content) → (h : IsHeardAt S n m) → HeardAs S.entries n h.moment m
-heard-at S n m h = record { peer = h.peer; bytes = h.bytes; stands = h.stands; spelled = h.spelled }
+heard-at S n m h = record {
+  peer = h.peer;
+  bytes = h.bytes;
+  deed = Hears h.peer h.bytes;
+  stands = h.stands;
+  says = refl;
+  spelled = h.spelled;
+}
 
 all-heard : (S : State) (ns : List ℕ) (ms : List Content) → AreHeardAt S ns ms → AreHeard S.entries ns ms
 all-heard S [] [] h = tt
@@ -84,8 +91,39 @@ all-heard S [] (m ∷ ms) h = absurd h
 all-heard S (n ∷ ns) [] h = absurd h
 all-heard S (n ∷ ns) (m ∷ ms) h = ((h.0.moment, heard-at S n m h.0), all-heard S ns ms h.1)
 
+copied-at : (S : State) (n : ℕ) (m : Content) → (h : IsCopiedAt S n m) → HeardAs S.entries n h.moment m
+copied-at S n m h = record {
+  peer = h.peer;
+  bytes = h.bytes;
+  deed = Carries h.number Ground (Heard h.peer h.bytes);
+  stands = h.stands;
+  says = refl;
+  spelled = h.spelled;
+}
+
+all-copied : (S : State) (ns : List ℕ) (ms : List Content) → AreCopiedAt S ns ms → AreHeard S.entries ns ms
+all-copied S [] [] h = tt
+all-copied S [] (m ∷ ms) h = absurd h
+all-copied S (n ∷ ns) [] h = absurd h
+all-copied S (n ∷ ns) (m ∷ ms) h = ((h.0.moment, copied-at S n m h.0), all-copied S ns ms h.1)
+
+heard-all : (S : State) (p : Pair) (h : IsHeardIn S p)
+    → HeardAs S.entries h.number p.stored.heard h.message × AreHeard S.entries h.others h.more
+heard-all S p h =
+    elim (h.heard) [
+      | inl a ↦ (
+        subst (λ (k : ℕ). HeardAs S.entries h.number k h.message) a.1 (heard-at S h.number h.message a.0),
+        all-heard S h.others h.more a.2,
+      )
+      | inr a ↦ (
+        subst (λ (k : ℕ). HeardAs S.entries h.number k h.message) a.1 (copied-at S h.number h.message a.0),
+        all-copied S h.others h.more a.2,
+      )
+    ]
+
 heard-of : (S : State) (p : Pair) (x : Stored) → IsHeardIn S p → Some p.stored ≡ Some x → WasHeard S.entries x
 heard-of S p x h e =
+    let all = heard-all S p h in
     subst (WasHeard S.entries) (some-is p.stored x e)
     (record {
       number = h.number;
@@ -93,9 +131,8 @@ heard-of S p x h e =
       message = h.message;
       more = h.more;
       list = h.list;
-      first = subst (λ (k : ℕ). HeardAs S.entries h.number k h.message) h.first
-          (heard-at S h.number h.message h.heard.0);
-      rest = all-heard S h.others h.more h.heard.1;
+      first = all.0;
+      rest = all.1;
       whole = h.whole;
     })
 

@@ -88,7 +88,14 @@ stepped-same S gs os = rw ((drop_all (length S.entries) S.entries (omega arith))
 -- answers stand in a journal that grows
 
 pub heard-stays : (h more : List Written) (j t : ℕ) (m : Content) → HeardAs h j t m → HeardAs (h ++ more) j t m
-heard-stays h more j t m a = record { peer = a.peer; bytes = a.bytes; stands = got-more h more j _ a.stands; spelled = a.spelled }
+heard-stays h more j t m a = record {
+  peer = a.peer;
+  bytes = a.bytes;
+  deed = a.deed;
+  stands = got-more h more j _ a.stands;
+  says = a.says;
+  spelled = a.spelled;
+}
 
 pub all-heard-stay : (h more : List Written) (js : List ℕ) (ms : List Content) → AreHeard h js ms → AreHeard (h ++ more) js ms
 all-heard-stay h more [] [] a = tt

@@ -58,7 +58,14 @@ told-few n (Over e how) rs =
 -- what was heard
 
 pub heard-as : (S : State) (n : ℕ) (m : Content) → (k : IsHeardAt S n m) → HeardAs S.entries n k.moment m
-heard-as S n m k = record { peer = k.peer; bytes = k.bytes; stands = k.stands; spelled = k.spelled }
+heard-as S n m k = record {
+  peer = k.peer;
+  bytes = k.bytes;
+  deed = Hears k.peer k.bytes;
+  stands = k.stands;
+  says = refl;
+  spelled = k.spelled;
+}
 
 are-heard-as : (S : State) (ns : List ℕ) (ms : List Content) → AreHeardAt S ns ms → AreHeard S.entries ns ms
 are-heard-as S [] [] a = tt

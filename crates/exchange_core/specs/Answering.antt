@@ -5,7 +5,7 @@ use Rattle.coap_codec.specs.Spelling.{Content, Spells}
 use Rattle.uri_map.specs.declared.peer.Peer.{Peer}
 use Rattle.ask_model.specs.Requests.{Sense, Requests}
 use Rattle.ask_model.specs.Views.{Mapping}
-use Rattle.journal_book.specs.Entries.{Grounds, Live, Kept, Fault, Asks, Hears, Answers, Written}
+use Rattle.journal_book.specs.Entries.{Grounds, Live, Kept, Fault, Heard, done_of, Deed, Asks, Answers, Written}
 use Rattle.journal_book.specs.Views.{ask_of}
 use Rattle.history_laws.specs.Responses.{whole_of}
 use Rattle.reply_reading.specs.Findings.{Found, Told, Tells, Fails}
@@ -36,11 +36,14 @@ given_of a = record {
 abbrev pub answer_entry : Given → Written
 answer_entry g = written g.moment (Answers g.conn g.ask g.found.grounds)
 
--- The entry with this number was heard at this moment, and spells this message.
+-- The entry with this number, or that which it is a copy of, was heard at this moment, and spells
+-- this message.
 pub record HeardAs (h : List Written) (j t : ℕ) (m : Content) : Type 0 where
   pub peer : Peer
   pub bytes : List ℕ
-  pub stands : slice_get h j ≡ Some (written t (Hears peer bytes))
+  pub deed : Deed
+  pub stands : slice_get h j ≡ Some (written t deed)
+  pub says : done_of deed ≡ Some (Heard peer bytes)
   pub spelled : Spells m bytes
 
 -- In order, the entries with these numbers spell these messages.

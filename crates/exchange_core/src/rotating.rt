@@ -3,12 +3,14 @@
 ghost use Rattle.std.specs.Prelude.{◌≡◌, ◌≤◌, ◌<◌, ◌+◌, [], None, Some, length, map, not, if◌then◌else◌, sum_by, IfErr, IfOk, IfSome, OnOk};
 ghost use Rattle.std.specs.List.{list_all};
 ghost use Rattle.ask_model.specs.Sizes.{capped};
-ghost use Rattle.limits.specs.declared.TheConstants.{LAST_MOMENT};
+ghost use Rattle.limits.specs.declared.TheConstants.{LAST_MOMENT, MAX_ENTRIES};
 ghost use Rattle.journal_book.specs.Entries.{entry_size};
 ghost use Rattle.journal_copies.specs.Copying.{AreCounted};
+ghost use Rattle.journal_copies.specs.Marking.{AreMarks};
+ghost use Rattle.resp_cache.specs.Stores.{IsStore};
 ghost use Rattle.endpoint_table.specs.Keeping.{is_any};
-ghost use Rattle.exchange_model.specs.Steps.{is_past};
-ghost use Rattle.exchange_model.specs.Rotating.{are_few, copies, fault_of, turned, Crowded};
+ghost use Rattle.exchange_model.specs.Steps.{is_past, retired};
+ghost use Rattle.exchange_model.specs.Rotating.{are_few, copied_entries, copies, fault_of, pair_at, taken, turned, Crowded};
 ghost use Rattle.exchange_core.specs.Rotating.{fault_in, IsRefused, IsTurned};
 ghost use Rattle.exchange_core.specs.Sound.{IsSound};
 ghost use Rattle.exchange_core.specs.States.{given_in, outgoing, seen, state_of};
@@ -16,15 +18,16 @@ ghost use Rattle.exchange_core.specs.States.{given_in, outgoing, seen, state_of}
 use crate::due::is_past;
 use crate::fault::RotateFault;
 use crate::state::State;
+use crate::storing::retire_all;
 use endpoint_table::Keeping;
 use exchange_model::Exchange;
 use exchange_table::{Exchanges, Fetched, Readers};
 use journal_book::Journal;
-use journal_copies::{Copies, copies_of};
-use limits::{MAX_COPIES, MAX_COPIES_LEN, MAX_NUMBERED};
+use journal_copies::{Begun, Copies, Marks, begin, remembered};
+use limits::MAX_NUMBERED;
 use observe_share::Watch;
-use resp_cache::Store;
-use std::alloc::Global;
+use resp_cache::{Pair, Store};
+use std::alloc::{AllocError, Global};
 use std::collections::VecDeque;
 use std::mem;
 use transformers::Relation;
@@ -57,12 +60,26 @@ fn fault<R: Relation>(s: &State<R>, moment: u64) -> Option<RotateFault>
     None
 }
 
-/// Whether they are half of a journal at most.
-fn has_few<R: Relation>(next: &Copies<R>) -> bool
-    requires { AreCounted next.now }
-    ensures { result ≡ are_few next.now.journal.entries }
+/// What is remembered at this moment, where there is no reason against a turn.
+fn remembered_in<R: Relation>(
+    alloc: Global,
+    s: &State<R>,
+    moment: u64,
+) -> Result<Marks, RotateFault>
+    requires sound { IsSound s.now }
+    requires early { moment ≤ LAST_MOMENT }
+    ensures refused { IfErr result (λ fault. IsRefused moment (state_of s.now) fault) }
+    ensures none { OnOk result (fault_of moment (state_of s.now) ≡ None) }
+    ensures marks { IfOk result (λ m. AreMarks moment s.now.journal.entries [] m) }
 {
-    next.journal.len() as u64 <= MAX_COPIES && next.bytes <= MAX_COPIES_LEN
+    if let Some(fault) = fault(s, moment) {
+        return Err(fault);
+    }
+    let marks = remembered(alloc, &s.journal, moment)?;
+    if !marks.are_few() {
+        return Err(RotateFault::Crowded);
+    }
+    Ok(marks)
 }
 
 /// The first reason against a turn at this moment, want of memory included.
@@ -72,26 +89,56 @@ pub fn turn_fault<R: Relation>(alloc: Global, s: &State<R>, moment: u64) -> Opti
     ensures refused { IfSome result (λ fault. IsRefused moment (state_of s.now) fault) }
     ensures none { result ≡ None → fault_of moment (state_of s.now) ≡ None }
 {
-    if let Some(fault) = fault(s, moment) {
-        return Some(fault);
-    }
-    match copies_of(alloc, &s.journal, moment) {
-        Ok(next) if has_few(&next) => None,
-        Ok(_) => Some(RotateFault::Crowded),
-        Err(_) => Some(RotateFault::Memory),
+    match remembered_in(alloc, s, moment) {
+        Ok(_) => None,
+        Err(fault) => Some(fault),
     }
 }
 
-/// Goes on with the copies, and gives the old journal out.
+/// The pairs to whose place no open exchange writes. What such a one came to isn't known.
+fn unwritten<R: Relation>(s: &State<R>) -> Result<Vec<Pair>, AllocError>
+    ensures pairs { IfOk result (λ v. v.items
+        ≡ retired s.now.journal.entries s.now.exchanges.exchanges s.now.store.pairs) }
+    ensures store { IfOk result (λ v. IsStore v.items) }
+{
+    let mut store = s.store.copy()?;
+    retire_all(&mut store, &s.journal, s.exchanges.as_slice());
+    store.to_pairs()
+}
+
+/// What the next journal begins with, and the pairs that are carried over.
+fn next_of<R: Relation>(
+    alloc: Global,
+    s: &State<R>,
+    remembered: Marks,
+    moment: u64,
+) -> Result<Begun<R>, AllocError>
+    requires few { length s.now.journal.entries ≤ MAX_ENTRIES }
+    requires marks { AreMarks moment s.now.journal.entries [] remembered }
+    ensures counted { IfOk result (λ b. AreCounted b.copies) }
+    ensures copied { IfOk result (λ b. b.copies.journal.entries
+        ≡ copied_entries moment (state_of s.now)) }
+    ensures pairs { IfOk result (λ b. b.pairs.items
+        ≡ map (pair_at b.copies.journal.entries) (taken moment (state_of s.now))) }
+    ensures store { IfOk result (λ b. IsStore b.pairs.items) }
+{
+    let pairs = unwritten(s)?;
+    begin(alloc, &s.journal, moment, remembered, &pairs)
+}
+
+/// Goes on with the copies and the pairs that are carried over, and gives the old journal out.
 fn turn<R: Relation>(
     alloc: Global,
     s: &mut State<R>,
     next: Copies<R>,
+    store: Store,
     keeping: Keeping,
     moment: u64,
 ) -> Journal<R>
     requires counted { AreCounted next }
-    requires copied { next.journal.entries ≡ copies moment s.old.journal.entries }
+    requires copied { next.journal.entries ≡ copied_entries moment (state_of s.old) }
+    requires stored { store.pairs
+        ≡ map (pair_at next.journal.entries) (taken moment (state_of s.old)) }
     requires keeping { keeping ≡ map (is_any next.peers.items) s.old.endpoints.links }
     ensures state { state_of s.new ≡ turned moment (state_of s.old) }
     ensures given { result.entries ≡ s.old.journal.entries }
@@ -111,7 +158,7 @@ fn turn<R: Relation>(
     s.fetched = Fetched::new(alloc);
     s.readers = Readers::new(alloc);
     s.watches = Watch::new(alloc);
-    s.store = Store::new(alloc);
+    s.store = store;
     s.answers.clear();
     s.sends.clear();
     s.sealed = false;
@@ -135,13 +182,9 @@ pub fn rotate<R: Relation>(
     ensures refused { IfErr result (λ fault.
         (seen s.new ≡ seen s.old) × IsRefused moment (state_of s.old) fault) }
 {
-    if let Some(fault) = fault(s, moment) {
-        return Err(fault);
-    }
-    let next = copies_of(alloc, &s.journal, moment)?;
-    if !has_few(&next) {
-        return Err(RotateFault::Crowded);
-    }
-    let keeping = s.endpoints.prepare_keep(&next.peers)?;
-    Ok(turn(alloc, s, next, keeping, moment))
+    let remembered = remembered_in(alloc, s, moment)?;
+    let Begun { copies, pairs } = next_of(alloc, s, remembered, moment)?;
+    let store = Store::from_pairs(alloc, pairs)?;
+    let keeping = s.endpoints.prepare_keep(&copies.peers)?;
+    Ok(turn(alloc, s, copies, store, keeping, moment))
 }

@@ -7,31 +7,51 @@ use Rattle.coap_codec.specs.declared.message.Message.{Message}
 use Rattle.coap_codec.proofs.Unique.{spells_one}
 use Rattle.uri_map.specs.declared.peer.Peer.{Peer}
 use Rattle.ask_model.specs.Requests.{CoapRequest, Sense, Requests}
-use Rattle.journal_book.specs.Entries.{Grounds, Hears, Written, Live, Kept}
+use Rattle.journal_book.specs.Entries.{Grounds, Done, Heard, done_of, Deed, Written, Live, Kept}
 use Rattle.history_laws.specs.Responses.{Response, whole_of}
 use Rattle.reply_reading.specs.Findings.{Told, Tells}
 use Rattle.exchange_core.specs.Values.{written}
 use Rattle.exchange_core.specs.Answering.{HeardAs, AreHeard, IsFound, CountsFrom}
-use Rattle.gateway_desk.specs.Shown.{HearsAt, HearsNone, SpellsNone, IsHeardAt, IsUnheard, AreUnheard, IsFirstAt, RestsOn, whole_by}
+use Rattle.gateway_desk.specs.Shown.{bytes_heard, HearsAt, HearsNone, SpellsNone, IsHeardAt, IsUnheard, AreUnheard, IsFirstAt, RestsOn, whole_by}
 use Rattle.gateway_desk.proofs.Whole.{whole-by}
 
 some-same : {X : Type 0} (x y : X) → Some x ≡ Some y → x ≡ y
 some-same x y e = cc
 
-hears-same : (p o : Peer) (a b : List ℕ) → Hears p a ≡ Hears o b → a ≡ b
-hears-same p o a b e = cc
+heard-same : (p o : Peer) (a b : List ℕ) → Heard p a ≡ Heard o b → a ≡ b
+heard-same p o a b e = cc
 
 -- one entry bears one moment, the same bytes and one message
 
-entry-bytes : (h : List Written) (n t u : ℕ) (p o : Peer) (a b : List ℕ) → slice_get h n ≡ Some (written t (Hears p a))
-    → slice_get h n ≡ Some (written u (Hears o b)) → a ≡ b
-entry-bytes h n t u p o a b x y =
-    hears-same p o a b (ap (λ (w : Written). w.deed) (some-same (written t (Hears p a)) (written u (Hears o b)) (sym x ∙ y)))
+entry-bytes : (h : List Written) (n : ℕ) (a b : List ℕ) → HearsAt h n a → HearsAt h n b → a ≡ b
+entry-bytes h n a b x y =
+    let one = some-same (written x.0 x.2) (written y.0 y.2) (sym x.3 ∙ y.3) in
+    heard-same x.1 y.1 a b (some-same _ _ (sym x.4 ∙ (ap (λ (w : Written). done_of w.deed) one ∙ y.4)))
+
+heard-at : (h : List Written) (n t : ℕ) (m : Content) → (a : HeardAs h n t m) → HearsAt h n a.bytes
+heard-at h n t m a = (t, a.peer, a.deed, a.stands, a.says)
+
+-- what an entry says that was heard
+bytes-of : (done : Option Done) (bytes : List ℕ) → bytes_heard done ≡ Some bytes → (p : Peer) × (done ≡ Some (Heard p bytes))
+bytes-of (Some (Heard p b)) bytes e = (p, ap (λ (b : List ℕ). Some (Heard p b)) (some-same b bytes e))
+bytes-of done bytes e = absurd cc
+
+pub hears-so : {X : Type 0} (r : Option X) (now : X → List ℕ) (h : List Written) (n t : ℕ) (d : Deed) → slice_get h n ≡ Some (written t d)
+    → MatchOption r (bytes_heard (done_of d) ≡ None) (λ x. bytes_heard (done_of d) ≡ Some (now x))
+    → MatchOption r (HearsNone h n) (λ x. HearsAt h n (now x))
+hears-so (Some x) now h n t d stands e = let it = bytes-of (done_of d) (now x) e in (t, it.0, d, stands, it.1)
+hears-so None now h n t d stands e = λ bytes a.
+    let one = some-same (written t d) (written a.0 a.2) (sym stands ∙ a.3) in
+    let says : done_of d ≡ Some (Heard a.1 bytes) = ap (λ (w : Written). done_of w.deed) one ∙ a.4 in
+    none-some bytes (sym e ∙ ap bytes_heard says)
+  where
+    none-some : (bytes : List ℕ) → None ≡ Some bytes → ⊥
+    none-some bytes e = cc
 
 message-one : (h : List Written) (n : ℕ) (m k : Content) → IsHeardAt h n m → IsHeardAt h n k → m ≡ k
 message-one h n m k a b =
     spells_one m k b.1.bytes
-    (subst (Spells m) (entry-bytes h n a.0 b.0 a.1.peer b.1.peer a.1.bytes b.1.bytes a.1.stands b.1.stands) a.1.spelled) b.1.spelled
+    (subst (Spells m) (entry-bytes h n a.1.bytes b.1.bytes (heard-at h n a.0 m a.1) (heard-at h n b.0 k b.1)) a.1.spelled) b.1.spelled
 
 messages-one : (h : List Written) (js : List ℕ) (ms ns : List Content) → AreHeard h js ms → AreHeard h js ns → ms ≡ ns
 messages-one h [] [] [] a b = refl
@@ -45,14 +65,14 @@ messages-one h (j ∷ js) (m ∷ ms) (n ∷ ns) a b =
 -- what its bytes spell was heard in it, and without bytes nothing was
 
 heard-as : (h : List Written) (n : ℕ) (bytes : List ℕ) (m : Content) → HearsAt h n bytes → Spells m bytes → IsHeardAt h n m
-heard-as h n bytes m x s = (x.0, record { peer = x.1; bytes = bytes; stands = x.2; spelled = s })
+heard-as h n bytes m x s = (x.0, record { peer = x.1; bytes = bytes; deed = x.2; stands = x.3; says = x.4; spelled = s })
 
 heard-not : (h : List Written) (n : ℕ) (bytes : List ℕ) → HearsAt h n bytes → SpellsNone bytes → IsUnheard h n
 heard-not h n bytes x none m a =
-    none m (subst (Spells m) (entry-bytes h n a.0 x.0 a.1.peer x.1 a.1.bytes bytes a.1.stands x.2) a.1.spelled)
+    none m (subst (Spells m) (entry-bytes h n a.1.bytes bytes (heard-at h n a.0 m a.1) x) a.1.spelled)
 
 pub unheard-not : (h : List Written) (n : ℕ) → HearsNone h n → IsUnheard h n
-unheard-not h n none m a = none a.1.bytes (a.0, a.1.peer, a.1.stands)
+unheard-not h n none m a = none a.1.bytes (heard-at h n a.0 m a.1)
 
 -- one entry more
 
@@ -116,7 +136,7 @@ Shows h told grounds sense t heard = IsFound h told grounds sense × CountsFrom 
 heard-first : (h : List Written) (j t : ℕ) (m : Content) → IsHeardAt h j m → (w : Written) → slice_get h j ≡ Some w → w.moment ≡ t
     → HeardAs h j t m
 heard-first h j t m a w is now =
-    let moment : a.0 ≡ t = ap (λ (v : Written). v.moment) (some-same (written a.0 (Hears a.1.peer a.1.bytes)) w (sym a.1.stands ∙ is)) ∙ now in
+    let moment : a.0 ≡ t = ap (λ (v : Written). v.moment) (some-same (written a.0 a.1.deed) w (sym a.1.stands ∙ is)) ∙ now in
     subst (λ (s : ℕ). HeardAs h j s m) moment a.1
 
 live-shown : (h : List Written) (js : List ℕ) (t heard : ℕ) (q : CoapRequest) (w : Response)
@@ -131,7 +151,7 @@ live-shown h [] t heard q w = (
     by (m ∷ ms) a e = a
 live-shown h (j ∷ js) t heard q w = (
   (λ r. to r.0 r.1 r.2 r.3),
-  (λ s. (s.0.0, s.0.1, (written heard (Hears s.1.1.peer s.1.1.bytes), s.1.1.stands, refl), sym (whole-by q s.0.0) ∙ s.0.2)),
+  (λ s. (s.0.0, s.0.1, (written heard s.1.1.deed, s.1.1.stands, refl), sym (whole-by q s.0.0) ∙ s.0.2)),
 )
   where
     to : (ms : List Content) → AreHeard h (j ∷ js) ms → IsFirstAt h heard (j ∷ js) → whole_by q.method (length q.body) ms ≡ Some w

@@ -2,15 +2,23 @@
 use Rattle.std.specs.Prelude.{◌≡◌, ◌==◌, ℕ, List, [], ◌∷◌, Option, Some, None, slice_get, if◌then◌else◌}
 use Rattle.coap_codec.specs.Spelling.{Content, Spells}
 use Rattle.uri_map.specs.declared.peer.Peer.{Peer}
-use Rattle.journal_book.specs.Entries.{Hears, Written}
+use Rattle.journal_book.specs.Entries.{Done, Heard, done_of, Deed, Written}
 use Rattle.blockwise.specs.Uploads.{begun}
 use Rattle.history_laws.specs.Responses.{Response, whole_fetched, whole_given}
 use Rattle.exchange_core.specs.Values.{written}
 use Rattle.exchange_core.specs.Answering.{HeardAs, AreHeard}
 
--- In the entry with this number these bytes were heard, at some moment.
+-- what was heard, by an entry or by that which it is a copy of
+abbrev pub bytes_heard : Option Done → Option (List ℕ)
+bytes_heard (Some (Heard p bytes)) = Some bytes
+bytes_heard _ = None
+
+-- In the entry with this number, or in that which it is a copy of, these bytes were heard, at some
+-- moment.
 abbrev pub HearsAt : List Written → ℕ → List ℕ → Type 0
-HearsAt h n bytes = (t : ℕ) × (p : Peer) × (slice_get h n ≡ Some (written t (Hears p bytes)))
+HearsAt h n bytes =
+    (t : ℕ) × (p : Peer) × (d : Deed)
+    × (slice_get h n ≡ Some (written t d)) × (done_of d ≡ Some (Heard p bytes))
 
 -- None were.
 abbrev pub HearsNone : List Written → ℕ → Type 0

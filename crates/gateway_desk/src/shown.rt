@@ -1,17 +1,19 @@
 //! Whether a journal shows what asks came to.
 
-ghost use Rattle.std.specs.Prelude.{◌≡◌, ◌↔◌, ◌≤◌, length, map, IfOk, IsTrue, MatchOption};
+ghost use Rattle.std.specs.Prelude.{◌≡◌, ◌↔◌, ◌≤◌, length, map, IfOk, IsTrue, MatchOption, None, Some};
 ghost use Rattle.limits.specs.declared.TheConstants.{MAX_BODY_LEN};
 ghost use Rattle.coap_codec.specs.Spelling.{Spells, content};
 ghost use Rattle.exchange_core.specs.Answering.{AreHeard, given_of};
 ghost use Rattle.gateway_desk.specs.Settled.{IsShown};
-ghost use Rattle.gateway_desk.specs.Shown.{AreUnheard, HearsAt, HearsNone, IsFirstAt, IsHeardAt, IsUnheard, RestsOn, SpellsNone};
+ghost use Rattle.journal_book.specs.Entries.{done_of};
+ghost use Rattle.journal_book.specs.Views.{event_of};
+ghost use Rattle.gateway_desk.specs.Shown.{AreUnheard, bytes_heard, HearsAt, HearsNone, IsFirstAt, IsHeardAt, IsUnheard, RestsOn, SpellsNone};
 
 use crate::replies::are_response;
 use ask_model::Meaning;
 use coap_codec::{Bytes, CodecFault, Message, decode};
 use exchange_core::Answer;
-use journal_book::{Event, Grounds, Journal};
+use journal_book::{Done, Event, Grounds, Journal};
 use reply_reading::{Outcome, Response};
 use std::alloc::{AllocError, Global};
 use transformers::Relation;
@@ -33,16 +35,28 @@ fn spelled(alloc: Global, bytes: &[u8]) -> Result<Option<Message>, AllocError>
     }
 }
 
+/// The bytes that were heard, be it in a copy.
+fn heard_in<R: Relation>(event: &Event<R>) -> Option<&Bytes>
+    ensures { MatchOption result (bytes_heard (done_of (event_of event.now)) ≡ None)
+        (λ bytes. bytes_heard (done_of (event_of event.now)) ≡ Some bytes.now) }
+{
+    match event {
+        Event::Heard { bytes, .. } => Some(bytes),
+        Event::Carried { done, .. } => match done {
+            Done::Heard { bytes, .. } => Some(bytes),
+            _ => None,
+        },
+        _ => None,
+    }
+}
+
 /// The bytes that were heard in the entry with this number.
 fn heard_at<R: Relation>(journal: &Journal<R>, number: u32) -> Option<&Bytes>
     ensures { MatchOption result (HearsNone journal.now.entries number)
         (λ bytes. HearsAt journal.now.entries number bytes.now) }
 {
     match journal.get(number as usize) {
-        Some(entry) => match &entry.event {
-            Event::Heard { bytes, .. } => Some(bytes),
-            _ => None,
-        },
+        Some(entry) => heard_in(&entry.event),
         None => None,
     }
 }

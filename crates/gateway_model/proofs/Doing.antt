@@ -65,7 +65,7 @@ did-opened M G t old new out e aside =
     none (inr (inr e)) = ap (answered_in (length old.state.entries)) e
 
 abbrev shuts-add : (t c : ℕ) (S : State) → Adds t S (shuts t c S)
-shuts-add t c S = record { more = at_moment t (Shuts c) ∷ []; entries = refl; at = (refl, tt); conns = refl }
+shuts-add t c S = record { more = at_moment t (Shuts c) ∷ []; entries = refl; at = (refl, tt); own = (refl, tt); conns = refl }
 
 did-closed : (M : Terms) (G : ℕ → Type 0) (t c : ℕ) (old new : CoreValue) (out : List Emission) → IsClosed t c old new → Aside G out → Did M G old out new
 did-closed M G t c old new out h aside =

@@ -5,7 +5,7 @@ use Rattle.std.specs.List.{AllByRecursion, list_any}
 use Rattle.std.proofs.lemmas.Bool.{or_parts}
 use Rattle.uri_map.specs.declared.peer.Peer.{Peer}
 use Rattle.uri_map.specs.Peers.{same_peer}
-use Rattle.journal_book.specs.Entries.{Past, Asked, Sent, Heard, Deed, Opens, Asks, Sends, Hears, Passes, Answers, Shuts, Seals, Carries, Written}
+use Rattle.journal_book.specs.Entries.{Ground, Past, Asked, Sent, Heard, Deed, Opens, Asks, Sends, Hears, Passes, Answers, Shuts, Seals, Carries, Written}
 use Rattle.history_laws.specs.Hearing.{is_such, is_live, live_heard, recalls, recalls_by}
 use Rattle.history_laws.specs.Justified.{Legal, Follows}
 use Rattle.history_laws.specs.Readings.{Noted, Note, Plain, Begins, First, Copies, Confirms, Says, Repeats, Garbled, Bygone, Recalls, entries, Joins, Serves}
@@ -62,6 +62,12 @@ sent-by l n t p (Carries k Past (Sent q b None)) (Bygone m) old f e r =
 sent-by l n t p (Carries k Past (Sent q b (Some w))) (Bygone m) old f e r =
     not-found (same_peer q p) (record { number = n; moment = t; opening = n; peer = q; message = m }) (found_to p old) e
 sent-by l n t p (Carries k Past (Heard q b)) (Recalls m a) old f e r = (r, e)
+sent-by l n t p (Carries k Ground (Sent q b None)) (First o m) old f e r =
+    let parts = not-found (same_peer q p) (record { number = n; moment = t; opening = o; peer = q; message = m }) (found_to p old) e in
+    (tt, parts.1)
+sent-by l n t p (Carries k Ground (Sent q b (Some w))) (First o m) old f e r =
+    not-found (same_peer q p) (record { number = n; moment = t; opening = o; peer = q; message = m }) (found_to p old) e
+sent-by l n t p (Carries k Ground (Heard q b)) (Recalls m a) old f e r = (r, e)
 sent-by l n t p (Carries k mark (Asked c a)) note old f e r = (tt, e)
 sent-by l n t p (Carries k mark done) note old f e r = absurd f.2
 

@@ -5,10 +5,10 @@ use Rattle.std.specs.List.{AllByRecursion}
 use Rattle.std.proofs.lemmas.Bool.{ltb-false}
 use Rattle.ask_model.specs.Views.{Ask}
 use Rattle.http_mapping.specs.Means.{closes}
-use Rattle.journal_book.specs.Entries.{Done, Deed, Carries, Written, done_of}
+use Rattle.journal_book.specs.Entries.{Mark, Done, Deed, Carries, Written, done_of}
 use Rattle.exchange_model.specs.declared.kept.Conn.{Conn}
 use Rattle.exchange_model.specs.State.{State}
-use Rattle.exchange_model.specs.Rotating.{RotateFault, Unsealed, Connected, Exchanging, Spent, Crowded, Seen, copies_from, copy_if, copy_of, fault_of, is_remembered, rotated, rotated_by, seen, turned}
+use Rattle.exchange_model.specs.Rotating.{RotateFault, Unsealed, Connected, Exchanging, Spent, Crowded, Seen, carried_numbers, copies_from, copy_if, copy_of, fault_of, mark_of, rotated, rotated_by, seen, taken, turned}
 use Rattle.exchange_core.specs.declared.fault.RotateFault.{RotateFault as Refusal}
 use Rattle.exchange_core.specs.declared.fault.RotateFault.TheVariants as F
 use Rattle.exchange_core.specs.Rotating.{IsRefused, fault_in}
@@ -78,22 +78,25 @@ IsCopy _ = ⊥
 abbrev pub AreCopies : List Written → Type 0
 AreCopies ws = AllByRecursion (λ (w : Written). IsCopy w.deed) ws
 
-copy-if : (b : Bool) (n s : ℕ) (done : Done) → AreCopies (copy_if b n s done)
-copy-if true n s done = (tt, tt)
-copy-if false n s done = tt
+copy-if : (m : Option Mark) (n s : ℕ) (done : Done) → AreCopies (copy_if m n s done)
+copy-if (Some mark) n s done = (tt, tt)
+copy-if None n s done = tt
 
-copy-one : (t : ℕ) (xs : List Seen) (n s : ℕ) (o : Option Done) → AreCopies (copy_of t xs n s o)
-copy-one t xs n s None = tt
-copy-one t xs n s (Some done) = copy-if (is_remembered t xs n s done) n s done
+copy-one : (t : ℕ) (xs : List Seen) (gs : List ℕ) (n s : ℕ) (o : Option Done)
+    → AreCopies (copy_of t xs gs n s o)
+copy-one t xs gs n s None = tt
+copy-one t xs gs n s (Some done) = copy-if (mark_of t xs gs n s done) n s done
 
-copies-all : (t : ℕ) (xs : List Seen) (n : ℕ) (ws : List Written) → AreCopies (copies_from t xs n ws)
-copies-all t xs n [] = tt
-copies-all t xs n (w ∷ ws) =
-    all-append (λ (v : Written). IsCopy v.deed) (copy_of t xs n w.moment (done_of w.deed)) (copies_from t xs (n + 1) ws)
-    (copy-one t xs n w.moment (done_of w.deed)) (copies-all t xs (n + 1) ws)
+copies-all : (t : ℕ) (xs : List Seen) (gs : List ℕ) (n : ℕ) (ws : List Written)
+    → AreCopies (copies_from t xs gs n ws)
+copies-all t xs gs n [] = tt
+copies-all t xs gs n (w ∷ ws) =
+    all-append (λ (v : Written). IsCopy v.deed) (copy_of t xs gs n w.moment (done_of w.deed))
+    (copies_from t xs gs (n + 1) ws)
+    (copy-one t xs gs n w.moment (done_of w.deed)) (copies-all t xs gs (n + 1) ws)
 
 pub begins-copied : (t : ℕ) (S : State) → AreCopies (turned t S).entries
-begins-copied t S = copies-all t (seen S.entries) 0 S.entries
+begins-copied t S = copies-all t (seen S.entries) (carried_numbers (taken t S)) 0 S.entries
 
 -- A copy answers nothing, sends nothing and asks nothing.
 

@@ -9,14 +9,15 @@ use Rattle.uri_map.specs.declared.peer.Peer.{Peer}
 use Rattle.http_edge.specs.declared.answer.HttpAnswer.{HttpAnswer}
 use Rattle.ask_model.specs.Requests.{CoapRequest, Sense, Requests, Refuses, request_message}
 use Rattle.ask_model.specs.Views.{Ask, Rules}
-use Rattle.journal_book.specs.Entries.{Grounds, Live, Kept, Fault, Asks, Hears, Answers, Written}
+use Rattle.journal_book.specs.Entries.{Grounds, Live, Kept, Fault, Ground, Done, Heard, done_of, Deed, Asks, Hears, Answers, Carries, Written}
 use Rattle.journal_book.specs.Views.{ask_of}
 use Rattle.blockwise.specs.Uploads.{begun as begun_as}
 use Rattle.history_laws.specs.Responses.{Response, whole_fetched, whole_given, whole_of}
 use Rattle.history_laws.specs.Progress.{Point, first_point, block_for, point_after}
 use Rattle.history_laws.specs.Justified.{Stands}
 use Rattle.history_laws.proofs.CallerLemmas.{some-is}
-use Rattle.history_claims.specs.Headline.{IsEntry, IsHeardFirst, IsHeardFor, AreHeardFor, AreNotified, IsServed, RestsOn}
+use Rattle.history_claims.specs.Headline.{IsEntry, IsAsked, IsHeardFirst, IsHeardFor, AreHeardFor, AreNotified, IsSameGet, RestsOn}
+use Rattle.history_claims.specs.Carried.{IsCarriedFor, AreCarriedFor, IsCarriedFirst}
 use Rattle.history_claims.specs.Causes.{AreCaused}
 use Rattle.history_claims.proofs.CallerLemmas.{rests-on-replies, rests-on-stored}
 use Rattle.reply_reading.specs.Findings.{Told, Tells as TellsOf, Fails}
@@ -37,19 +38,27 @@ use Rattle.gateway_model.proofs.Pacing.{IsQuiet, flow-once, Paced, paced-all}
 
 -- entries at a place are one
 
-bytes-same : (p r : Peer) (a b : List ℕ) → Hears p a ≡ Hears r b → a ≡ b
-bytes-same p r a b e = cc
-
 ask-same : (c d : ℕ) (a b : Ask) → Asks c a ≡ Asks d b → a ≡ b
 ask-same c d a b e = cc
-
-hears-same : (t s : ℕ) (p r : Peer) (a b : List ℕ) → Some (written t (Hears p a)) ≡ Some (written s (Hears r b)) → a ≡ b
-hears-same t s p r a b e =
-    bytes-same p r a b (ap (λ (w : Written). w.deed) (some-is (written t (Hears p a)) (written s (Hears r b)) e))
 
 asks-same : (t s c d : ℕ) (a b : Ask) → Some (written t (Asks c a)) ≡ Some (written s (Asks d b)) → a ≡ b
 asks-same t s c d a b e =
     ask-same c d a b (ap (λ (w : Written). w.deed) (some-is (written t (Asks c a)) (written s (Asks d b)) e))
+
+entry-says : (t s : ℕ) (d e : Deed) (x y : Done) → Some (written t d) ≡ Some (written s e) → done_of d ≡ Some x → done_of e ≡ Some y → (t ≡ s) × (x ≡ y)
+entry-says t s d e x y same a b =
+    let one = some-is (written t d) (written s e) same in
+    (ap (λ (w : Written). w.moment) one, some-is x y (sym a ∙ (ap (λ (w : Written). done_of w.deed) one ∙ b)))
+
+texts-same : (p r : Peer) (a b : List ℕ) → Heard p a ≡ Heard r b → a ≡ b
+texts-same p r a b e = cc
+
+-- so is the message that they spell
+text-same : (t s : ℕ) (p : Peer) (d : Deed) (a : List ℕ) (m n : Content) → Spells m a → done_of d ≡ Some (Heard p a)
+    → (r : Peer) (e : Deed) (b : List ℕ) → Some (written t d) ≡ Some (written s e) → done_of e ≡ Some (Heard r b) → Spells n b → m ≡ n
+text-same t s p d a m n spelled says r e b same said other =
+    let text = texts-same p r a b (entry-says t s d e (Heard p a) (Heard r b) same says said).1 in
+    spells_one m n b (subst (Spells m) text spelled) other
 
 request-same : (q r : CoapRequest) → Requests q ≡ Requests r → q ≡ r
 request-same q r e = cc
@@ -60,9 +69,7 @@ message-same : (h : List Written) (k j t : ℕ) (q : CoapRequest) (block : Optio
     → HeardAs h j t n → m ≡ n
 message-same h k j t q block m n a b =
     let heard = a.response.heard in
-    let same : heard.bytes ≡ b.bytes =
-    hears-same a.response.moment t q.peer b.peer heard.bytes b.bytes (sym heard.stands ∙ b.stands) in
-    spells_one m n b.bytes (subst (Spells m) same heard.spelled) b.spelled
+    text-same a.response.moment t q.peer (Hears q.peer heard.bytes) heard.bytes m n heard.spelled refl b.peer b.deed b.bytes (sym heard.stands ∙ b.stands) b.says b.spelled
 
 messages-same : (h : List Written) (k : ℕ) (q : CoapRequest) (point : Point) (js : List ℕ) (ms ns : List Content)
     → AreHeardFor h k q point js ms → AreHeard h js ns → ms ≡ ns
@@ -75,14 +82,28 @@ messages-same h k q point (j ∷ js) (m ∷ ms) (n ∷ ns) a b =
     ap (λ (x : Content). x ∷ ms) (message-same h k j b.0.0 q (block_for point) m n a.0 b.0.1)
     ∙ ap (λ (xs : List Content). n ∷ xs) (messages-same h j q (point_after point m) js ms ns a.1 b.1)
 
+carried-same : (h : List Written) (o j t : ℕ) (q : CoapRequest) (m n : Content) → IsCarriedFor h o q j m → HeardAs h j t n → m ≡ n
+carried-same h o j t q m n a b =
+    text-same a.heard_at t q.peer (Carries a.heard_as Ground (Heard q.peer a.bytes)) a.bytes m n a.spelled refl b.peer b.deed b.bytes (sym a.heard ∙ b.stands) b.says b.spelled
+
+messages-carried : (h : List Written) (o : ℕ) (q : CoapRequest) (js : List ℕ) (ms ns : List Content) → AreCarriedFor h o q js ms → AreHeard h js ns → ms ≡ ns
+messages-carried h o q [] [] [] a b = refl
+messages-carried h o q [] [] (n ∷ ns) a b = absurd b
+messages-carried h o q [] (m ∷ ms) ns a b = absurd a
+messages-carried h o q (j ∷ js) [] ns a b = absurd a
+messages-carried h o q (j ∷ js) (m ∷ ms) [] a b = absurd b
+messages-carried h o q (j ∷ js) (m ∷ ms) (n ∷ ns) a b =
+    ap (λ (x : Content). x ∷ ms) (carried-same h o j b.0.0 q m n a.0 b.0.1)
+    ∙ ap (λ (xs : List Content). n ∷ xs) (messages-carried h o q js ms ns a.1 b.1)
+
 messages-kept : (h : List Written) (k : ℕ) (q : CoapRequest) (js : List ℕ) (ms ns : List Content)
     → AreHeardFor h k q (first_point q) js ms ⊎ AreNotified h k q js ms → AreHeard h js ns → ms ≡ ns
 messages-kept h k q js ms ns (inl a) b = messages-same h k q (first_point q) js ms ns a b
 messages-kept h k q (j ∷ []) (m ∷ []) (n ∷ []) (inr a) b =
     let heard = a.response.heard in
-    let same : heard.bytes ≡ b.0.1.bytes =
-    hears-same a.response.moment b.0.0 q.peer b.0.1.peer heard.bytes b.0.1.bytes (sym heard.stands ∙ b.0.1.stands) in
-    ap (λ (x : Content). x ∷ []) (spells_one m n b.0.1.bytes (subst (Spells m) same heard.spelled) b.0.1.spelled)
+    let it : HeardAs h j b.0.0 n = b.0.1 in
+    ap (λ (x : Content). x ∷ [])
+    (text-same a.response.moment b.0.0 q.peer (Hears q.peer heard.bytes) heard.bytes m n heard.spelled refl it.peer it.deed it.bytes (sym heard.stands ∙ it.stands) it.says it.spelled)
 messages-kept h k q (j ∷ []) (m ∷ []) [] (inr a) b = absurd b
 messages-kept h k q (j ∷ []) (m ∷ []) (n ∷ o ∷ ns) (inr a) b = absurd b.1
 messages-kept h k q [] ms ns (inr a) b = absurd a
@@ -105,21 +126,33 @@ meant-at M (w ∷ h) (suc k) t c a meant e = meant-at M h k t c a meant.1 e
 
 module _ (holds : Form → Form → List ℕ → List ℕ → Type 0) (takes : Form → Form → List ℕ → Type 0) (rules : Rules)
     (h : List Written) (stands : Stands h) where
-  -- What was heard first was heard at one moment.
-  first-same : (js : List ℕ) (t s : ℕ) → IsHeardFirst h t js → IsHeardFirst h s js → t ≡ s
-  first-same [] t s a b = absurd a
-  first-same (j ∷ js) t s a b =
-      ap (λ (w : Written). w.moment) (some-is (written t (Hears a.0 a.1)) (written s (Hears b.0 b.1)) (sym a.2 ∙ b.2))
+  -- The first of them was heard at this moment.
+  abbrev IsFirstAs : List ℕ → ℕ → Type 0
+  IsFirstAs [] t = ⊥
+  IsFirstAs (j ∷ js) t = (m : Content) × HeardAs h j t m
 
-  -- the first reply was heard then
-  heard-first : (js : List ℕ) (t heard : ℕ) (q : CoapRequest) (ms : List Content) (w : Response) → AreHeard h js ms
-      → whole_of q ms ≡ Some w → CountsFrom h (Live js) t heard → IsHeardFirst h heard js
-  heard-first [] t heard q [] w a e counts = absurd (none-some e)
+  -- the first reply was heard then, or was copied with its moment
+  first-as : (js : List ℕ) (t heard : ℕ) (q : CoapRequest) (ms : List Content) (w : Response) → AreHeard h js ms
+      → whole_of q ms ≡ Some w → CountsFrom h (Kept js) t heard → IsFirstAs js heard
+  first-as [] t heard q [] w a e counts = absurd (none-some e)
     where
       none-some : whole_of q [] ≡ Some w → ⊥
       none-some e = cc
-  heard-first [] t heard q (m ∷ ms) w a e counts = absurd a
-  heard-first (j ∷ js) t heard q ms w a e counts = (counts.1.peer, counts.1.bytes, counts.1.stands)
+  first-as [] t heard q (m ∷ ms) w a e counts = absurd a
+  first-as (j ∷ js) t heard q ms w a e counts = counts
+
+  counts-alike : (js : List ℕ) (t heard : ℕ) → CountsFrom h (Live js) t heard → CountsFrom h (Kept js) t heard
+  counts-alike [] t heard c = c
+  counts-alike (j ∷ js) t heard c = c
+
+  heard-first : (js : List ℕ) (heard k : ℕ) (q : CoapRequest) (point : Point) (ms : List Content) → AreHeardFor h k q point js ms
+      → IsFirstAs js heard → IsHeardFirst h heard js
+  heard-first [] heard k q point ms a b = absurd b
+  heard-first (j ∷ js) heard k q point [] a b = absurd a
+  heard-first (j ∷ js) heard k q point (m ∷ ms) a b =
+      let r = a.0.response.heard in
+      let now = (entry-says a.0.response.moment heard (Hears q.peer r.bytes) b.1.deed (Heard q.peer r.bytes) (Heard b.1.peer b.1.bytes) (sym r.stands ∙ b.1.stands) refl b.1.says).0 in
+      (q.peer, r.bytes, subst (λ (t : ℕ). IsEntry h j t (Hears q.peer r.bytes)) now r.stands)
 
   shows-live : (n c : ℕ) (g : Given) (r : HttpAnswer) (js : List ℕ) (w : Response) (q : CoapRequest) (asked : ℕ)
       → slice_get h g.ask ≡ Some (written asked (Asks c (ask_of g.mapping)))
@@ -141,45 +174,64 @@ module _ (holds : Form → Form → List ℕ → List ℕ → Type 0) (takes : F
       record {
         rests = rests;
         since = g.heard;
-        first = heard-first js g.moment g.heard q ms w heard whole counts;
+        first = heard-first js g.heard rests.opening rests.request (first_point rests.request) rests.messages rests.heard
+            (first-as js g.moment g.heard q ms w heard whole (counts-alike js g.moment g.heard counts));
         shows = subst (λ (v : Response). MeansWhole g.mapping.rules.routes holds takes g.mapping v (last_reply (Live js)) (g.moment - g.heard) r) (sym response)
             (subst (λ (s : Rules). MeansWhole s.routes holds takes g.mapping w (last_reply (Live js)) (g.moment - g.heard) r) (sym by) means);
       }
 
-  first-heard : (js : List ℕ) (t heard : ℕ) (q : CoapRequest) (ms : List Content) (w : Response) → AreHeard h js ms
-      → whole_of q ms ≡ Some w → CountsFrom h (Kept js) t heard → IsHeardFirst h heard js
-  first-heard [] t heard q [] w a e counts = absurd (none-some e)
-    where
-      none-some : whole_of q [] ≡ Some w → ⊥
-      none-some e = cc
-  first-heard [] t heard q (m ∷ ms) w a e counts = absurd a
-  first-heard (j ∷ js) t heard q ms w a e counts = (counts.1.peer, counts.1.bytes, counts.1.stands)
+  since-heard : (js : List ℕ) (t s : ℕ) → IsHeardFirst h t js → IsFirstAs js s → t ≡ s
+  since-heard [] t s a b = absurd a
+  since-heard (j ∷ js) t s a b = (entry-says t s _ _ (Heard a.0 a.1) (Heard b.1.peer b.1.bytes) (sym a.2 ∙ b.1.stands) refl b.1.says).0
 
+  since-carried : (js : List ℕ) (t s : ℕ) → IsCarriedFirst h t js → IsFirstAs js s → t ≡ s
+  since-carried [] t s a b = absurd a
+  since-carried (j ∷ js) t s a b = (entry-says t s _ _ (Heard a.0 a.2) (Heard b.1.peer b.1.bytes) (sym a.3 ∙ b.1.stands) refl b.1.says).0
+
+  -- what is stored is what the answer tells
   shows-kept : (n c : ℕ) (g : Given) (r : HttpAnswer) (js : List ℕ) (w : Response) (q : CoapRequest) (asked : ℕ)
       → slice_get h g.ask ≡ Some (written asked (Asks c (ask_of g.mapping)))
       → g.mapping.rules ≡ rules → g.mapping.sense ≡ Requests q
       → IsEntry h n g.moment (Answers c g.ask (Kept js))
       → (ms : List Content) → AreHeard h js ms → whole_of q ms ≡ Some w → CountsFrom h (Kept js) g.moment g.heard
       → MeansWhole rules.routes holds takes g.mapping w (last_reply (Kept js)) (g.moment - g.heard) r
-      → ShowsStored holds takes h n g.moment c g.ask (ask_of g.mapping) js r
+      → ShowsStored holds takes h g.moment c g.ask (ask_of g.mapping) js r
   shows-kept n c g r js w q asked ask by sense answered ms heard whole counts means =
-      let served : IsServed h g.moment c g.ask js = rests-on-stored h n g.moment c g.ask js stands answered in
-      let one = asks-same g.moment asked c c _ _ (sym served.asked.stands ∙ ask) in
-      let request : served.request ≡ q = request-same served.request q (ap (λ (a : Ask). a.sense) one ∙ sense) in
-      let messages : served.messages ≡ ms = messages-kept h served.opening served.other js served.messages ms served.heard heard in
-      let message : request_message served.other 0 [] ≡ request_message q 0 [] = sym (served.same.2 false 0 []) ∙ ap (λ (k : CoapRequest). request_message k 0 []) request in
-      let response : served.response ≡ w =
-      some-is served.response w
-      (sym served.whole
-      ∙ (by-message served.other q served.messages message
-      ∙ (ap (whole_of q) messages ∙ whole))) in
-      let since : served.since ≡ g.heard = first-same js served.since g.heard served.first (first-heard js g.moment g.heard q ms w heard whole counts) in
-      record {
-        served = served;
-        shows = subst (λ (i : ℕ). MeansWhole g.mapping.rules.routes holds takes g.mapping served.response (last_reply (Kept js)) (g.moment - i) r) (sym since)
-            (subst (λ (v : Response). MeansWhole g.mapping.rules.routes holds takes g.mapping v (last_reply (Kept js)) (g.moment - g.heard) r) (sym response)
-            (subst (λ (s : Rules). MeansWhole s.routes holds takes g.mapping w (last_reply (Kept js)) (g.moment - g.heard) r) (sym by) means));
-      }
+      elim (rests-on-stored h n g.moment c g.ask js stands answered) [
+        | inl s ↦ inl (
+          s,
+          shows s.response s.since
+              (told s.request s.other s.messages s.response (asked-so s.request s.asked) s.same (messages-kept h s.opening s.other js s.messages ms s.heard heard) s.whole)
+              (since-heard js s.since g.heard s.first first),
+        )
+        | inr s ↦ inr (
+          s,
+          shows s.response s.heard_at
+              (told s.request s.copied s.messages s.response (asked-so s.request s.asked) s.same (messages-carried h s.opening s.copied js s.messages ms s.heard heard) s.whole)
+              (since-carried js s.heard_at g.heard s.first first),
+        )
+      ]
+    where
+      first : IsFirstAs js g.heard
+      first = first-as js g.moment g.heard q ms w heard whole counts
+
+      asked-so : (k : CoapRequest) → IsAsked h g.ask c g.moment (Requests k) → k ≡ q
+      asked-so k a =
+          let one = asks-same g.moment asked c c _ _ (sym a.stands ∙ ask) in
+          request-same k q (ap (λ (a : Ask). a.sense) one ∙ sense)
+
+      told : (k other : CoapRequest) (xs : List Content) (v : Response) → k ≡ q → IsSameGet k other → xs ≡ ms → whole_of other xs ≡ Some v → v ≡ w
+      told k other xs v is same texts whole_then =
+          let message : request_message other 0 [] ≡ request_message q 0 [] =
+          sym (same.2 false 0 []) ∙ ap (λ (k : CoapRequest). request_message k 0 []) is in
+          some-is v w (sym whole_then ∙ (by-message other q xs message ∙ (ap (whole_of q) texts ∙ whole)))
+
+      shows : (v : Response) (since : ℕ) → v ≡ w → since ≡ g.heard
+          → MeansWhole g.mapping.rules.routes holds takes g.mapping v (last_reply (Kept js)) (g.moment - since) r
+      shows v since is then =
+          subst (λ (i : ℕ). MeansWhole g.mapping.rules.routes holds takes g.mapping v (last_reply (Kept js)) (g.moment - i) r) (sym then)
+          (subst (λ (v : Response). MeansWhole g.mapping.rules.routes holds takes g.mapping v (last_reply (Kept js)) (g.moment - g.heard) r) (sym is)
+          (subst (λ (s : Rules). MeansWhole s.routes holds takes g.mapping w (last_reply (Kept js)) (g.moment - g.heard) r) (sym by) means))
 
   shows-grounds : (n c : ℕ) (g : Given) (r : HttpAnswer) (asked : ℕ)
       → slice_get h g.ask ≡ Some (written asked (Asks c (ask_of g.mapping)))

@@ -1,7 +1,7 @@
 -- What connections are told, said of the entries of the journal alone: each answer shows one whole
 -- response that was heard for just what its ask asks for, or is the proxy's own error, and tells the
 -- cause and the entry that the journal names.
-use Rattle.std.specs.Prelude.{◌≡◌, ℕ, ◌+◌, ◌-◌, ◌<◌, ⊤, ◌==◌, if◌then◌else◌, List, [], ◌∷◌, ◌++◌, length, map, flat_map}
+use Rattle.std.specs.Prelude.{◌≡◌, ◌⊎◌, ℕ, ◌+◌, ◌-◌, ◌<◌, ⊤, ◌==◌, if◌then◌else◌, List, [], ◌∷◌, ◌++◌, length, map, flat_map}
 use Rattle.std.specs.List.{AllByRecursion}
 use Rattle.media_map.specs.declared.form.Form.{Form}
 use Rattle.http_edge.specs.Answers.{answer_text}
@@ -9,8 +9,10 @@ use Rattle.http_edge.specs.declared.answer.HttpAnswer.{HttpAnswer}
 use Rattle.ask_model.specs.Views.{Ask, Mapping, Rules}
 use Rattle.journal_book.specs.Entries.{Grounds, Live, Kept, Fault, Deed, Asks, Answers, Written}
 use Rattle.http_mapping.specs.Means.{MeansWhole, Tells, last_reply}
+use Rattle.history_laws.specs.Responses.{Response}
 use Rattle.history_laws.specs.Justified.{Stands}
 use Rattle.history_claims.specs.Headline.{IsEntry, IsHeardFirst, IsServed, RestsOn}
+use Rattle.history_claims.specs.Carried.{IsServedCarried}
 use Rattle.history_claims.specs.Causes.{IsCausedBy, AreCaused}
 use Rattle.exchange_core.specs.Values.{CoreValue}
 use Rattle.gateway_model.specs.declared.input.When.{When}
@@ -34,17 +36,22 @@ module _ (holds : Form → Form → List ℕ → List ℕ → Type 0)
     pub shows : MeansWhole a.rules.routes holds takes (mapping_of a) rests.response
         (last_reply (Live js)) (t - since) r
 
-  -- Or it shows a stored one, which is fresh at the moment of the answer, and as old as its first reply.
-  pub record ShowsStored (h : List Written) (n t c k : ℕ) (a : Ask) (js : List ℕ) (r : HttpAnswer)
-      : Type 0 where
-    pub served : IsServed h t c k js
-    pub shows : MeansWhole a.rules.routes holds takes (mapping_of a) served.response
-        (last_reply (Kept js)) (t - served.since) r
+  -- It shows a stored one, which is so old.
+  abbrev pub MeansStored : Ask → List ℕ → Response → ℕ → HttpAnswer → Type 0
+  MeansStored a js w age r =
+      MeansWhole a.rules.routes holds takes (mapping_of a) w (last_reply (Kept js)) age r
+
+  -- Or it shows a stored one, which is fresh at the moment of the answer, and as old as its first
+  -- reply: one that was heard in this journal, or one that this begins with.
+  abbrev pub ShowsStored : List Written → ℕ → ℕ → ℕ → Ask → List ℕ → HttpAnswer → Type 0
+  ShowsStored h t c k a js r =
+      ((s : IsServed h t c k js) × MeansStored a js s.response (t - s.since) r)
+      ⊎ ((s : IsServedCarried h t c k js) × MeansStored a js s.response (t - s.heard_at) r)
 
   -- So it does; or it is the proxy's own error, and tells its cause and an entry.
   abbrev pub ShowsGrounds : List Written → ℕ → ℕ → ℕ → ℕ → Ask → Grounds → HttpAnswer → Type 0
   ShowsGrounds h n t c k a (Live js) r = ShowsReplies h n t c k a js r
-  ShowsGrounds h n t c k a (Kept js) r = ShowsStored h n t c k a js r
+  ShowsGrounds h n t c k a (Kept js) r = ShowsStored h t c k a js r
   ShowsGrounds h n t c k a (Fault cause j) r = Tells (mapping_of a) cause j r
 
   -- The bytes are an HTTP response that tells the answer in the entry n to an ask of the

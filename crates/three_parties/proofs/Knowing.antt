@@ -1,5 +1,5 @@
--- What is known after some turns: their tale, its order, and that no moment is ahead.
-use Rattle.std.proofs.Common.{◌≡◌, inl, inr, ℕ, ◌≤◌, List, [], ◌∷◌, ◌++◌, length, Option, Some, subst, ◌∙◌, arith}
+-- What is known after some turns: their tale, its order, that no moment is ahead, and that the journal has no copies.
+use Rattle.std.proofs.Common.{◌≡◌, inl, inr, ℕ, ◌≤◌, List, [], ◌∷◌, ◌++◌, length, Option, Some, subst, sym, ◌∙◌, arith}
 use Rattle.std.specs.Prelude.{slice_get}
 use Rattle.limits.specs.declared.TheConstants.{LAST_MOMENT}
 use Rattle.media_map.specs.declared.form.Form.{Form}
@@ -24,13 +24,14 @@ use Rattle.three_parties.proofs.Giving.{AllHeard, tale-gave, tale-gave-is}
 use Rattle.three_parties.proofs.Moments.{Counts}
 use Rattle.three_parties.proofs.Ordering.{order-called}
 use Rattle.three_parties.proofs.Orders.{IsTimely, Order, no-order, order-as, order-gave, order-later}
-use Rattle.three_parties.proofs.Stamping.{IsSentIn, Stamps, all-stamp, goes-stand}
+use Rattle.three_parties.proofs.Stamping.{AreOwn, IsSentIn, Stamps, all-stamp, goes-stand, own-both}
 use Rattle.three_parties.proofs.Tales.{Tale, no-tale, no-tale-is, tale-later, tale-later-is}
 
 pub record Known (R : Relation) (first : Device) (s : Scene) : Type 0 where
   pub tale : Tale R first s
   pub order : Order first s tale.calls tale.places
   pub timely : IsTimely s
+  pub own : AreOwn s.world.core.state.entries
 
 pub known-none : (R : Relation) (rules : Rules) (first : Device) → Known R first (opening rules first)
 known-none R rules first = record {
@@ -39,6 +40,7 @@ known-none R rules first = record {
       let is = no-tale-is R rules first in
       order-as first (opening rules first) (no-tale R rules first).calls [] (no-tale R rules first).places [] is.0 is.1 (no-order rules first);
   timely = record { entries = omega arith; world = omega arith; last = omega arith };
+  own = tt;
 }
 
 pub known-later : (R : Relation) (first : Device) (s : Scene) (t : ℕ) → s.moment ≤ t → t ≤ LAST_MOMENT → Known R first s → Known R first (later t s)
@@ -52,6 +54,7 @@ known-later R first s t le top k =
           let is = tale-later-is R first s t le k.tale in
           order-as first (later t s) tale.calls k.tale.calls tale.places k.tale.places is.0 is.1 (order-later first s t k.tale.calls k.tale.places k.order);
       timely = record { entries = omega (arith, a, le); world = omega (arith, b, le); last = top };
+      own = k.own;
     }
 
 pub known-called : (R : Relation) (first : Device) (s : Scene) (t n : ℕ) (e : Event) (d : Device) (told : Option Taken) → s.moment ≤ t → t ≤ LAST_MOMENT
@@ -67,6 +70,7 @@ known-called R first s t n e d told le top k c =
           order-as first (answered t d (executed t n told) s) tale.calls (k.tale.calls ++ a_call e s.device d ∷ gives d d.out) tale.places
           (k.tale.places ++ told-places (length k.tale.calls) told) is.0 is.1 (order-called R first s t n e d told k.tale c k.order);
       timely = record { entries = omega (arith, a, le); world = omega (arith, b, le); last = top };
+      own = k.own;
     }
 
 -- The moment of an input is that of its turn.
@@ -96,6 +100,7 @@ module _ (holds : Form → Form → List ℕ → List ℕ → Type 0) (takes : F
       world = let m = a.handles.moment ∙ counted-is s.world.moment t below top in omega (arith, m);
       last = top;
     };
+    own = subst AreOwn (sym stamps.added) (own-both s.world.core.state.entries stamps.more k.own stamps.own);
   }
     where
       early : s.world.core.state.moment ≤ t

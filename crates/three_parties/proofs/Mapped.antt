@@ -23,7 +23,7 @@ use Rattle.three_parties.specs.declared.turn.Turn.{Turn}
 use Rattle.three_parties.specs.declared.turn.Turn.TheVariants as T
 use Rattle.three_parties.proofs.Running.{turn-rules}
 
-all-at : {X : Type 0} (P : X → Type 0) (xs : List X) → AllByRecursion P xs → (n : ℕ) (x : X) → slice_get xs n ≡ Some x → P x
+pub all-at : {X : Type 0} (P : X → Type 0) (xs : List X) → AllByRecursion P xs → (n : ℕ) (x : X) → slice_get xs n ≡ Some x → P x
 all-at P [] h n x e = absurd (none-some x e)
 all-at P (y ∷ ys) h zero x e = subst P (some-is y x e) h.0
 all-at P (y ∷ ys) h (suc n) x e = all-at P ys h.1 n x e

@@ -1,6 +1,7 @@
 -- An answer to a GET shows what the resource held, and no less than what was confirmed before.
 use Rattle.std.proofs.Common.{◌≡◌, ◌≢◌, ◌⊎◌, false, ℕ, zero, suc, ◌+◌, ◌<◌, ◌≤◌, inl, inr, List, [], ◌∷◌, ◌++◌, append_assoc, length, length-append, map, take, drop, Option, Some, refl, sym, ap, subst, ◌∙◌, arith}
 use Rattle.std.specs.Prelude.{slice_get}
+use Rattle.std.proofs.lemmas.Bool.{false≢true}
 use Rattle.std.proofs.lemmas.Bool.Decides.{leb_tells}
 use Rattle.coap_codec.specs.Spelling.{Content}
 use Rattle.coap_codec.specs.Values.{values}
@@ -11,6 +12,7 @@ use Rattle.ask_model.specs.Requests.{CoapRequest}
 use Rattle.ask_model.specs.Views.{Rules}
 use Rattle.journal_book.specs.Entries.{Live, Fault, Answers, Written}
 use Rattle.ask_model.specs.declared.cause.Cause.TheVariants as C
+use Rattle.history_laws.specs.Readings.{carries}
 use Rattle.history_laws.specs.Justified.{Stands}
 use Rattle.history_laws.specs.Progress.{Point, block_for, first_point}
 use Rattle.history_laws.proofs.CallerLemmas.{none-some, some-is}
@@ -29,7 +31,7 @@ use Rattle.story_laws.specs.Reads.{ShowsHeld as ShowsSo}
 use Rattle.story_laws.proofs.Quiet.{NoneObserved, none-notified, sent-quietly}
 use Rattle.gateway_model.specs.Emissions.{Emission}
 use Rattle.three_parties.specs.Flights.{Going, device_at, proxy_at}
-use Rattle.three_parties.specs.Reads.{AreDone, GetsShow, GetsShowInTime, IsHeldAt, KeptShow, ObservesNothing, ShowsHeld}
+use Rattle.three_parties.specs.Reads.{AreDone, GetsShow, GetsShowInTime, IsHeldAt, KeptShow, NoneCarried, ObservesNothing, ShowsHeld}
 use Rattle.three_parties.specs.Scenes.{Scene}
 use Rattle.three_parties.specs.Stories.{IsStory}
 use Rattle.three_parties.specs.declared.story.Execution.{Execution}
@@ -37,7 +39,7 @@ use Rattle.three_parties.specs.declared.turn.Turn.{Turn}
 use Rattle.three_parties.proofs.Executing.{at_end, calls_before, done-at, known-then, networks, ordered}
 use Rattle.three_parties.proofs.Knowing.{Known}
 use Rattle.three_parties.proofs.Lists.{take-front}
-use Rattle.three_parties.proofs.Mapped.{none-observed}
+use Rattle.three_parties.proofs.Mapped.{all-at, none-observed}
 use Rattle.three_parties.proofs.Ordering.{told-both}
 use Rattle.three_parties.proofs.Orders.{taken_of}
 use Rattle.three_parties.proofs.Tales.{IsDoneBy}
@@ -301,8 +303,13 @@ module _ (R : Relation) (law : Law R) (block : ℕ) (resources : List Held) (s :
       replied (inl x) = x
       replied (inr x) = absurd (none-notified s.world.core.state.entries none r.opening r.other js r.messages x)
 
-  pub both-show : GetsShow resources s.world.core.state.entries s.flights s.taken × KeptShow resources s.world.core.state.entries s.flights s.taken
-  both-show = (gets-show, kept-show)
+  -- The journal has no copies.
+  none-carried : NoneCarried s.world.core.state.entries
+  none-carried t c k js r = false≢true (sym (all-at (λ (w : Written). carries w.deed ≡ false) s.world.core.state.entries known.own r.opening _ r.copied_asked.stands))
+
+  pub all-show : GetsShow resources s.world.core.state.entries s.flights s.taken × KeptShow resources s.world.core.state.entries s.flights s.taken
+      × NoneCarried s.world.core.state.entries
+  all-show = (gets-show, kept-show, none-carried)
 
 -- a story of a device that is a new one
 pub reads-of : (R : Relation) → Law R → (holds : Form → Form → List ℕ → List ℕ → Type 0) (takes : Form → Form → List ℕ → Type 0)
@@ -311,7 +318,7 @@ pub reads-of : (R : Relation) → Law R → (holds : Form → Form → List ℕ 
     → (block : ℕ) (resources : List Held) → first ≡ fresh block resources → ObservesNothing rules
     → GetsShowInTime turns resources h flights taken
 reads-of R law holds takes rules first turns out flights h last taken story block resources e nothing keeps =
-    subst (λ (w : List Written). (stands : Stands w) → ArePunctual stands.reading → GetsShow resources w flights taken × KeptShow resources w flights taken)
+    subst (λ (w : List Written). (stands : Stands w) → ArePunctual stands.reading → GetsShow resources w flights taken × KeptShow resources w flights taken × NoneCarried w)
     (sym new.journal) shown
   where
     new : IsStory holds takes R rules (fresh block resources) turns out flights h last taken
@@ -319,8 +326,9 @@ reads-of R law holds takes rules first turns out flights h last taken story bloc
 
     shown : (stands : Stands new.world.core.state.entries) → ArePunctual stands.reading
         → GetsShow resources new.world.core.state.entries flights taken × KeptShow resources new.world.core.state.entries flights taken
+        × NoneCarried new.world.core.state.entries
     shown stands punctual =
-        both-show R law block resources (at_end holds takes R rules block resources turns out flights h last taken new keeps)
+        all-show R law block resources (at_end holds takes R rules block resources turns out flights h last taken new keeps)
         (known-then holds takes R rules block resources turns out flights h last taken new keeps) stands punctual
         (none-observed holds takes R rules (fresh block resources) turns
         (at_end holds takes R rules block resources turns out flights h last taken new keeps) new.is nothing)

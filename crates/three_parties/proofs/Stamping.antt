@@ -7,6 +7,7 @@ use Rattle.uri_map.specs.declared.peer.Peer.{Peer}
 use Rattle.http_mapping.specs.Means.{closes}
 use Rattle.ask_model.specs.Views.{Ask}
 use Rattle.journal_book.specs.Entries.{Deed, Opens, Asks, Sends, Hears, Passes, Answers, Shuts, Seals, Carries, Written}
+use Rattle.history_laws.specs.Readings.{carries}
 use Rattle.history_laws.proofs.CallerLemmas.{none-some, some-is}
 use Rattle.exchange_model.specs.Growing.{Adds}
 use Rattle.exchange_model.specs.State.{State}
@@ -23,19 +24,28 @@ use Rattle.three_parties.proofs.Moments.{Counts, asks-count, hears-count, opens-
 abbrev pub AreAt : ℕ → List Written → Type 0
 AreAt t ws = AllByRecursion (λ (w : Written). w.moment ≡ t) ws
 
+-- None of them is a copy.
+abbrev pub AreOwn : List Written → Type 0
+AreOwn ws = AllByRecursion (λ (w : Written). carries w.deed ≡ false) ws
+
 pub record Stamps (t : ℕ) (S S1 : State) : Type 0 where
   pub more : List Written
   pub added : S1.entries ≡ S.entries ++ more
   pub bear : AreAt t more
+  pub own : AreOwn more
   pub counts : Counts t S S1
 
 bear-both : (t : ℕ) (xs ys : List Written) → AreAt t xs → AreAt t ys → AreAt t (xs ++ ys)
 bear-both t [] ys a b = b
 bear-both t (x ∷ xs) ys a b = (a.0, bear-both t xs ys a.1 b)
 
+pub own-both : (xs ys : List Written) → AreOwn xs → AreOwn ys → AreOwn (xs ++ ys)
+own-both [] ys a b = b
+own-both (x ∷ xs) ys a b = (a.0, own-both xs ys a.1 b)
+
 stamps-none : (t : ℕ) (S S1 : State) → S1 ≡ S → Stamps t S S1
 stamps-none t S S1 e =
-    record { more = []; added = ap (λ (S : State). S.entries) e ∙ sym (append-nil S.entries); bear = tt; counts = inl (ap (λ (S : State). S.moment) e) }
+    record { more = []; added = ap (λ (S : State). S.entries) e ∙ sym (append-nil S.entries); bear = tt; own = tt; counts = inl (ap (λ (S : State). S.moment) e) }
 
 counts-both : (t : ℕ) (S S1 S2 : State) → Counts t S S1 → Counts t S1 S2 → Counts t S S2
 counts-both t S S1 S2 a (inr e) = inr e
@@ -47,12 +57,13 @@ stamps-both t S S1 S2 a b = record {
   more = a.more ++ b.more;
   added = b.added ∙ ap (λ (es : List Written). es ++ b.more) a.added ∙ append_assoc S.entries a.more b.more;
   bear = bear-both t a.more b.more a.bear b.bear;
+  own = own-both a.more b.more a.own b.own;
   counts = counts-both t S S1 S2 a.counts b.counts;
 }
 
 stamps-so : (t : ℕ) (S S1 S2 : State) → S2 ≡ S1 → Adds t S S1 → Counts t S S1 → Stamps t S S2
 stamps-so t S S1 S2 e a c =
-    subst (λ (S2 : State). Stamps t S S2) (sym e) (record { more = a.more; added = a.entries; bear = a.at; counts = c })
+    subst (λ (S2 : State). Stamps t S S2) (sym e) (record { more = a.more; added = a.entries; bear = a.at; own = a.own; counts = c })
 
 -- An act.
 closes-stamp : (t c : ℕ) (old new : CoreValue) → IsClosed t c old new → Stamps t old.state new.state
@@ -61,6 +72,7 @@ closes-stamp t c old new h =
       more = record { moment = t; deed = Shuts c } ∷ [];
       added = refl;
       bear = (refl, tt);
+      own = (refl, tt);
       counts = shuts-count t c old.state;
     })
 

@@ -9,6 +9,7 @@ use Rattle.ask_model.specs.Views.{Rules}
 use Rattle.journal_book.specs.Entries.{Live, Kept, Answers, Written}
 use Rattle.history_laws.specs.Justified.{Stands}
 use Rattle.history_claims.specs.Headline.{IsEntry, IsSentFor, IsServed, RestsOn}
+use Rattle.history_claims.specs.Carried.{IsServedCarried}
 use Rattle.demo_origin.specs.Done.{left_with}
 use Rattle.demo_origin.specs.Requests.{IsAt}
 use Rattle.demo_origin.specs.declared.state.Held.{Held}
@@ -69,6 +70,10 @@ KeptShow resources h flights taken =
     → s.request.peer ≡ device_at → m.code ≡ 69 → values 23 m.options ≡ []
     → ShowsHeld h k s.opening s.request s.other resources flights taken m.payload
 
+-- No other answer is kept: none rests on what a journal begins with.
+abbrev pub NoneCarried : List Written → Type 0
+NoneCarried h = (t c k : ℕ) (js : List ℕ) → IsServedCarried h t c k js → ⊥
+
 -- The rules name no host whose resources may be observed (RFC 7641 section 1.2).
 abbrev pub ObservesNothing : Rules → Type 0
 ObservesNothing rules = rules.observed ≡ []
@@ -79,4 +84,4 @@ abbrev pub GetsShowInTime
     : List Turn → List Held → List Written → List Going → List Execution → Type 0
 GetsShowInTime turns resources h flights taken =
     AllByRecursion KeepsJournal turns → (s : Stands h) → ArePunctual s.reading
-    → GetsShow resources h flights taken × KeptShow resources h flights taken
+    → GetsShow resources h flights taken × KeptShow resources h flights taken × NoneCarried h

@@ -1,7 +1,5 @@
-use Rattle.std.proofs.Common.{◌≡◌, ◌≤◌, Option, Some, List, ℕ, length, sym, subst}
-use Rattle.std.specs.Prelude.{IfSome}
-use Rattle.limits.specs.declared.TheConstants.{MAX_BODY_LEN, MAX_MESSAGE_LEN}
-use Rattle.ask_model.specs.Datagrams.{IsSentFor, block_named}
+use Rattle.std.proofs.Common.{◌≤◌, List, ℕ, length, subst}
+use Rattle.limits.specs.declared.TheConstants.{MAX_BODY_LEN}
 use Rattle.exchange_core.proofs.BeginSound.{text-plain}
 use Rattle.exchange_core.proofs.beginning.text_of.Goals as goal
 

@@ -1,4 +1,4 @@
-use Rattle.std.proofs.Common.{◌≡◌, ◌++◌, List, length, ℕ, sym, ap, subst, ◌∙◌}
+use Rattle.std.proofs.Common.{◌++◌, List, length, ℕ, sym, ap, subst, ◌∙◌}
 use Rattle.std.specs.Prelude.{IfOk}
 use Rattle.observe_share.specs.declared.registration.Registration.{Registration}
 use Rattle.observe_share.specs.declared.notice.Notice.{Notice}

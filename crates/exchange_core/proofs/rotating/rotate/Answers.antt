@@ -1,9 +1,8 @@
-use Rattle.std.proofs.Common.{List, ap, sym, ◌∙◌}
+use Rattle.std.proofs.Common.{List, ap, ◌∙◌}
 use Rattle.exchange_model.specs.State.{PeerLink, State}
 use Rattle.exchange_model.specs.Rotating.{turned}
 use Rattle.exchange_core.specs.States.{state_of}
 use Rattle.exchange_core.proofs.Sounding.{sound-turned}
-use Rattle.exchange_core.proofs.Turning.{fit-few}
 use Rattle.exchange_core.proofs.rotating.rotate.Goals as goal
 
 pub returns-clause-sound : goal.returns-clause-sound
@@ -11,6 +10,6 @@ returns-clause-sound g c =
     let S : State = state_of c.args.s.now in
     let e = c.turn.ensures in
     sound-turned c.args.moment S _ _ _ _ _ _ _ c.requires.sound c.requires.later c.requires.early
-    (fit-few c.args.moment S c.in_ok-next.next.journal.entries (c.fault.ensures.none c.in_default.is) c.in_ok-next.ensures.entries (sym c.has_few.ensures ∙ c.if-not-has_few.false))
+    c.in_ok-remembered.ensures.none
     (e.state ∙ ap (λ (xs : List PeerLink). turned c.args.moment (record S { links = xs })) c.prepare_keep.ensures.same)
     e.bytes e.place e.answers

@@ -1,4 +1,4 @@
-use Rattle.std.proofs.Common.{ℕ, ◌<◌, length, arith}
+use Rattle.std.proofs.Common.{arith}
 use Rattle.exchange_core.proofs.Watched.{unwatched-all, written-next}
 use Rattle.exchange_core.proofs.watching.drop_unwatched.Goals as goal
 
