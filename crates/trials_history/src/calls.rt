@@ -3,7 +3,7 @@
 use crate::sample::{Nothing, light, numbered, server, shared, too_large};
 use ask_model::{Cause, Mapped};
 use exchange_core::{Answer, AskFault, Core, OpenFault, Outcome, RotateFault, Ticket};
-use journal_book::Event;
+use journal_book::{Event, Grounds, Mark};
 use std::alloc::Global;
 use std::sync::Arc;
 
@@ -47,13 +47,23 @@ pub fn ask_number(
     ask_for(core, conn, mapped)
 }
 
-/// Asks this.
+/// Asks this at the moment 0.
 pub fn ask_for(
     core: &mut Core<Nothing>,
     conn: u32,
     mapped: Arc<Mapped<Nothing>>,
 ) -> Result<Ticket<Nothing>, AskFault> {
-    core.ask(0, 0, conn, mapped)
+    ask_at(core, 0, conn, mapped)
+}
+
+/// Asks this, with the word 0.
+pub fn ask_at(
+    core: &mut Core<Nothing>,
+    moment: u64,
+    conn: u32,
+    mapped: Arc<Mapped<Nothing>>,
+) -> Result<Ticket<Nothing>, AskFault> {
+    core.ask(moment, 0, conn, mapped)
 }
 
 /// Asks what is refused for its size.
@@ -76,22 +86,50 @@ pub fn tick(core: &mut Core<Nothing>, moment: u64) -> bool {
     core.tick(moment).is_ok()
 }
 
-/// When the core has to be given a tick.
 /// Turns the journal over, and tells how many entries the one that is given out has.
 pub fn rotate(core: &mut Core<Nothing>, moment: u64) -> Result<usize, RotateFault> {
     let given = core.rotate(moment)?;
     Ok(given.len())
 }
 
-/// Whether the entry with this number is a copy, and of which number.
-pub fn copy_of(core: &Core<Nothing>, number: usize) -> Option<u32> {
+/// Of which number the entry with this number is a copy that is remembered alone.
+pub fn past_of(core: &Core<Nothing>, number: usize) -> Option<u32> {
     let entry = core.journal().get(number)?;
     match &entry.event {
-        Event::Carried { number, .. } => Some(*number),
+        Event::Carried { number, mark, .. } => matches!(mark, Mark::Past).then_some(*number),
         _ => None,
     }
 }
 
+/// Of which number the entry with this number is a copy that an answer may rest on.
+pub fn ground_of(core: &Core<Nothing>, number: usize) -> Option<u32> {
+    let entry = core.journal().get(number)?;
+    match &entry.event {
+        Event::Carried { number, mark, .. } => matches!(mark, Mark::Ground).then_some(*number),
+        _ => None,
+    }
+}
+
+/// Whether the entry with this number is an answer from the store, which rests on these.
+pub fn keeps(core: &Core<Nothing>, number: usize, wanted: &[u32]) -> bool {
+    let Some(entry) = core.journal().get(number) else {
+        return false;
+    };
+    match &entry.event {
+        Event::Answered { grounds, .. } => match grounds {
+            Grounds::Kept(list) => list.as_slice() == wanted,
+            _ => false,
+        },
+        _ => false,
+    }
+}
+
+/// How many responses are stored.
+pub fn stored(core: &Core<Nothing>) -> usize {
+    core.stored_count()
+}
+
+/// When the core has to be given a tick.
 pub fn next_due(core: &Core<Nothing>) -> Option<u64> {
     core.next_due()
 }

@@ -1,6 +1,6 @@
 //! Entries of a journal, and what they count.
 
-use crate::sample::{Nothing, server};
+use crate::sample::{Nothing, light, server, shared};
 use ask_model::Cause;
 use coap_codec::Bytes;
 use journal_book::{Entry, Event, Grounds, Journal, Mark, Numbers};
@@ -26,7 +26,12 @@ fn live(alloc: Global) -> Result<Event<Nothing>, AllocError> {
     })
 }
 
-/// An opening, a datagram that is sent, one that is heard, and two answers.
+/// The light is asked for.
+fn asked(alloc: Global) -> Result<Event<Nothing>, AllocError> {
+    Ok(Event::Asked(0, shared(alloc, light(alloc)?)?))
+}
+
+/// An opening, a datagram that is sent, one that is heard, two answers, and an ask.
 fn event(alloc: Global, place: u8) -> Result<Event<Nothing>, AllocError> {
     match place {
         0 => Ok(Event::Opened(0)),
@@ -40,7 +45,8 @@ fn event(alloc: Global, place: u8) -> Result<Event<Nothing>, AllocError> {
             ask: 1,
             grounds: Grounds::Fault(Cause::Timeout, 1),
         }),
-        _ => live(alloc),
+        4 => live(alloc),
+        _ => asked(alloc),
     }
 }
 
@@ -51,10 +57,10 @@ fn add(journal: &mut Journal<Nothing>, event: Event<Nothing>) -> Result<(), Allo
     Ok(())
 }
 
-/// A journal of those five.
+/// A journal of those six.
 fn small_journal(alloc: Global) -> Result<Journal<Nothing>, AllocError> {
     let mut journal = Journal::new(alloc);
-    for place in 0..5 {
+    for place in 0..6 {
         add(&mut journal, event(alloc, place)?)?;
     }
     Ok(journal)
@@ -108,13 +114,14 @@ fn is_carried(journal: &Journal<Nothing>, place: u32, size: u64) -> bool {
     }
 }
 
-/// Of the five entries the sending and the datagram that was heard are carried.
+/// Of the six entries the sending, the datagram that was heard and the ask are carried.
 fn are_carried(journal: &Journal<Nothing>) -> bool {
     carried_twice(journal, 0).is_none()
         && is_carried(journal, 1, 66)
         && is_carried(journal, 2, 65)
         && carried_twice(journal, 3).is_none()
         && carried_twice(journal, 4).is_none()
+        && is_carried(journal, 5, 97)
 }
 
 /// So many entries are left.
@@ -131,21 +138,23 @@ fn begins_with_an_opening(journal: &Journal<Nothing>) -> bool {
     }
 }
 
-/// The five entries have these sizes: 64 bytes for each, those of a datagram, and four for each number that
-/// an answer names.
+/// The six entries have these sizes: 64 bytes for each, those of a datagram, four for each number that
+/// an answer names, and of an ask the 3 of its method and the 30 of its target.
 fn has_sizes(journal: &Journal<Nothing>) -> bool {
-    count(journal) == 5
+    count(journal) == 6
         && has_size(journal, 0, 64)
         && has_size(journal, 1, 66)
         && has_size(journal, 2, 65)
         && has_size(journal, 3, 68)
         && has_size(journal, 4, 72)
-        && journal.get(5).is_none()
+        && has_size(journal, 5, 97)
+        && journal.get(6).is_none()
 }
 
 /// The journal is cut, and its copy is whole.
 fn is_cut(journal: &mut Journal<Nothing>, copy: &Journal<Nothing>) -> bool {
     !journal.is_empty()
+        && cuts(journal, 6)
         && cuts(journal, 5)
         && cuts(journal, 1)
         && begins_with_an_opening(journal)

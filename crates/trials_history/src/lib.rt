@@ -11,6 +11,8 @@ mod asks;
 #[cfg(test)]
 mod calls;
 #[cfg(test)]
+mod carried;
+#[cfg(test)]
 mod core_runs;
 #[cfg(test)]
 mod entries;

@@ -2,7 +2,9 @@
 //! once more, and until then nothing has changed. Nothing is refused by itself: `rt try --test
 //! --fail-alloc N` refuses the Nth allocation.
 
-use crate::calls::{ask, ask_for, close, copy_of, entries, hear, new_core, open, rotate};
+use crate::calls::{
+    ask, ask_for, close, entries, ground_of, hear, keeps, new_core, open, rotate, stored,
+};
 use crate::sample::{Nothing, shared, sized};
 use ask_model::Mapped;
 use exchange_core::{AskFault, Core, OpenFault, RotateFault};
@@ -49,14 +51,19 @@ impl Run {
         })
     }
 
-    /// A call was refused for want of memory, and left so many entries as there were.
-    fn refused(&mut self, before: usize) -> Option<()> {
+    /// How many entries there are, and how many responses are stored.
+    fn counts(&self) -> (usize, usize) {
+        (entries(&self.core), stored(&self.core))
+    }
+
+    /// A call was refused for want of memory, and left as many of both as there were.
+    fn refused(&mut self, before: (usize, usize)) -> Option<()> {
         self.refusals = self.refusals.saturating_add(1);
-        (entries(&self.core) == before).then_some(())
+        (self.counts() == before).then_some(())
     }
 
     fn open(&mut self) -> Option<u32> {
-        let before = entries(&self.core);
+        let before = self.counts();
         match open(&mut self.core, 1000) {
             Err(OpenFault::Memory) => {
                 self.refused(before)?;
@@ -68,7 +75,7 @@ impl Run {
 
     /// A connection asks for the light.
     fn ask(&mut self, moment: u64, conn: u32) -> Option<()> {
-        let before = entries(&self.core);
+        let before = self.counts();
         let mut asked = ask(&mut self.core, self.alloc, moment, 0, conn);
         if matches!(asked, Err(AskFault::Memory)) {
             self.refused(before)?;
@@ -78,7 +85,7 @@ impl Run {
     }
 
     fn hear(&mut self, moment: u64) -> Option<()> {
-        let before = entries(&self.core);
+        let before = self.counts();
         if !hear(&mut self.core, moment, 5683, RESPONSE) {
             self.refused(before)?;
             return hear(&mut self.core, moment, 5683, RESPONSE).then_some(());
@@ -88,7 +95,7 @@ impl Run {
 
     /// Asks what is refused for its target, and tells whether it was taken.
     fn fill(&mut self, mapped: &Arc<Mapped<Nothing>>) -> Option<bool> {
-        let before = entries(&self.core);
+        let before = self.counts();
         let mut asked = ask_for(&mut self.core, 0, Arc::try_clone(mapped).ok()?);
         if matches!(asked, Err(AskFault::Memory)) {
             self.refused(before)?;
@@ -113,7 +120,7 @@ impl Run {
 
     /// Turns the journal over, and tells how many entries the one that is given out has.
     fn rotate(&mut self) -> Option<usize> {
-        let before = entries(&self.core);
+        let before = self.counts();
         match rotate(&mut self.core, 1000) {
             Err(RotateFault::Memory) => {
                 self.refused(before)?;
@@ -142,8 +149,13 @@ fn long(alloc: Global) -> Option<Arc<Mapped<Nothing>>> {
     }
 }
 
-/// One ask is served, the journal is filled up and turned over, and the next ask is sent. How many
-/// calls were refused?
+/// The ask, its message and the response are copied.
+fn copied(core: &Core<Nothing>) -> bool {
+    ground_of(core, 0) == Some(1) && ground_of(core, 1) == Some(2) && ground_of(core, 2) == Some(3)
+}
+
+/// One ask is served, the journal is filled up and turned over, and the next ask is answered by
+/// what is stored, for a minute. Then one is sent. How many calls were refused?
 fn turned(alloc: Global) -> Option<u64> {
     let mut run = Run::new(alloc)?;
     let conn = run.open()?;
@@ -157,11 +169,13 @@ fn turned(alloc: Global) -> Option<u64> {
         return None;
     }
     let given = run.rotate()?;
-    let copied = copy_of(&run.core, 0) == Some(2) && copy_of(&run.core, 1) == Some(3);
     let next = run.open()?;
     run.ask(1000, next)?;
+    // the answer stands behind three copies, the opening and the ask
+    let kept = copied(&run.core) && keeps(&run.core, 5, &[2]);
+    run.ask(61_000, next)?;
     run.sends(NEXT)?;
-    (copied && given == GIVEN).then_some(run.refusals)
+    (kept && given == GIVEN).then_some(run.refusals)
 }
 
 /// Whether two runs go so. One allocation is refused at most, so in one of them none is: it wants

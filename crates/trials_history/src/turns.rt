@@ -1,7 +1,7 @@
 //! A core whose sealed journal is turned over.
 
 use crate::calls::{
-    ask, close, copy_of, entries, hear, moment_of, new_core, next_sent, open, rotate,
+    ask, close, entries, hear, moment_of, new_core, next_sent, open, past_of, rotate,
 };
 use crate::sample::Nothing;
 use exchange_core::{Core, OpenFault, RotateFault};
@@ -85,18 +85,19 @@ fn a_turn_is_refused(rt: HostRuntime) {
 fn what_is_remembered_goes_on(rt: HostRuntime) {
     let alloc = rt.alloc();
     let (mut core, next) = sealed(alloc).expect(&rt, "a sealed core");
-    let given = rotate(&mut core, 1000).ok().expect(&rt, "a journal");
+    // a minute after it was heard the response isn't fresh any more
+    let given = rotate(&mut core, 60_600).ok().expect(&rt, "a journal");
     // the seal is its last entry
     assert!(rt; given == 65_536 || given == 65_535);
     // the first sending and the response are copied
     assert!(rt; entries(&core) == 2);
-    assert!(rt; copy_of(&core, 0) == Some(2) && moment_of(&core, 0) == Some(0));
-    assert!(rt; copy_of(&core, 1) == Some(3) && moment_of(&core, 1) == Some(600));
+    assert!(rt; past_of(&core, 0) == Some(2) && moment_of(&core, 0) == Some(0));
+    assert!(rt; past_of(&core, 1) == Some(3) && moment_of(&core, 1) == Some(600));
     // numbers of connections, tokens and IDs go on
-    assert!(rt; open(&mut core, 1000) == Ok(next));
-    assert!(rt; ask(&mut core, alloc, 1000, 0, next).is_ok());
+    assert!(rt; open(&mut core, 60_600) == Ok(next));
+    assert!(rt; ask(&mut core, alloc, 60_600, 0, next).is_ok());
     assert!(rt; sends_next(&mut core, alloc, NEXT));
     // the same response again is acknowledged as before
-    assert!(rt; hear(&mut core, 1500, 5683, RESPONSE));
+    assert!(rt; hear(&mut core, 61_000, 5683, RESPONSE));
     assert!(rt; sends_next(&mut core, alloc, ACK));
 }
