@@ -483,9 +483,10 @@ class Link:
         self.outstanding, self.waiting, self.heard, self.last_mid = None, [], [], None
 
 
-# How an exchange ends: a cause with the number of the entry that shows it, or None for the latest first sending, or a response.
+# How an exchange ends: a cause with the number of the entry that shows it, or None for the latest first sending, or a response, with
+# the numbers of its replies, and of what they came to: the ask that opened the exchange, and messages. A notification came to none.
 Fault = collections.namedtuple("Fault", "kind status number")
-Response = collections.namedtuple("Response", "code form tag age location query payload numbers since")
+Response = collections.namedtuple("Response", "code form tag age location query payload numbers since asked")
 
 
 class Exchange:
@@ -494,7 +495,7 @@ class Exchange:
         self.readers, self.sending, self.awaits, self.is_over = [], None, False, False
         # whether equal GETs still join it, and what it comes to is stored; whether it asks to be told of changes
         self.current, self.observes = True, False
-        # of a GET: its pieces, each the number of its entry and what it says, since when, and how often it began anew
+        # of a GET: its pieces, each the number of its entry, what it says and the message, since when, and how often it began anew
         self.pieces, self.begun, self.changes = [], 0, 0
         # of a write: how much of the body was answered, in which size it goes, and the answers
         self.given, self.szx, self.answers = 0, 6, []
@@ -516,12 +517,12 @@ class Exchange:
         block = reply.block(BLOCK2) or Block(0, False, None)
         if not self.is_sized(reply):
             return wrong
-        so_far = sum(len(it.payload) for _, it in self.pieces)
+        so_far = sum(len(it.payload) for _, it, _ in self.pieces)
         if (block.number << block.szx + 4 if block.szx is not None else 0) != so_far or so_far + len(reply.payload) > BODY:
             return wrong
         self.begun = self.begun if self.pieces else moment
-        self.pieces.append((number, reply))
-        return Block(block.number + 1, False, block.szx) if block.more else self.whole([it for it, _ in self.pieces], reply, first)
+        self.pieces.append((number, reply, self.sending))
+        return Block(block.number + 1, False, block.szx) if block.more else self.whole([it for it, _, _ in self.pieces], reply, first)
 
     def is_sized(self, reply):
         """Whether a piece has the size that its Block2 says, which doesn't rise."""
@@ -532,9 +533,10 @@ class Exchange:
         return block.szx <= last and (length == size or length < size and not block.more)
 
     def whole(self, numbers, last, first):
-        text = b"".join(it.payload for _, it in self.pieces) if self.meaning.code == GET else last.payload
+        text = b"".join(it.payload for _, it, _ in self.pieces) if self.meaning.code == GET else last.payload
         location, query = last.values[LOCATION_PATH], last.values[LOCATION_QUERY]
-        return Response(last.code, last.number(FORMAT), last.tag(), first.number(MAX_AGE), location, query, text, numbers, self.begun)
+        age, asked = first.number(MAX_AGE), [] if self.is_new() else [self.opening, *(it.number for _, _, it in self.pieces)]
+        return Response(last.code, last.number(FORMAT), last.tag(), age, location, query, text, numbers, self.begun, asked)
 
     def piece(self):
         """The part of the body that goes next, and its Block1, where it doesn't go whole (section 2.5)."""
@@ -571,8 +573,8 @@ class Exchange:
 
 # A response that is stored: under which key and place, and for how many milliseconds it is fresh.
 Pair = collections.namedtuple("Pair", "key place response lifetime")
-# An entry of which the next journal may have a copy.
-Past = collections.namedtuple("Past", "number moment what peer raw")
+# An entry of which the next journal has a copy while it is young.
+Past = collections.namedtuple("Past", "number moment what")
 
 
 # Observation (RFC 7641)
@@ -692,18 +694,39 @@ class Gateway:
         if refusal:
             self.put_out(f"unrotated {refusal}")
             return
-        past = [it for it in self.past if self.moment - it.moment < (APART if it.what == "sent" else LIFETIME)]
-        self.past = [it._replace(number=number) for number, it in enumerate(past)]
-        self.entries = [f"{at} {it.moment} carried {it.number} past {it.what} {it.peer} {it.raw}" for at, it in enumerate(past)]
-        self.begin_anew({it.peer for it in past})
-        self.put_out(f"rotated {len(past)}")
+        self.past = [it for it in self.past if self.moment - it.moment < (APART if it.what == "sent" else LIFETIME)]
+        self.store = [it for it in self.store if self.goes_on(it)]
+        grounds = {number for it in self.store for number in it.response.asked + it.response.numbers}
+        copies = sorted(grounds | {it.number for it in self.past})
+        self.renumber({number: at for at, number in enumerate(copies)})
+        self.entries = [self.copied(at, number, "ground" if number in grounds else "past") for at, number in enumerate(copies)]
+        self.begin_anew({peer for *_, what, peer, _ in (it.split(" ", 7)[:8] for it in self.entries) if what != "asked"})
+        self.put_out(f"rotated {len(copies)}")
+
+    def goes_on(self, pair):
+        """Whether a stored response goes on: it is fresh, wasn't told by a notification, and no open write may have changed it."""
+        written = [place_of(it.meaning) for it in self.exchanges if it.meaning.code != GET]
+        return self.is_fresh(pair) and pair.response.asked and pair.place not in written
+
+    def renumber(self, places):
+        """What is copied is named by where the copies stand."""
+        self.past = [it._replace(number=places[it.number]) for it in self.past]
+        for at, pair in enumerate(self.store):
+            asked, numbers = ([places[it] for it in some] for some in (pair.response.asked, pair.response.numbers))
+            self.store[at] = pair._replace(response=pair.response._replace(asked=asked, numbers=numbers))
+
+    def copied(self, at, number, mark):
+        """The copy of an entry, or of what an entry is a copy of."""
+        _, moment, words = self.entries[number].split(" ", 2)
+        words = words.split(" ", 3)[3] if words.startswith("carried ") else words
+        return f"{at} {moment} carried {number} {mark} {words}"
 
     def begin_anew(self, peers):
-        """Of all that isn't copied nothing is known any more: what is stored, what is observed, and other devices."""
+        """Of all that isn't copied nothing is known any more: what is observed, and other devices."""
         self.links = {peer: it for peer, it in self.links.items() if peer in peers}
         for link in self.links.values():
             link.outstanding, link.waiting = None, []
-        self.exchanges, self.store, self.watches, self.asked, self.counted = [], [], [], {}, {}
+        self.exchanges, self.watches, self.asked, self.counted = [], [], {}, {}
         self.is_sealed = False
 
     # Connections
@@ -828,7 +851,7 @@ class Gateway:
         it.timeout = 2000 + (it.word & 0xFFFFFFFF) % 1001
         it.due = self.moment + it.timeout
         it.number = self.send(peer, it.raw)
-        self.past.append(Past(it.number, self.moment, "sent", peer, it.raw.hex()))
+        self.past.append(Past(it.number, self.moment, "sent"))
         it.exchange.sending, it.exchange.awaits = it, True
 
     def heard(self, peer, raw):
@@ -850,7 +873,7 @@ class Gateway:
             if not before and len(live) >= REMEMBERED:
                 return
             number = self.enter(f"heard {peer} {raw.hex()}")
-            self.past += [] if before else [Past(number, self.moment, "heard", peer, raw.hex())]
+            self.past += [] if before else [Past(number, self.moment, "heard")]
             if before:
                 self.ways.add("repeat")
                 if message.kind == CON:
@@ -1052,11 +1075,14 @@ class Gateway:
     def fresh(self, key):
         """What is stored under the key, if it is fresh, which is used by that."""
         pair = next((it for it in self.store if it.key == key), None)
-        if pair is None or self.moment >= pair.response.since + pair.lifetime:
+        if pair is None or not self.is_fresh(pair):
             self.ways |= {"stale"} if pair else set()
             return None
         self.store = [pair, *(it for it in self.store if it is not pair)]
         return pair
+
+    def is_fresh(self, pair):
+        return self.moment < pair.response.since + pair.lifetime
 
     # Answers
 
