@@ -10,7 +10,7 @@ use Rattle.demo_origin.specs.Peers.{own_mid}
 use Rattle.demo_origin.specs.Answers.{answer_to, noted, shown_part, Answers, AnswersGet, Declines, Reads, ReadsBy, ReadsPart, Shows, Validates}
 use Rattle.demo_origin.specs.Blocks.{named_by, part_of}
 use Rattle.demo_origin.specs.Hearing.{stated, is_change, with_resource, asker, piece_after, Comes, Executes, TakesPiece, Asks, Processes}
-use Rattle.demo_origin.specs.Made.{Says}
+use Rattle.demo_origin.specs.Made.{Says, as_part}
 use Rattle.demo_origin.specs.Observing.{wish_of, is_granted, enlisted, left_by as left_over}
 use Rattle.demo_origin.specs.Pieces.{holding, GivesUp}
 use Rattle.demo_origin.specs.Requests.{IsAt, asked}
@@ -78,10 +78,15 @@ module _ (R : Relation) (M : Datagram → Type 0) (t : ℕ) (p : Peer) (m : Cont
         told = enlists M wish p i m.token version s.middle.observers mid.told;
       })
 
+  -- what is asked for of a state
+  abbrev asked_part : Held → Part
+  asked_part held = part_of (named_by (values 23 m.options)) start.block (length held.state)
+
   shows : (i : ℕ) (wish : Wish) (held : Held) (b : Option Block) (new : Device)
       → m.code ≡ 1 → IsAt (values 11 m.options) start.resources i held
+      → asked_part held ≡ as_part b
       → Shows (asker t p m) i wish held b start new → AllMade M start → AllMade M new
-  shows i wish held b new get at s g =
+  shows i wish held b new get at chosen s g =
       gets i wish held.version 69 _ (shown_part b held.state) new s
       (inl (record {
         get = get;
@@ -91,6 +96,7 @@ module _ (R : Relation) (M : Datagram → Type 0) (t : ℕ) (p : Peer) (m : Cont
         stands = at;
         observed = is_granted wish p i m.token start.observers;
         part = b;
+        chosen = chosen;
         describes = s.describes;
         shown = refl;
       }))
@@ -117,28 +123,32 @@ module _ (R : Relation) (M : Datagram → Type 0) (t : ℕ) (p : Peer) (m : Cont
 
   parts : (i : ℕ) (wish : Wish) (held : Held) (part : Part) (new : Device)
       → m.code ≡ 1 → IsAt (values 11 m.options) start.resources i held
+      → asked_part held ≡ part
       → ReadsPart (asker t p m) i wish held part start new → AllMade M start → AllMade M new
-  parts i wish held Whole new get at h g = shows i wish held None new get at h g
-  parts i wish held (Piece b) new get at h g = shows i wish held (Some b) new get at h g
-  parts i wish held Past new get at h g =
+  parts i wish held Whole new get at e h g = shows i wish held None new get at e h g
+  parts i wish held (Piece b) new get at e h g = shows i wish held (Some b) new get at e h g
+  parts i wish held Past new get at e h g =
       declines i wish 128 start new (inl refl) h g
 
-  by_tag : (b : Bool) (i : ℕ) (wish : Wish) (named : Option Block) (held : Held) (new : Device)
-      → is_valid (values 4 m.options) named held.version ≡ b → m.code ≡ 1
-      → IsAt (values 11 m.options) start.resources i held
-      → ReadsBy b (asker t p m) i wish named held start new → AllMade M start → AllMade M new
-  by_tag true i wish named held new valid get at h g =
-      validates i wish named held new get at valid h g
-  by_tag false i wish named held new valid get at h g =
-      parts i wish held (part_of named start.block (length held.state)) new get at h g
+  abbrev named_piece : Option Block
+  named_piece = named_by (values 23 m.options)
 
-  reads : (i : ℕ) (wish : Wish) (named : Option Block) (o : Option Held) (new : Device)
+  by_tag : (b : Bool) (i : ℕ) (wish : Wish) (held : Held) (new : Device)
+      → is_valid (values 4 m.options) named_piece held.version ≡ b → m.code ≡ 1
+      → IsAt (values 11 m.options) start.resources i held
+      → ReadsBy b (asker t p m) i wish named_piece held start new → AllMade M start → AllMade M new
+  by_tag true i wish held new valid get at h g =
+      validates i wish named_piece held new get at valid h g
+  by_tag false i wish held new valid get at h g =
+      parts i wish held (asked_part held) new get at refl h g
+
+  reads : (i : ℕ) (wish : Wish) (o : Option Held) (new : Device)
       → slice_get start.resources i ≡ o → Gets m start.resources i
-      → Reads (asker t p m) i wish (values 4 m.options) named o start new
+      → Reads (asker t p m) i wish (values 4 m.options) named_piece o start new
       → AllMade M start → AllMade M new
-  reads i wish named None new at gets h g = absurd h
-  reads i wish named (Some held) new at gets h g =
-      by_tag (is_valid (values 4 m.options) named held.version) i wish named held new refl gets.get
+  reads i wish None new at gets h g = absurd h
+  reads i wish (Some held) new at gets h g =
+      by_tag (is_valid (values 4 m.options) named_piece held.version) i wish held new refl gets.get
       (record { first = gets.stands.first; stands = at }) h g
 
   executes : (body : List ℕ) (i : ℕ) (method : Method) (new : Device) (done : Taken)
@@ -239,7 +249,6 @@ module _ (R : Relation) (M : Datagram → Type 0) (t : ℕ) (p : Peer) (m : Cont
   processes (NotAcceptable i) new right h a g =
       declines i (wish_of (values 6 m.options)) 134 start new (inl refl) h.0 g
   processes (Read i) new right h a g =
-      reads i (wish_of (values 6 m.options)) (named_by (values 23 m.options))
-      (slice_get start.resources i) new refl right h.0 g
+      reads i (wish_of (values 6 m.options)) (slice_get start.resources i) new refl right h.0 g
   processes (Asked i method) new right h a g =
       asks i method (named_by (values 27 m.options)) new refl right h a g

@@ -1,5 +1,5 @@
 -- Versions don't fall, and tell states apart.
-use Rattle.std.proofs.Common.{◌≡◌, inl, inr, ℕ, ◌<◌, ◌^◌, ◌==◌, List, [], ◌∷◌, set, slice_get, Option, Some, Bool, true, false, not, ◌||◌, refl, sym, ap, subst, ◌∙◌, arith}
+use Rattle.std.proofs.Common.{◌≡◌, inl, inr, ℕ, ◌<◌, ◌^◌, ◌==◌, List, [], ◌∷◌, length, length-set, set, slice_get, Option, Some, Bool, true, false, not, ◌||◌, refl, sym, ap, subst, ◌∙◌, arith}
 use Rattle.std.specs.Str.{bytes_eq}
 use Rattle.std.specs.Int.{from_be_bytes, to_be_bytes, w64}
 use Rattle.std.proofs.lemmas.Bool.{eqb-false}
@@ -80,34 +80,47 @@ stated_later h false after same left = record {
 
 -- ---- all of them
 
-abbrev Later : List Held → List Held → Type 0
-Later old new = (i : ℕ) (h : Held) → slice_get old i ≡ Some h → StandsLater i h new
+record Later (old new : List Held) : Type 0 where
+  each : (i : ℕ) (h : Held) → slice_get old i ≡ Some h → StandsLater i h new
+  as_many : length new ≡ length old
 
 unchanged : (old new : List Held) → new ≡ old → Later old new
-unchanged old new e i h at =
-    record { held = h; stands = ap (λ (rs : List Held). slice_get rs i) e ∙ at; later = itself h }
+unchanged old new e = record {
+  each = λ i h at. record {
+    held = h;
+    stands = ap (λ (rs : List Held). slice_get rs i) e ∙ at;
+    later = itself h;
+  };
+  as_many = ap (λ (rs : List Held). length rs) e;
+}
 
 one_changed : (old : List Held) (i : ℕ) (h x : Held) → slice_get old i ≡ Some h → IsLater h x
     → Later old (set old i x)
-one_changed old i h x here later j g at =
-    elim (same_or_not i j) [
-      | inl e ↦ (let same : Some h ≡ Some g =
-          sym here ∙ ap (λ (k : ℕ). slice_get old k) (sym e) ∙ at in
-          let is : h ≡ g = cc in
-          let P : Held → Type 0 = λ y. IsLater y x in
-          record {
-            held = x;
-            stands = ap (λ (k : ℕ). slice_get (set old i x) k) e ∙ get_set old i h x here;
-            later = subst P is later;
-          })
-      | inr ne ↦ record { held = g; stands = get_other old i j x ne ∙ at; later = itself g }
-    ]
+one_changed old i h x here later = record { each = changed; as_many = length-set old i x }
+  where
+    changed : (j : ℕ) (g : Held) → slice_get old j ≡ Some g → StandsLater j g (set old i x)
+    changed j g at =
+        elim (same_or_not i j) [
+          | inl e ↦ (let same : Some h ≡ Some g =
+              sym here ∙ ap (λ (k : ℕ). slice_get old k) (sym e) ∙ at in
+              let is : h ≡ g = cc in
+              let P : Held → Type 0 = λ y. IsLater y x in
+              record {
+                held = x;
+                stands = ap (λ (k : ℕ). slice_get (set old i x) k) e ∙ get_set old i h x here;
+                later = subst P is later;
+              })
+          | inr ne ↦ record { held = g; stands = get_other old i j x ne ∙ at; later = itself g }
+        ]
 
 both : (a b c : List Held) → Later a b → Later b c → Later a c
-both a b c x y i h at =
-    let m = x i h at in
-    let n = y i m.held m.stands in
-    record { held = n.held; stands = n.stands; later = later_on h m.held n.held m.later n.later }
+both a b c x y = record {
+  each = λ i h at.
+      let m = x.each i h at in
+      let n = y.each i m.held m.stands in
+      record { held = n.held; stands = n.stands; later = later_on h m.held n.held m.later n.later };
+  as_many = y.as_many ∙ x.as_many;
+}
 
 -- ---- one call
 
@@ -163,11 +176,16 @@ runs R (e ∷ es) old new h =
     (runs R es h.0 new h.2)
 
 pub versions_tell : (R : Relation) → VersionsTell R
-versions_tell R es old new i held h at = runs R es old new h i held at
+versions_tell R es old new i held h at = (runs R es old new h).each i held at
+
+-- A device has as many resources as before.
+pub as_many : (R : Relation) (es : List Event) (old new : Device) → Runs R es old new
+    → length new.resources ≡ length old.resources
+as_many R es old new h = (runs R es old new h).as_many
 
 -- ---- ETags
 
-same_version : (a b : ℕ) → a < 2 ^ 64 → b < 2 ^ 64 → to_be_bytes w64 a ≡ to_be_bytes w64 b → a ≡ b
+pub same_version : (a b : ℕ) → a < 2 ^ 64 → b < 2 ^ 64 → to_be_bytes w64 a ≡ to_be_bytes w64 b → a ≡ b
 same_version a b small fits e =
     sym (from_be_bytes-to_be_bytes_8 a small)
     ∙ ap (λ (bytes : List ℕ). from_be_bytes w64 bytes) e
@@ -175,7 +193,7 @@ same_version a b small fits e =
 
 pub tags_tell : (R : Relation) → TagsTell R
 tags_tell R es old new i held now h at then fits e =
-    let later = runs R es old new h i held at in
+    let later = (runs R es old new h).each i held at in
     let same : Some later.held ≡ Some now = sym later.stands ∙ then in
     let is : later.held ≡ now = cc in
     let after : IsLater held now = subst (λ (x : Held). IsLater held x) is later.later in

@@ -1,6 +1,6 @@
 -- Where what a device gives out comes from: each datagram was first made by a call, of the state as
 -- it stood at that moment.
-use Rattle.std.specs.Prelude.{◌≡◌, ◌⊎◌, ℕ, ◌/◌, List, [], slice_get, Contains, Option, Some, Bool, true, Ok}
+use Rattle.std.specs.Prelude.{◌≡◌, ◌⊎◌, ℕ, ◌/◌, List, [], length, slice_get, Contains, Option, Some, None, Bool, true, Ok}
 use Rattle.std.specs.Int.{to_be_bytes, w64}
 use Rattle.std.specs.List.{AllByRecursion}
 use Rattle.coap_codec.specs.Spelling.{Content, Entry, Spells}
@@ -11,7 +11,7 @@ use Rattle.message_layer.specs.Hearing.{reset_for}
 use Rattle.demo_origin.specs.Values.{Device, Relation, Replied}
 use Rattle.demo_origin.specs.Arrivals.{is_request}
 use Rattle.demo_origin.specs.Answers.{answer_to, Describes, Renews, shown_part}
-use Rattle.demo_origin.specs.Blocks.{named_by}
+use Rattle.demo_origin.specs.Blocks.{named_by, part_of}
 use Rattle.demo_origin.specs.Calls.{Call, Follow, left_by}
 use Rattle.demo_origin.specs.Hearing.{asker, rst, Comes}
 use Rattle.demo_origin.specs.Notifying.{Notifies}
@@ -19,6 +19,8 @@ use Rattle.demo_origin.specs.Once.{Event, heard}
 use Rattle.demo_origin.specs.Origins.{fresh}
 use Rattle.demo_origin.specs.Requests.{asked, IsAt, method_code}
 use Rattle.demo_origin.specs.Uploads.{AsksForMore, with_body}
+use Rattle.demo_origin.specs.declared.blocks.Part.{Part}
+use Rattle.demo_origin.specs.declared.blocks.Part.TheVariants.{Whole, Piece}
 use Rattle.demo_origin.specs.declared.execution.Taken.{Taken}
 use Rattle.demo_origin.specs.declared.request.Method.{Method}
 use Rattle.demo_origin.specs.declared.state.Datagram.{Datagram}
@@ -26,6 +28,11 @@ use Rattle.demo_origin.specs.declared.state.Held.{Held}
 use Rattle.demo_origin.specs.declared.state.Observer.{Observer}
 
 -- ---- what an answer says
+
+-- a piece of a state, or all of it
+abbrev pub as_part : Option Block → Part
+as_part None = Whole
+as_part (Some b) = Piece b
 
 -- the state of the resource that a GET asks for, or a piece of it, as it stood
 pub record ShowsState (before : Device) (m : Content) (code : ℕ) (options : List Entry)
@@ -36,7 +43,10 @@ pub record ShowsState (before : Device) (m : Content) (code : ℕ) (options : Li
   pub held : Held
   pub stands : IsAt (values 11 m.options) before.resources place held
   pub observed : Bool
+  -- the piece that is asked for, in the smaller of its size and the device's
   pub part : Option Block
+  pub chosen : part_of (named_by (values 23 m.options)) before.block (length held.state)
+      ≡ as_part part
   pub describes : Describes held observed part options
   pub shown : payload ≡ shown_part part held.state
 
