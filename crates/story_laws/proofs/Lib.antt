@@ -1,6 +1,7 @@
 pub mod Sending
 pub mod Calling
 pub mod Executing
+pub mod Forgetting
 pub mod Originating
 pub mod Replying
 pub mod Posting

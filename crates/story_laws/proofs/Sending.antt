@@ -134,10 +134,10 @@ moment-at (y ∷ older) n x legal e =
 
 -- ---- first sendings of one message are one
 
-abbrev sending_of : ℕ → ℕ → ℕ → Peer → Content → FirstSending
+abbrev pub sending_of : ℕ → ℕ → ℕ → Peer → Content → FirstSending
 sending_of i t o p m = record { number = i; moment = t; opening = o; peer = p; message = m }
 
-first-member : (l : List Noted) (t o i : ℕ) (p : Peer) (m : Content) → IsFirst l t o i p m → Contains (firsts l) (sending_of i t o p m)
+pub first-member : (l : List Noted) (t o i : ℕ) (p : Peer) (m : Content) → IsFirst l t o i p m → Contains (firsts l) (sending_of i t o p m)
 first-member l t o i p m f =
     (find-some (λ (g : FirstSending). eqb g.number i) (firsts l) (sending_of i t o p m) (first-found l t o i p m f)).0
 

@@ -1,5 +1,6 @@
 //! The laws.
 
+ghost use Rattle.story_laws.specs.Arriving.{ArrivesWithin, ForgottenBefore};
 ghost use Rattle.story_laws.specs.Executions.{MessagesOnce};
 ghost use Rattle.story_laws.specs.Lateness.{SentWithin};
 ghost use Rattle.story_laws.specs.Orders.{WritesShow};
@@ -11,6 +12,16 @@ use demo_origin::Behaviour;
 /// Copies of a message go out within 49 seconds of its first sending.
 pub fn sent_within()
     ensures { SentWithin }
+{}
+
+/// A message arrives after its first sending, and within 149 seconds of that.
+pub fn arrives_within<H: Behaviour>()
+    ensures { ArrivesWithin H.relation }
+{}
+
+/// Another message has its ID only after the device has forgotten it.
+pub fn forgotten_before<H: Behaviour>()
+    ensures { ForgottenBefore H.relation }
 {}
 
 /// A message is executed at most once, whatever the network does: its last copy arrives within 149

@@ -3,13 +3,16 @@
 //!
 //! It is said of the proxy's history and of the device's calls, and of how late the network
 //! delivers. Whoever shows that both are connected so has what follows, by the laws of this crate.
-//! The definitions stand in `specs/`, to be read in this order: `Lateness`, `Networks`,
+//! The definitions stand in `specs/`, to be read in this order: `Lateness`, `Networks`, `Arriving`,
 //! `Executions`, `Posts`, `Reads`, `Orders`.
 #![tactic(auto)]
 
 mod laws;
 
-pub use laws::{messages_once, posts_once, replies_show, sent_within, writes_show};
+pub use laws::{
+    arrives_within, forgotten_before, messages_once, posts_once, replies_show, sent_within,
+    writes_show,
+};
 
 /// How late a copy goes out at most after it is due, in milliseconds.
 pub const LATEST_COPY: u64 = 1000;
