@@ -10,7 +10,7 @@ pub const ACK_TIMEOUT: u64 = 2000;
 /// The longest such time: ACK_TIMEOUT times ACK_RANDOM_FACTOR (RFC 7252 section 4.8).
 pub const LONGEST_ACK_TIMEOUT: u64 = 3000;
 
-/// How often a message is sent again that nobody answers (MAX_RETRANSMIT, RFC 7252 section 4.8).
+/// How often a message that nobody answers is sent again (MAX_RETRANSMIT, RFC 7252 section 4.8).
 pub const MAX_RETRANSMIT: u8 = 4;
 
 /// How long a message ID stands for one message (EXCHANGE_LIFETIME, RFC 7252 section 4.8.2).
@@ -61,10 +61,10 @@ pub const MAX_ENTRIES: u64 = 65_536;
 /// How many bytes the entries of a journal count.
 pub const MAX_JOURNAL_LEN: u64 = 268_435_456;
 
-/// From how many entries on a journal is nearly full: the last tenth is left.
+/// From how many entries on a journal counts as nearly full: about a tenth is left.
 pub const NEARLY_ALL_ENTRIES: u64 = 58_982;
 
-/// From how many bytes on it is: the last quarter is left.
+/// From how many bytes on it does: a quarter is left.
 pub const NEARLY_ALL_LEN: u64 = 201_326_592;
 
 /// How many copies of an older journal's entries a journal begins with at most: half of it.
@@ -73,8 +73,8 @@ pub const MAX_COPIES: u64 = 32_768;
 /// How many bytes these count at most.
 pub const MAX_COPIES_LEN: u64 = 134_217_728;
 
-/// How many tokens were issued at most, and how many connections were opened, where a journal begins.
-/// Both are numbered in four bytes, and one journal numbers 65,536 of each at most.
+/// How many tokens have been issued at most, and how many connections opened, when a journal
+/// begins. Each is numbered in four bytes, and one journal numbers at most 65,536 of each.
 pub const MAX_NUMBERED: u32 = 4_294_836_224;
 
 /// What a request counts: its method, its target, its fields and its body. No reader of connections
@@ -87,5 +87,5 @@ pub const MAX_UNREAD: usize = 1_048_576;
 /// The longest body, of a request, of a response, and of a device's resource.
 pub const MAX_BODY_LEN: usize = 65_536;
 
-/// Moments count to here: a later one is taken for this.
+/// The last moment, in milliseconds: a later one is taken for this.
 pub const LAST_MOMENT: u64 = 1 << 62;
