@@ -54,25 +54,30 @@ abbrev pub IsReserved : ℕ → Type 0
 IsReserved first = (first ≢ 255) × ((first / 16 ≡ 15) ⊎ (first % 16 ≡ 15))
 
 abbrev pub PassesNumbers : ℕ → ℕ → List ℕ → Type 0
-PassesNumbers before first rest = (delta : ℕ) × (others : List ℕ) × HasDelta first rest delta others × (65535 < before + delta)
+PassesNumbers before first rest = (delta : ℕ) × (others : List ℕ) × HasDelta first rest delta others
+    × (65535 < before + delta)
 
 -- Bytes of the delta are missing.
 abbrev pub EndsInDelta : ℕ → List ℕ → Type 0
-EndsInDelta first rest = (first / 16 < 15) × (first % 16 < 15) × (length rest < extension_length (first / 16))
+EndsInDelta first rest = (first / 16 < 15) × (first % 16 < 15)
+    × (length rest < extension_length (first / 16))
 
 -- Bytes of the length are missing.
 abbrev pub EndsInLength : ℕ → ℕ → List ℕ → Type 0
-EndsInLength before first rest = (delta : ℕ) × (others : List ℕ) × HasDelta first rest delta others × (before + delta < 65536) × (length others < extension_length (first % 16))
+EndsInLength before first rest = (delta : ℕ) × (others : List ℕ) × HasDelta first rest delta others
+    × (before + delta < 65536) × (length others < extension_length (first % 16))
 
 -- Bytes of the value are missing.
 abbrev pub EndsInValue : ℕ → ℕ → List ℕ → Type 0
-EndsInValue before first rest = (len : ℕ) × (others : List ℕ) × HasLength before first rest len others × (length others < len)
+EndsInValue before first rest = (len : ℕ) × (others : List ℕ)
+    × HasLength before first rest len others × (length others < len)
 
 -- The option has the fault.
 abbrev pub OptionFault : ℕ → ℕ → List ℕ → CodecFault → Type 0
 OptionFault before first rest Reserved = IsReserved first
 OptionFault before first rest Number = PassesNumbers before first rest
-OptionFault before first rest Truncated = EndsInDelta first rest ⊎ EndsInLength before first rest ⊎ EndsInValue before first rest
+OptionFault before first rest Truncated = EndsInDelta first rest ⊎ EndsInLength before first rest
+    ⊎ EndsInValue before first rest
 OptionFault before first rest Short = ⊥
 OptionFault before first rest Version = ⊥
 OptionFault before first rest TokenLength = ⊥
@@ -113,8 +118,10 @@ EndsInMarker bytes = (options : List Entry) × HasOptions bytes options (255 ∷
 abbrev pub FirstFault : List ℕ → CodecFault → Type 0
 FirstFault bytes Short = length bytes < 4
 FirstFault bytes Version = HeaderIs bytes (λ first code rest. first / 64 ≢ 1)
-FirstFault bytes TokenLength = HeaderIs bytes (λ first code rest. (first / 64 ≡ 1) × (8 < first % 16))
-FirstFault bytes EmptyExtra = HeaderIs bytes (λ first code rest. (first / 64 ≡ 1) × (first % 16 ≤ 8) × (code ≡ 0) × ((0 < first % 16) ⊎ (0 < length rest)))
+FirstFault bytes TokenLength =
+    HeaderIs bytes (λ first code rest. (first / 64 ≡ 1) × (8 < first % 16))
+FirstFault bytes EmptyExtra = HeaderIs bytes (λ first code rest.
+    (first / 64 ≡ 1) × (first % 16 ≤ 8) × (code ≡ 0) × ((0 < first % 16) ⊎ (0 < length rest)))
 FirstFault bytes Truncated = EndsInToken bytes ⊎ FaultInOptions bytes Truncated
 FirstFault bytes Reserved = FaultInOptions bytes Reserved
 FirstFault bytes Number = FaultInOptions bytes Number

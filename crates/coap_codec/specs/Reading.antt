@@ -7,7 +7,8 @@ use Rattle.coap_codec.specs.declared.message.MsgType.TheVariants.{Con, Non, Ack,
 use Rattle.coap_codec.specs.Spelling.{Entry, Content}
 
 infixl 10 ◌>>=◌
-abbrev pub ◌>>=◌ : {A B : Type 0} → Result A CodecFault → (A → Result B CodecFault) → Result B CodecFault
+abbrev pub ◌>>=◌ : {A B : Type 0} → Result A CodecFault → (A → Result B CodecFault)
+    → Result B CodecFault
 (Ok x) >>= f = f x
 (Err e) >>= f = Err e
 
@@ -27,20 +28,24 @@ two_more (a ∷ []) = Err Truncated
 two_more (a ∷ b ∷ rest) = Ok (256 * a + b + 269, rest)
 
 abbrev pub extended_at : ℕ → List ℕ → Result (ℕ × List ℕ) CodecFault
-extended_at nibble bytes = if nat_lt nibble 13 then Ok (nibble, bytes) else (if nibble == 13 then one_more bytes else two_more bytes)
+extended_at nibble bytes =
+    if nat_lt nibble 13 then Ok (nibble, bytes)
+    else (if nibble == 13 then one_more bytes else two_more bytes)
 
 -- The value of so many bytes, and the bytes after it.
 abbrev pub value_at : ℕ → List ℕ → Result (List ℕ × List ℕ) CodecFault
-value_at len bytes = if nat_lt (length bytes) len then Err Truncated else Ok (take len bytes, drop len bytes)
+value_at len bytes =
+    if nat_lt (length bytes) len then Err Truncated else Ok (take len bytes, drop len bytes)
 
 -- The option that begins with the byte, after one of the number before.
 unfoldable pub option_at : ℕ → ℕ → List ℕ → Result (Entry × List ℕ) CodecFault
-option_at before first bytes = if (first / 16 == 15) || (first % 16 == 15) then Err Reserved else (do
-  delta ← extended_at (first / 16) bytes
-  if nat_lt 65535 (before + delta.0) then Err Number else (do
-    len ← extended_at (first % 16) delta.1
-    value ← value_at len.0 len.1
-    Ok (record { number = before + delta.0; value = value.0 }, value.1)))
+option_at before first bytes =
+    if (first / 16 == 15) || (first % 16 == 15) then Err Reserved else (do
+      delta ← extended_at (first / 16) bytes
+      if nat_lt 65535 (before + delta.0) then Err Number else (do
+        len ← extended_at (first % 16) delta.1
+        value ← value_at len.0 len.1
+        Ok (record { number = before + delta.0; value = value.0 }, value.1)))
 
 -- The next option, where there is one before the end or the payload marker, and the bytes after it.
 unfoldable pub next_at : ℕ → List ℕ → Result (Option (Entry × List ℕ)) CodecFault
@@ -49,8 +54,8 @@ next_at before (b ∷ bytes) = if b == 255 then Ok None else (do
   first ← option_at before b bytes
   Ok (Some first))
 
--- The options up to the end or the payload marker, and the bytes after them. Each takes a byte at least,
--- so that as many rounds as there are bytes are enough.
+-- The options up to the end or the payload marker, and the bytes after them. Each option takes at
+-- least one byte, so as many rounds as there are bytes are enough.
 unfoldable pub options_at : ℕ → ℕ → List ℕ → Result (List Entry × List ℕ) CodecFault
 options_at zero before bytes = Ok ([], bytes)
 options_at (suc rounds) before [] = Ok ([], [])
@@ -93,8 +98,13 @@ head_at (a ∷ []) = Err Short
 head_at (a ∷ code ∷ []) = Err Short
 head_at (a ∷ code ∷ high ∷ []) = Err Short
 head_at (a ∷ code ∷ high ∷ low ∷ rest) =
-    if a / 64 == 1 then (if nat_lt 8 (a % 16) then Err TokenLength else (if (code == 0) && (nat_lt 0 (a % 16) || nat_lt 0 (length rest)) then Err EmptyExtra else
-    Ok (record { kind = kind_of (a / 16 % 4); code = code; mid = 256 * high + low; len = a % 16 }, rest))) else Err Version
+    if a / 64 == 1 then (
+    if nat_lt 8 (a % 16) then Err TokenLength else (
+    if (code == 0) && (nat_lt 0 (a % 16) || nat_lt 0 (length rest)) then Err EmptyExtra else
+    Ok (
+      record { kind = kind_of (a / 16 % 4); code = code; mid = 256 * high + low; len = a % 16 },
+      rest,
+    ))) else Err Version
 
 unfoldable pub message_at : List ℕ → Result Content CodecFault
 message_at bytes = do
@@ -102,7 +112,14 @@ message_at bytes = do
   token ← value_at head.0.len head.1
   options ← all_options_at token.1
   payload ← payload_at options.1
-  Ok (record { kind = head.0.kind; code = head.0.code; mid = head.0.mid; token = token.0; options = options.0; payload = payload })
+  Ok (record {
+    kind = head.0.kind;
+    code = head.0.code;
+    mid = head.0.mid;
+    token = token.0;
+    options = options.0;
+    payload = payload;
+  })
 
 -- What a function returned, seen by view, is what reading gives, unless memory ran out.
 abbrev pub Gives : {X Y : Type 0} → (X → Y) → Result X CodecFault → Result Y CodecFault → Type 0

@@ -26,7 +26,14 @@ pub record Content : Type 0 where
   pub payload : List ℕ
 
 abbrev pub content : Message → Content
-content m = record { kind = m.kind; code = m.code; mid = m.mid; token = m.token; options = entries m.options.items; payload = m.payload.items }
+content m = record {
+  kind = m.kind;
+  code = m.code;
+  mid = m.mid;
+  token = m.token;
+  options = entries m.options.items;
+  payload = m.payload.items;
+}
 
 abbrev pub code_of : MsgType → ℕ
 code_of Con = 0
@@ -58,7 +65,8 @@ pub record SpellsOption (before : ℕ) (o : Entry) (text : List ℕ) : Type 0 wh
 -- The bytes of options are those of the first, and then those of the others.
 abbrev pub SpellsOptions : ℕ → List Entry → List ℕ → Type 0
 SpellsOptions before [] text = text ≡ []
-SpellsOptions before (o ∷ os) text = (front : List ℕ) × (rest : List ℕ) × (text ≡ front ++ rest) × SpellsOption before o front × SpellsOptions o.number os rest
+SpellsOptions before (o ∷ os) text = (front : List ℕ) × (rest : List ℕ) × (text ≡ front ++ rest)
+    × SpellsOption before o front × SpellsOptions o.number os rest
 
 -- No payload has no bytes, and any other stands after a marker.
 abbrev pub SpellsPayload : List ℕ → List ℕ → Type 0
@@ -77,4 +85,5 @@ pub record Spells (m : Content) (bytes : List ℕ) : Type 0 where
   pub options_are : SpellsOptions 0 m.options options
   pub payload_is : SpellsPayload m.payload payload
   pub nothing_else : m.code ≡ 0 → (m.token ≡ []) × (m.options ≡ []) × (m.payload ≡ [])
-  pub whole : bytes ≡ (64 + 16 * code_of m.kind + length m.token) ∷ m.code ∷ mid_high ∷ mid_low ∷ m.token ++ options ++ payload
+  pub whole : bytes ≡ (64 + 16 * code_of m.kind + length m.token) ∷ m.code ∷ mid_high ∷ mid_low
+      ∷ m.token ++ options ++ payload

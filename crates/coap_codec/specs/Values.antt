@@ -13,8 +13,8 @@ abbrev pub IsShortest : List ℕ → Type 0
 IsShortest [] = Unit {0}
 IsShortest (b ∷ bytes) = b ≢ 0
 
--- the number is the block's: its number, then whether more follow, then the size exponent, of which 7
--- is reserved (RFC 7959, section 2.2)
+-- the number is the block's: its number, then whether more follow, then the size exponent, of which
+-- 7 is reserved (RFC 7959, section 2.2)
 pub record IsBlock (b : Block) (n : ℕ) : Type 0 where
   pub parts : n ≡ 16 * b.num + (if b.more then 8 else 0) + b.szx
   pub szx : b.szx < 7

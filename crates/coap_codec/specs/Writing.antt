@@ -29,17 +29,21 @@ abbrev pub nibble : ℕ → ℕ
 nibble n = if nat_lt n 13 then n else (if nat_lt n 269 then 13 else 14)
 
 abbrev pub more : ℕ → List ℕ
-more n = if nat_lt n 13 then [] else (if nat_lt n 269 then (n - 13) ∷ [] else ((n - 269) / 256) ∷ ((n - 269) % 256) ∷ [])
+more n =
+    if nat_lt n 13 then []
+    else (if nat_lt n 269 then (n - 13) ∷ [] else ((n - 269) / 256) ∷ ((n - 269) % 256) ∷ [])
 
 -- new is old with the bytes of the option after it
 abbrev pub AppendsOption : ℕ → Entry → List ℕ → List ℕ → Type 0
-AppendsOption before o old new = (front : List ℕ) × (new ≡ old ++ front) × SpellsOption before o front
+AppendsOption before o old new = (front : List ℕ) × (new ≡ old ++ front)
+    × SpellsOption before o front
 
 abbrev pub AppendsOptions : List Entry → List ℕ → List ℕ → Type 0
 AppendsOptions os old new = (text : List ℕ) × (new ≡ old ++ text) × SpellsOptions 0 os text
 
 abbrev pub head_text : Content → List ℕ
-head_text m = (64 + 16 * code_of m.kind + length m.token) ∷ m.code ∷ (m.mid / 256) ∷ (m.mid % 256) ∷ m.token
+head_text m =
+    (64 + 16 * code_of m.kind + length m.token) ∷ m.code ∷ (m.mid / 256) ∷ (m.mid % 256) ∷ m.token
 
 abbrev pub payload_text : List ℕ → List ℕ
 payload_text [] = []

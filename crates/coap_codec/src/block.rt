@@ -34,7 +34,8 @@ impl Block {
 pub fn block_of(value: &[u8]) -> Option<Block>
     ensures found { IfSome result (λ b. (length value.now ≤ 3) × IsBlock b (uint value.now)) }
     ensures num { IfSome result (λ b. b.num < 2 ^ 20) }
-    ensures none { IfNone result ((b : Block) → length value.now ≤ 3 → IsBlock b (uint value.now) → ⊥) }
+    ensures none { IfNone result ((b : Block) → length value.now ≤ 3
+        → IsBlock b (uint value.now) → ⊥) }
 {
     if value.len() > 3 {
         return None;

@@ -41,7 +41,14 @@ pub struct Message {
 impl Message {
     /// The message with no options and no payload. It takes no memory.
     pub fn new(alloc: Global, kind: MsgType, code: u8, mid: u16, token: Token) -> Message
-        ensures { content result ≡ record { kind = kind; code = code; mid = mid; token = token; options = []; payload = [] } }
+        ensures { content result ≡ record {
+          kind = kind;
+          code = code;
+          mid = mid;
+          token = token;
+          options = [];
+          payload = [];
+        } }
     {
         Message {
             kind,

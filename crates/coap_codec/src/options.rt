@@ -106,7 +106,8 @@ pub fn definition(number: u16) -> Option<OptionDefinition>
     ensures row { result ≡ definition_of number }
     // The columns of the table are what the bits of its numbers say.
     ensures critical { IfSome result (λ row. row.critical ≡ is_critical_number number) }
-    ensures unsafe_to_forward { IfSome result (λ row. row.unsafe_to_forward ≡ is_unsafe_number number) }
+    ensures unsafe_to_forward { IfSome result (λ row.
+        row.unsafe_to_forward ≡ is_unsafe_number number) }
     ensures no_cache_key { IfSome result (λ row. row.no_cache_key ≡ is_no_cache_key_number number) }
 {
     use Occurrence::{Never, Once, Repeated};

@@ -64,7 +64,8 @@ fn value_of(len: u32, bytes: &[u8]) -> Result<(&[u8], &[u8]), CodecFault>
 /// The option that begins with the byte, after one of the number before, and the bytes after it.
 #[tactic(auto, unfolding(crate::specs::Reading::option_at))]
 fn option_of(before: u16, first: u8, bytes: &[u8]) -> Result<(Found<'_>, &[u8]), CodecFault>
-    ensures { Reads (λ x. (record { number = x.0.number; value = x.0.value.now }, x.1.now)) result (option_at before first bytes.now) }
+    ensures { Reads (λ x. (record { number = x.0.number; value = x.0.value.now }, x.1.now)) result
+        (option_at before first bytes.now) }
 {
     if first / 16 == 15 || first % 16 == 15 {
         return Err(CodecFault::Reserved);
@@ -83,7 +84,9 @@ fn option_of(before: u16, first: u8, bytes: &[u8]) -> Result<(Found<'_>, &[u8]),
 /// The next option and the bytes after it, or none at the end or the payload marker.
 #[tactic(auto, unfolding(crate::specs::Reading::next_at))]
 fn next_option(before: u16, bytes: &[u8]) -> Result<Option<(Found<'_>, &[u8])>, CodecFault>
-    ensures { Reads (λ o. option_map (λ x. (record { number = x.0.number; value = x.0.value.now }, x.1.now)) o) result (next_at before bytes.now) }
+    ensures { Reads (λ o.
+        option_map (λ x. (record { number = x.0.number; value = x.0.value.now }, x.1.now)) o)
+        result (next_at before bytes.now) }
 {
     match bytes {
         [] => Ok(None),
@@ -137,7 +140,9 @@ fn payload_of(bytes: &[u8]) -> Result<&[u8], CodecFault>
 
 /// The header, and the bytes after it.
 fn head_of(bytes: &[u8]) -> Result<(Head, &[u8]), CodecFault>
-    ensures reads { Reads (λ x. (record { kind = x.0.kind; code = x.0.code; mid = x.0.mid; len = x.0.token_len }, x.1.now)) result (head_at bytes.now) }
+    ensures reads { Reads (λ x.
+        (record { kind = x.0.kind; code = x.0.code; mid = x.0.mid; len = x.0.token_len }, x.1.now))
+        result (head_at bytes.now) }
     ensures short { IfOk result (λ x. x.0.token_len ≤ 8) }
 {
     let [first, code, high, low, rest @ ..] = bytes else {
@@ -196,7 +201,8 @@ fn message_of(alloc: Global, bytes: &[u8]) -> Result<Message, CodecFault>
 pub fn decode(alloc: Global, bytes: &[u8]) -> Result<Message, CodecFault>
     ensures found { IfOk result (λ m. Spells (content m) bytes.now) }
     // What is spelled is read, unless memory runs out.
-    ensures only { (m : Content) → Spells m bytes.now → MatchResult result (λ n. content n ≡ m) (λ e. e ≡ CodecFault.Memory) }
+    ensures only { (m : Content) → Spells m bytes.now
+        → MatchResult result (λ n. content n ≡ m) (λ e. e ≡ CodecFault.Memory) }
     ensures fault { IfErr result (λ e. (e ≡ CodecFault.Memory) ⊎ FirstFault bytes.now e) }
     ensures fault_only { (f : CodecFault) → FirstFault bytes.now f → IsErrOf result f }
     // Memory runs out only where the bytes spell a message.

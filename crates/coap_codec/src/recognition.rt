@@ -37,12 +37,13 @@ fn may_repeat(o: &Opt) -> bool
     }
 }
 
-/// Whether the option is recognised after those with the numbers that are marked; it is marked
-/// then.
+/// Whether the option is recognised after those whose numbers are marked; if so, its number is
+/// marked too.
 fn recognise(marks: &mut [bool; 64], o: &Opt) -> bool
     ensures recognised { result ≡ (is_defined (entry o.now)
         && (may_repeat (entry o.now) || not (slice_index_or marks.old o.now.number false))) }
-    ensures marked { marks.new ≡ (if result then slice_set marks.old o.now.number true else marks.old) }
+    ensures marked { marks.new
+        ≡ (if result then slice_set marks.old o.now.number true else marks.old) }
     ensures small { IsTrue result → o.now.number < 64 }
 {
     if !is_defined(o) {
@@ -56,17 +57,18 @@ fn recognise(marks: &mut [bool; 64], o: &Opt) -> bool
     true
 }
 
-/// Whether an option of this number that isn't recognised may be there, where the message is
-/// forwarded or only processed.
+/// Whether an option of this number may be there although it is not recognised, in a message that
+/// is forwarded or only processed.
 fn may_pass(number: u16, forwarded: bool) -> bool
     ensures { result ≡ may_pass forwarded number }
 {
     !is_critical(number) && !(forwarded && is_unsafe(number) && definition(number).is_none())
 }
 
-/// Whether each option that isn't recognised may be there.
+/// Whether every option that is not recognised may be there.
 fn strays_may_pass(options: &[Opt], forwarded: bool) -> bool
-    ensures { result ≡ list_all (λ o. may_pass forwarded o.number) (strays [] (entries options.now)) }
+    ensures { result
+        ≡ list_all (λ o. may_pass forwarded o.number) (strays [] (entries options.now)) }
 {
     let mut marks = [false; 64];
     'each: for o in options {
@@ -78,23 +80,24 @@ fn strays_may_pass(options: &[Opt], forwarded: bool) -> bool
     true
 }
 
-/// Whether no critical option isn't recognised (section 5.4.1).
+/// Whether every critical option is recognised (section 5.4.1).
 pub fn is_processable(options: &[Opt]) -> bool
     ensures { result ≡ is_processable (entries options.now) }
 {
     strays_may_pass(options, false)
 }
 
-/// Whether what the options say can be passed on: each that isn't recognised may be left out,
-/// since it is elective, and safe to forward where it is unknown (sections 5.4.1 to 5.4.3).
+/// Whether what the options say can be passed on: each one that is not recognised may be left out,
+/// since it is elective and, if the table does not have it, safe to forward (sections 5.4.1
+/// to 5.4.3).
 pub fn is_forwardable(options: &[Opt]) -> bool
     ensures { result ≡ is_forwardable (entries options.now) }
 {
     strays_may_pass(options, true)
 }
 
-/// Whether the message is rejected as a response: it is of a reserved class, or can't be
-/// processed.
+/// Whether the message is rejected as a response: its class is reserved, or it cannot be processed
+/// (sections 4.2 and 5.4.1).
 pub fn is_rejected(m: &Message) -> bool
     ensures { result ≡ is_rejected (content m.now) }
 {

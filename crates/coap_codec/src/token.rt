@@ -18,11 +18,15 @@ impl Model for Token {
 
     ghost view = { λ t. take t.len t.bytes };
 
-    ghost invariant = { λ t. (t.len ≤ 8) × (length t.bytes ≡ 8) × (drop t.len t.bytes ≡ replicate (8 - t.len) 0) };
+    ghost invariant = { λ t.
+        (t.len ≤ 8) × (length t.bytes ≡ 8) × (drop t.len t.bytes ≡ replicate (8 - t.len) 0) };
 
     ghost inverse = { λ xs. record { bytes = xs ++ replicate (8 - length xs) 0; len = length xs } };
 
-    ghost inverse_ok = { λ t h i. record { bytes = padded t.bytes t.len h.0 h.1 h.2 i; len = len_of t.bytes t.len h.0 h.1 i } };
+    ghost inverse_ok = { λ t h i. record {
+      bytes = padded t.bytes t.len h.0 h.1 h.2 i;
+      len = len_of t.bytes t.len h.0 h.1 i;
+    } };
 }
 
 impl Token {

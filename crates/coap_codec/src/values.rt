@@ -14,7 +14,8 @@ pub fn values_of<'a>(
     m: &'a Message,
     number: u16,
 ) -> Result<Vec<&'a [u8]>, CodecFault>
-    ensures ok { IfOk result (λ v. map (λ x. x.now) v.items ≡ values number (entries m.now.options.items)) }
+    ensures ok { IfOk result (λ v.
+        map (λ x. x.now) v.items ≡ values number (entries m.now.options.items)) }
     ensures memory { IsOkUnless result CodecFault.Memory }
 {
     let mut values = Vec::new(alloc);
@@ -28,7 +29,8 @@ pub fn values_of<'a>(
 
 /// The value of the message's first option of that number, without memory.
 pub fn first_of(m: &Message, number: u16) -> Option<&[u8]>
-    ensures found { IfSome result (λ v. (others : List (List ℕ)) × (values number (entries m.now.options.items) ≡ v.now ∷ others)) }
+    ensures found { IfSome result (λ v.
+        (others : List (List ℕ)) × (values number (entries m.now.options.items) ≡ v.now ∷ others)) }
     ensures none { IfNone result (values number (entries m.now.options.items) ≡ []) }
 {
     'each: for option in &m.options {

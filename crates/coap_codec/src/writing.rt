@@ -98,7 +98,8 @@ fn push_payload(out: &mut Vec<u8>, payload: &[u8]) -> Result<(), CodecFault>
 
 /// The options are in order of their numbers, and their values short enough.
 fn options_are_encodable(options: &[Opt]) -> bool
-    ensures { IsTrue result ↔ (IsInOrder 0 (entries options.now) × AllByRecursion IsShort (entries options.now)) }
+    ensures { IsTrue result
+        ↔ (IsInOrder 0 (entries options.now) × AllByRecursion IsShort (entries options.now)) }
 {
     let mut before = 0;
     'each: for option in options {
