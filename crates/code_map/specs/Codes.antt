@@ -8,8 +8,8 @@ use Rattle.code_map.specs.declared.status.Status.TheVariants.{Okay, Created, NoC
 abbrev pub Row : Type 0
 Row = ℕ × ℕ × Status × Status
 
--- 2.03, 2.31 and 4.08 answer what only the proxy can have asked: a reader never sees them. 4.02 refuses an
--- option, which the proxy chose: that is the proxy's own error.
+-- 2.03, 2.31 and 4.08 answer what only the proxy itself can have asked, so no client gets them.
+-- 4.02 refuses an option that the proxy chose, so it is the proxy's own error.
 abbrev pub table : List Row
 table =
     (2, 1, Created, Created)
@@ -37,8 +37,8 @@ table =
     ∷ (5, 5, BadGateway, BadGateway)
     ∷ []
 
--- A code that the table hasn't counts as x.00 of its class (RFC 7252 section 5.2), and as 2.04 in class 2.
--- The other classes hold no answer.
+-- A code that is not in the table counts as x.00 of its class (RFC 7252 section 5.2), in class 2 as
+-- 2.04. The other classes are no answers.
 abbrev pub of_class : ℕ → Bool → Status
 of_class class has_body =
     if class == 2 then (if has_body then Okay else NoContent) else (
@@ -48,7 +48,8 @@ of_class class has_body =
 abbrev pub status_in : List Row → ℕ → ℕ → Bool → Status
 status_in [] class detail has_body = of_class class has_body
 status_in (r ∷ rs) class detail has_body =
-    if (class == r.0) && (detail == r.1) then (if has_body then r.2 else r.3) else status_in rs class detail has_body
+    if (class == r.0) && (detail == r.1) then (if has_body then r.2 else r.3)
+    else status_in rs class detail has_body
 
 abbrev pub status_of : ℕ → Bool → Status
 status_of code has_body = status_in table (code / 32) (code % 32) has_body

@@ -1,7 +1,8 @@
-//! What HTTP's methods are in CoAP, and CoAP's response codes in HTTP (RFC 7252 section 10.2, RFC 8075 section 7).
+//! What HTTP's methods are in CoAP, and CoAP's response codes in HTTP (RFC 7252 section 10.2,
+//! RFC 8075 section 7).
 //!
-//! One contract: each answer is a row of a table, read for every code and every method. Nothing here
-//! takes memory. The mapping of requests and the rendering of answers stand on it.
+//! One contract: each answer is a row of a table, read for every code and every method. Nothing
+//! here allocates. Mapping requests and rendering answers rest on it.
 #![tactic(auto)]
 
 mod laws;

@@ -21,8 +21,8 @@ pub enum Status {
     Forbidden,
     /// 404
     NotFound,
-    /// 4.05 of a CoAP server, which is a 400 with a phrase of its own: HTTP's 405 needs an Allow field,
-    /// and CoAP has none (RFC 8075 section 7).
+    /// 4.05 of a CoAP server. It becomes a 400 with a phrase of its own, since a 405 needs an Allow
+    /// field and CoAP has none (RFC 8075 section 7).
     MethodNotAllowed,
     /// 406
     NotAcceptable,
@@ -110,8 +110,8 @@ pub const fn phrase_of(status: Status) -> &'static str
     }
 }
 
-/// The status that a CoAP response code gives (RFC 8075 section 7). `has_body` says whether the response
-/// has a payload.
+/// The status that a CoAP response code gives (RFC 8075 section 7). `has_body` says whether the
+/// response has a payload.
 pub const fn status_of(code: u8, has_body: bool) -> Status
     ensures table { result ≡ status code has_body }
     ensures own { passed_on code ≡ false → result ≡ Status.BadGateway }
@@ -146,8 +146,8 @@ pub const fn status_of(code: u8, has_body: bool) -> Status
     }
 }
 
-/// Whether a reader gets the answer with this code. Every other one ends in the proxy's own 502: the
-/// classes that hold no answer, and what only the proxy can have asked for (2.03, 2.31, 4.08).
+/// Whether a client gets the answer with this code. Every other code ends in the proxy's own 502:
+/// the classes that are no answers, and what only the proxy can have asked for (2.03, 2.31, 4.08).
 pub const fn is_passed_on(code: u8) -> bool
     ensures { result ≡ passed_on code }
 {
