@@ -21,9 +21,11 @@ is_digit b = nat_le 48 b && nat_le b 57
 abbrev pub thousandths : List ℕ → Option ℕ
 thousandths [] = Some 0
 thousandths (a ∷ []) = if is_digit a then Some (100 * (a - 48)) else None
-thousandths (a ∷ b ∷ []) = if is_digit a && is_digit b then Some (100 * (a - 48) + 10 * (b - 48)) else None
+thousandths (a ∷ b ∷ []) =
+    if is_digit a && is_digit b then Some (100 * (a - 48) + 10 * (b - 48)) else None
 thousandths (a ∷ b ∷ c ∷ []) =
-    if is_digit a && (is_digit b && is_digit c) then Some (100 * (a - 48) + 10 * (b - 48) + (c - 48)) else None
+    if is_digit a && (is_digit b && is_digit c)
+    then Some (100 * (a - 48) + 10 * (b - 48) + (c - 48)) else None
 thousandths (a ∷ b ∷ c ∷ d ∷ more) = None
 
 abbrev pub decimals : List ℕ → Option ℕ
@@ -36,7 +38,8 @@ whole_one (Some n) = if n == 0 then Some 1000 else None
 
 unfoldable pub weight_at : List ℕ → Option ℕ
 weight_at [] = None
-weight_at (whole ∷ rest) = if whole == 48 then decimals rest else (if whole == 49 then whole_one (decimals rest) else None)
+weight_at (whole ∷ rest) =
+    if whole == 48 then decimals rest else (if whole == 49 then whole_one (decimals rest) else None)
 
 -- Without q the weight is 1.
 abbrev pub weight_by : Option (List ℕ) → Option ℕ
@@ -52,7 +55,9 @@ pub record Element : Type 0 where
   pub weight : ℕ
 
 unfoldable pub element_at : List ℕ → Option Element
-element_at text = option_and_then (λ m. option_map (λ w. record { media = m; weight = w }) (weight_of m)) (media_at text)
+element_at text =
+    option_and_then (λ m. option_map (λ w. record { media = m; weight = w }) (weight_of m))
+    (media_at text)
 
 abbrev pub elements : List ℕ → List Element
 elements value = filter_map element_at (pieces false 44 value)
@@ -66,7 +71,8 @@ takes_anything e = nat_lt 0 e.weight && is_range e.media
 
 -- text/plain and application/coap-payload are only what they are called where charset and cf fit.
 unfoldable pub is_itself : Named → Bool
-is_itself m = not (is_foreign_text m) && (not (same m.essence (codes "application/coap-payload")) || is_some (payload_format m))
+is_itself m = not (is_foreign_text m)
+    && (not (same m.essence (codes "application/coap-payload")) || is_some (payload_format m))
 
 -- A media type's text and an element have the same type/subtype.
 unfoldable pub is_called : List ℕ → Named → Bool
@@ -74,7 +80,8 @@ is_called text m = same (trim (take (cut_from false 59 Plain text) text)) m.esse
 
 -- A route from a format to the media type of an element: that format is asked for, and transformed.
 abbrev pub route_to : Named → Form → Form → Option Wanted
-route_to m (Format format) (Media text) = if is_called text m then Some (record { format = format; media = text }) else None
+route_to m (Format format) (Media text) =
+    if is_called text m then Some (record { format = format; media = text }) else None
 route_to m (Format format) (Format to) = None
 route_to m (Media text) to = None
 
@@ -90,7 +97,8 @@ is_from m (Format format) to = false
 
 abbrev pub route_in : List (Form × Form) → Option Named → Option (Form × Form)
 route_in routes None = None
-route_in routes (Some m) = if is_itself m then find (λ (pair : Form × Form). is_from m pair.0 pair.1) routes else None
+route_in routes (Some m) =
+    if is_itself m then find (λ (pair : Form × Form). is_from m pair.0 pair.1) routes else None
 
 -- The first route from what a Content-Type says.
 unfoldable pub route_at : List (Form × Form) → List ℕ → Option (Form × Form)
@@ -107,7 +115,10 @@ wanted_of policy routes m =
 
 -- The elements that can be had, with their weights.
 unfoldable pub choice_of : Policy → List (Form × Form) → Element → Option (ℕ × Wanted)
-choice_of policy routes e = if nat_lt 0 e.weight then option_map (λ w. (e.weight, w)) (wanted_of policy routes e.media) else None
+choice_of policy routes e =
+    if nat_lt 0 e.weight
+    then option_map (λ w. (e.weight, w)) (wanted_of policy routes e.media)
+    else None
 
 abbrev pub choices : Policy → List (Form × Form) → List Element → List (ℕ × Wanted)
 choices policy routes es = filter_map (λ e. choice_of policy routes e) es

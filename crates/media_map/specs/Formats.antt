@@ -34,10 +34,12 @@ media_text format = text_in table format
 -- text/plain is UTF-8 or US-ASCII, which is where no charset stands.
 abbrev pub has_charset : Option (List ℕ) → Bool
 has_charset None = true
-has_charset (Some value) = same (unquoted value) (codes "utf-8") || same (unquoted value) (codes "us-ascii")
+has_charset (Some value) =
+    same (unquoted value) (codes "utf-8") || same (unquoted value) (codes "us-ascii")
 
 unfoldable pub is_foreign_text : Named → Bool
-is_foreign_text m = same m.essence (codes "text/plain") && not (has_charset (value_in (codes "charset") m.parameters))
+is_foreign_text m = same m.essence (codes "text/plain")
+    && not (has_charset (value_in (codes "charset") m.parameters))
 
 -- The format of the table that a media type is. Parameters other than that charset don't matter.
 abbrev pub format_in : List Row → List ℕ → Option ℕ
@@ -47,29 +49,35 @@ format_in (row ∷ rows) essence = if same essence row.1 then Some row.0 else fo
 unfoldable pub table_format : Named → Option ℕ
 table_format m = if is_foreign_text m then None else format_in table m.essence
 
--- application/coap-payload names a format itself: cf is one to five digits, at most 65535 (RFC 8075 section 6.2).
+-- application/coap-payload names a format itself: its cf is one to five digits, and at most 65535
+-- (RFC 8075 section 6.2).
 unfoldable pub number_with : ℕ → ℕ → Option ℕ
 number_with n digit =
-    if (nat_le 48 digit && nat_le digit 57) && nat_le (10 * n + (digit - 48)) 65535 then Some (10 * n + (digit - 48)) else None
+    if (nat_le 48 digit && nat_le digit 57) && nat_le (10 * n + (digit - 48)) 65535
+    then Some (10 * n + (digit - 48)) else None
 
 abbrev pub number_from : ℕ → List ℕ → Option ℕ
 number_from n [] = Some n
 number_from n (digit ∷ digits) = option_and_then (λ m. number_from m digits) (number_with n digit)
 
 unfoldable pub format_number : List ℕ → Option ℕ
-format_number digits = if nat_lt 0 (length digits) && nat_le (length digits) 5 then number_from 0 digits else None
+format_number digits =
+    if nat_lt 0 (length digits) && nat_le (length digits) 5 then number_from 0 digits else None
 
 unfoldable pub payload_format : Named → Option ℕ
 payload_format m =
     if same m.essence (codes "application/coap-payload")
-    then option_and_then (λ value. format_number (unquoted value)) (value_in (codes "cf") m.parameters) else None
+    then option_and_then (λ value. format_number (unquoted value))
+    (value_in (codes "cf") m.parameters)
+    else None
 
 -- The nearest format for a media type that has none (RFC 8075 section 6.3).
 unfoldable pub begins : List ℕ → List ℕ → Bool
 begins text front = nat_le (length front) (length text) && same (take (length front) text) front
 
 unfoldable pub ends : List ℕ → List ℕ → Bool
-ends text back = nat_le (length back) (length text) && same (drop (length text - length back) text) back
+ends text back =
+    nat_le (length back) (length text) && same (drop (length text - length back) text) back
 
 unfoldable pub loose_format : Named → ℕ
 loose_format m =
@@ -79,8 +87,8 @@ loose_format m =
     if begins m.essence (codes "application/") && ends m.essence (codes "+xml") then 41 else (
     if begins m.essence (codes "application/") && ends m.essence (codes "+json") then 50 else 42))))
 
--- What a Content-Type says: the table first, then coap-payload, which is passed through or refused, then
--- the nearest format or none.
+-- What a Content-Type says: by the table; or else by coap-payload, which is passed through or
+-- refused; or else the nearest format, or none.
 abbrev pub last_of : Policy → Named → Result (Option ℕ) MediaFault
 last_of policy m = if policy.loose then Ok (Some (loose_format m)) else Err Unmapped
 
@@ -97,4 +105,5 @@ named_format policy None = Err Syntax
 named_format policy (Some m) = table_or_payload policy m (table_format m)
 
 unfoldable pub format_at : Policy → List ℕ → Result (Option ℕ) MediaFault
-format_at policy text = if length (trim text) == 0 then Ok None else named_format policy (media_at text)
+format_at policy text =
+    if length (trim text) == 0 then Ok None else named_format policy (media_at text)

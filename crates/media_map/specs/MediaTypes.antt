@@ -19,12 +19,14 @@ equals_in text = cut_from false 61 Plain text
 
 -- type/subtype, each a token.
 unfoldable pub is_essence : List ℕ → Bool
-is_essence text = nat_lt (slash_in text) (length text) && (is_token (take (slash_in text) text) && is_token (drop (slash_in text + 1) text))
+is_essence text = nat_lt (slash_in text) (length text)
+    && (is_token (take (slash_in text) text) && is_token (drop (slash_in text + 1) text))
 
 -- name=value, the name a token, the value a token or a quoted string.
 unfoldable pub is_pair : List ℕ → Bool
 is_pair text = nat_lt (equals_in text) (length text)
-    && (is_token (take (equals_in text) text) && (is_token (drop (equals_in text + 1) text) || is_quoted (drop (equals_in text + 1) text)))
+    && (is_token (take (equals_in text) text)
+    && (is_token (drop (equals_in text + 1) text) || is_quoted (drop (equals_in text + 1) text)))
 
 -- Between semicolons a parameter may be left out.
 unfoldable pub is_parameter : List ℕ → Bool
@@ -38,7 +40,8 @@ pub record Named : Type 0 where
 abbrev pub named_in : List (List ℕ) → Option Named
 named_in [] = None
 named_in (first ∷ others) =
-    if is_essence (trim first) && list_all is_parameter others then Some (record { essence = trim first; parameters = others }) else None
+    if is_essence (trim first) && list_all is_parameter others
+    then Some (record { essence = trim first; parameters = others }) else None
 
 unfoldable pub media_at : List ℕ → Option Named
 media_at text = named_in (pieces true 59 text)
@@ -52,14 +55,17 @@ value_of text = drop (equals_in text + 1) text
 
 abbrev pub value_in : List ℕ → List (List ℕ) → Option (List ℕ)
 value_in name [] = None
-value_in name (piece ∷ pieces) = if has_name name (trim piece) then Some (value_of (trim piece)) else value_in name pieces
+value_in name (piece ∷ pieces) =
+    if has_name name (trim piece) then Some (value_of (trim piece)) else value_in name pieces
 
--- What is left of a quoted string, from within it: a quoted pair is the byte that it quotes (section 5.6.4).
+-- What is left of a quoted string, from within it: a quoted pair is the byte that it quotes
+-- (section 5.6.4).
 abbrev pub quoted_rest : Scan → List ℕ → List ℕ
 quoted_rest scan [] = []
 quoted_rest Plain (b ∷ text) = []
 quoted_rest Quoted (b ∷ text) =
-    if b == 34 then [] else (if b == 92 then quoted_rest Escaped text else b ∷ quoted_rest Quoted text)
+    if b == 34 then []
+    else (if b == 92 then quoted_rest Escaped text else b ∷ quoted_rest Quoted text)
 quoted_rest Escaped (b ∷ text) = b ∷ quoted_rest Quoted text
 
 -- The bytes that what is left of a value stands for: within a quoted string, or outside of one.

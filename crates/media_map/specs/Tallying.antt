@@ -27,7 +27,12 @@ pub record Seen : Type 0 where
   pub best : Option (ℕ × Wanted)
 
 abbrev pub seen_by : Tally → Seen
-seen_by t = record { elements = t.elements; anything = t.anything; payload = t.payload; best = option_map choice_by t.best }
+seen_by t = record {
+  elements = t.elements;
+  anything = t.anything;
+  payload = t.payload;
+  best = option_map choice_by t.best;
+}
 
 abbrev pub nothing : Seen
 nothing = record { elements = false; anything = false; payload = false; best = None }
@@ -54,7 +59,8 @@ with_piece policy routes s piece = with_parsed policy routes s (element_at piece
 
 abbrev pub seen_from : Policy → List (Form × Form) → Seen → List (List ℕ) → Seen
 seen_from policy routes s [] = s
-seen_from policy routes s (piece ∷ pieces) = seen_from policy routes (with_piece policy routes s piece) pieces
+seen_from policy routes s (piece ∷ pieces) =
+    seen_from policy routes (with_piece policy routes s piece) pieces
 
 -- What the reader answers at the end.
 abbrev pub told : Seen → Result (Option Wanted) MediaFault

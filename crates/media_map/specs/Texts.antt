@@ -27,7 +27,8 @@ trim_end (b ∷ text) = if is_blank b && list_all is_blank text then [] else b �
 unfoldable pub trim : List ℕ → List ℕ
 trim text = trim_end (trim_start text)
 
--- Quoted strings (section 5.6.4) begin and end with a double quote; a backslash takes the next byte as it is.
+-- Quoted strings (section 5.6.4) begin and end with a double quote; a backslash takes the next byte
+-- as it is.
 abbrev pub step : Scan → ℕ → Scan
 step Plain b = if b == 34 then Quoted else Plain
 step Quoted b = if b == 34 then Plain else (if b == 92 then Escaped else Quoted)
@@ -66,7 +67,8 @@ joined separator (piece ∷ next ∷ pieces) = piece ++ separator ∷ joined sep
 abbrev pub cut_from : Bool → ℕ → Scan → List ℕ → ℕ
 cut_from quotes separator scan [] = 0
 cut_from quotes separator scan (b ∷ text) =
-    if is_plain scan && (b == separator) then 0 else suc (cut_from quotes separator (step_if quotes scan b) text)
+    if is_plain scan && (b == separator) then 0
+    else suc (cut_from quotes separator (step_if quotes scan b) text)
 
 -- The pieces of what stands after a piece: nothing, or a separator and more.
 abbrev pub behind : Bool → ℕ → List ℕ → List (List ℕ)

@@ -76,7 +76,8 @@ fn choice_for<'a>(
 
 // The first of the greater weight.
 fn better_of<'a>(best: Option<Choice<'a>>, other: Option<Choice<'a>>) -> Option<Choice<'a>>
-    ensures { option_map choice_by result ≡ chosen (option_map choice_by best.entry) (option_map choice_by other.entry) }
+    ensures { option_map choice_by result
+        ≡ chosen (option_map choice_by best.entry) (option_map choice_by other.entry) }
 {
     match (best, other) {
         (Some(best), Some(other)) if best.weight < other.weight => Some(other),
@@ -100,7 +101,8 @@ struct Tally<'a> {
 impl<'a> Tally<'a> {
     #[tactic(auto, unfolding(crate::specs::Accepting::is_payload))]
     fn with(self, policy: Policy, routes: &'a [(Form, Form)], element: &Element<'_>) -> Tally<'a>
-        ensures { seen_by result ≡ with_element policy routes.now (seen_by self.entry) (element_of element.now) }
+        ensures { seen_by result
+            ≡ with_element policy routes.now (seen_by self.entry) (element_of element.now) }
     {
         let wanted = element.weight > 0;
         Tally {
@@ -167,10 +169,10 @@ fn answer(tally: Tally<'_>) -> Result<Option<Pick<'_>>, MediaFault>
     }
 }
 
-/// What an Accept asks for, if it asks for anything: all its fields joined by commas, the empty one where there
-/// is none. Elements that are malformed don't count, and where one takes any type nothing is asked for. Refused
-/// is one none of whose elements can be had: with PassThrough where that is for `application/coap-payload`,
-/// else with Unmapped.
+/// What an Accept asks for, if anything. `accept` is all its fields joined by commas, empty if
+/// there is none. Malformed elements do not count, and if one accepts any type nothing is asked
+/// for. If no element can be had, the Accept is refused: with `PassThrough` if one names
+/// `application/coap-payload`, and otherwise with `Unmapped` (RFC 9110 section 12.5.1).
 pub fn accept_of(
     alloc: Global,
     accept: &[u8],
@@ -178,8 +180,10 @@ pub fn accept_of(
     routes: &Routes,
 ) -> Result<Option<Wanted>, MediaFault>
     ensures wanted { IfOk result (λ o. accept_at policy routes.now accept.now ≡ Ok o) }
-    ensures fault { IfErr result (λ e. e ≢ MediaFault.Memory → accept_at policy routes.now accept.now ≡ Err e) }
-    ensures memory { IsErrOf result MediaFault.Memory → (w : Wanted) × (accept_at policy routes.now accept.now ≡ Ok (Some w)) }
+    ensures fault { IfErr result (λ e. e ≢ MediaFault.Memory
+        → accept_at policy routes.now accept.now ≡ Err e) }
+    ensures memory { IsErrOf result MediaFault.Memory
+        → (w : Wanted) × (accept_at policy routes.now accept.now ≡ Ok (Some w)) }
 {
     match decide(accept, policy, routes.as_slice())? {
         Some(pick) => Ok(Some(pick.to_wanted(alloc)?)),

@@ -13,9 +13,9 @@ use crate::text::{is_same, trim};
 use crate::value::Value;
 use std::alloc::{AllocError, Global};
 
-/// The content format that a Content-Type says; None for blanks alone, which say nothing. Refused are, in
-/// this order, what is no media type (Syntax), `application/coap-payload` where it isn't passed through
-/// (PassThrough), and what has no format (Unmapped).
+/// The content format that a Content-Type says; None for blanks alone. Refused are, in this order,
+/// what is no media type (`Syntax`), `application/coap-payload` where it is not passed through
+/// (`PassThrough`), and what has no format (`Unmapped`).
 #[tactic(auto, unfolding(crate::specs::Formats::format_at))]
 pub fn format_of(content_type: &[u8], policy: Policy) -> Result<Option<u16>, MediaFault>
     ensures { result ≡ format_at policy content_type.now }

@@ -1,10 +1,10 @@
-//! Media types and CoAP content formats: what a Content-Type, an Accept and a Content-Format mean to each
-//! other (RFC 9110 sections 8.3 and 12.5.1, RFC 8075 section 6).
+//! Media types and CoAP content formats: what a Content-Type, an Accept and a Content-Format mean
+//! to one another (RFC 9110 sections 8.3 and 12.5.1, RFC 8075 section 6).
 //!
-//! One contract: each answer is read off a table of formats, off the pieces of the field's text, and off the
-//! routes along which bodies can be transformed; an Accept gives the first of the greatest weight that can be
-//! had. The mapping of requests and the rendering of answers stand on it, and so do the closures that
-//! transform bodies, whose pairs of forms are its routes.
+//! One contract: each answer is read off a table of formats, the pieces of the field's text, and
+//! the routes along which bodies can be transformed. An Accept gives the first of the greatest
+//! weight that can be had. Mapping requests and rendering answers stand on it, and so do the
+//! closures that transform bodies, whose pairs of forms are its routes.
 #![tactic(auto)]
 
 mod accept;

@@ -37,7 +37,8 @@ impl<'a> MediaType<'a> {
 
     /// The value of the first parameter of this name, as it is written.
     pub fn parameter(&self, name: &[u8]) -> Option<&'a [u8]>
-        ensures { option_map (λ v. v.now) result ≡ value_in name.now (named_of self.now).parameters }
+        ensures { option_map (λ v. v.now) result
+            ≡ value_in name.now (named_of self.now).parameters }
     {
         let mut rest = self.parameters;
         'each: while !rest.is_empty() {
@@ -96,7 +97,8 @@ fn are_parameters(text: &[u8]) -> bool
 // The value of the parameter, if it has the name.
 #[tactic(auto, unfolding(crate::specs::MediaTypes::has_name, crate::specs::MediaTypes::value_of, crate::specs::MediaTypes::equals_in))]
 fn value_if<'a>(text: &'a [u8], name: &[u8]) -> Option<&'a [u8]>
-    ensures { option_map (λ v. v.now) result ≡ (if has_name name.now text.now then Some (value_of text.now) else None) }
+    ensures { option_map (λ v. v.now) result
+        ≡ (if has_name name.now text.now then Some (value_of text.now) else None) }
 {
     let equals = cut(text, b'=', false);
     if equals < text.len() && is_same(&text[..equals], name) {

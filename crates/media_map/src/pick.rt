@@ -123,7 +123,8 @@ fn is_upward(from: &Form, to: &Form, media: &MediaType<'_>) -> bool
 }
 
 fn first_upward<'a>(routes: &'a [(Form, Form)], media: &MediaType<'_>) -> Option<&'a (Form, Form)>
-    ensures { option_map (λ r. r.now) result ≡ find (λ (pair : Form × Form). is_from (named_of media.now) pair.0 pair.1) routes.now }
+    ensures { option_map (λ r. r.now) result
+        ≡ find (λ (pair : Form × Form). is_from (named_of media.now) pair.0 pair.1) routes.now }
 {
     'each: for route in routes {
         if is_upward(&route.0, &route.1, media) {
@@ -133,8 +134,8 @@ fn first_upward<'a>(routes: &'a [(Form, Form)], media: &MediaType<'_>) -> Option
     None
 }
 
-/// The first route from the media type that a Content-Type says to a content format, if there is one: a body
-/// of that type is transformed along it, and sent in that format.
+/// The first route from the media type of a Content-Type to a content format, if there is one. A
+/// body of that type is transformed along it, and sent in that format.
 #[tactic(auto, unfolding(crate::specs::Accepting::route_at))]
 pub fn route_of<'a>(content_type: &[u8], routes: &'a Routes) -> Option<&'a (Form, Form)>
     ensures { option_map (λ r. r.now) result ≡ route_at routes.now content_type.now }

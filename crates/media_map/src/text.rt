@@ -121,7 +121,8 @@ pub fn trim(text: &[u8]) -> &[u8]
     trim_end(trim_start(text))
 }
 
-/// How many bytes stand before the first separator. With `quotes`, one inside a quoted string is none.
+/// How many bytes stand before the first separator. With `quotes`, a separator inside a quoted
+/// string does not count.
 pub fn cut(text: &[u8], separator: u8, quotes: bool) -> usize
     ensures at { result ≡ cut_from quotes separator Scan.Plain text.now }
     ensures within { result ≤ length text.now }
@@ -138,7 +139,8 @@ pub fn cut(text: &[u8], separator: u8, quotes: bool) -> usize
 
 /// The first piece, and what stands after it: nothing, or a separator and more.
 pub fn next_piece(text: &[u8], separator: u8, quotes: bool) -> (&[u8], &[u8])
-    ensures pieces { pieces quotes separator text.now ≡ result.0.now ∷ behind quotes separator result.1.now }
+    ensures pieces { pieces quotes separator text.now
+        ≡ result.0.now ∷ behind quotes separator result.1.now }
     ensures shorter { length result.1.now ≤ length text.now }
 {
     text.split_at(cut(text, separator, quotes))

@@ -5,8 +5,8 @@ ghost use Rattle.std.specs.Option.{option_map};
 ghost use Rattle.media_map.specs.MediaTypes.{same, unquoted, bytes_from, bytes_with};
 ghost use Rattle.media_map.specs.Views.{bytes_of, bytes_before};
 
-/// The value of a parameter, or what is left of it: a token, or a quoted string, in which a quoted pair
-/// stands for the byte that it quotes (RFC 9110 sections 5.6.4 and 5.6.6).
+/// The value of a parameter, or what is left of it: a token, or a quoted string, in which a quoted
+/// pair stands for the byte that it quotes (RFC 9110 sections 5.6.4 and 5.6.6).
 #[derive(Clone, Copy)]
 pub struct Value<'a> {
     quoted: bool,
@@ -26,7 +26,8 @@ fn first_plain(text: &[u8]) -> Option<(u8, &[u8])>
 
 /// The first byte that what is left of a quoted string stands for, and what is left after it.
 fn first_quoted(text: &[u8]) -> Option<(u8, &[u8])>
-    ensures bytes { bytes_from true text.now ≡ bytes_with true (option_map (λ x. (x.0, x.1.now)) result) }
+    ensures bytes { bytes_from true text.now
+        ≡ bytes_with true (option_map (λ x. (x.0, x.1.now)) result) }
     ensures shorter { IfSome result (λ x. length x.1.now < length text.now) }
 {
     match text {
@@ -70,7 +71,7 @@ impl<'a> Value<'a> {
         ))
     }
 
-    /// Whether it stands for this text, without case.
+    /// Whether it stands for this text, in upper or lower case.
     pub fn says(&self, text: &[u8]) -> bool
         ensures { result ≡ same (bytes_of self.now) text.now }
     {
