@@ -23,7 +23,8 @@ ipv4_of text = option_map (λ octets. record { octets = octets }) (whole_value (
 
 -- The address that the whole text writes (RFC 4291, section 2.2).
 unfoldable pub ipv6_of : List ℕ → Option Ipv6Addr
-ipv6_of text = option_map (λ segments. record { segments = segments }) (whole_value (read_ipv6 text))
+ipv6_of text =
+    option_map (λ segments. record { segments = segments }) (whole_value (read_ipv6 text))
 
 -- what stands after `[` or `%5B`
 abbrev pub behind_opening : List ℕ → Option (List ℕ)
@@ -45,14 +46,16 @@ behind_closing (a ∷ b ∷ c ∷ rest) =
 
 -- the address at the front, and what stands after its digits and colons
 unfoldable pub address_at : List ℕ → Option (Ipv6Addr × List ℕ)
-address_at text = option_map (λ a. (a, from_first ends_address text)) (ipv6_of (before_first ends_address text))
+address_at text =
+    option_map (λ a. (a, from_first ends_address text)) (ipv6_of (before_first ends_address text))
 
 abbrev pub closed : Ipv6Addr × List ℕ → Option (Ipv6Addr × List ℕ)
 closed x = option_map (λ rest. (x.0, rest)) (behind_closing x.1)
 
 -- the address in brackets at the front, and what stands after it
 unfoldable pub bracketed_at : List ℕ → Option (Ipv6Addr × List ℕ)
-bracketed_at text = option_and_then (λ inner. option_and_then closed (address_at inner)) (behind_opening text)
+bracketed_at text =
+    option_and_then (λ inner. option_and_then closed (address_at inner)) (behind_opening text)
 
 -- the number that decimal digits write
 abbrev pub decimal : List ℕ → Option ℕ

@@ -30,7 +30,8 @@ is_refused Query bytes = false
 -- the text that a piece stands for
 unfoldable pub text_at : Part → List ℕ → Result (List ℕ) UriFault
 text_at part piece =
-    if well_escaped piece && is_utf8 (percent_decode piece) && not (is_refused part (percent_decode piece))
+    if well_escaped piece && is_utf8 (percent_decode piece)
+    && not (is_refused part (percent_decode piece))
     then Ok (percent_decode piece) else Err Escape
 
 -- the text of each piece, or the first fault

@@ -29,7 +29,8 @@ host_options (V6 address) = []
 
 -- Uri-Host, each Uri-Path, each Uri-Query; never Uri-Port
 abbrev pub options_for : Host → List (List ℕ) → List (List ℕ) → List Entry
-options_for host path query = host_options host ++ options_with (number Path) path ++ options_with (number Query) query
+options_for host path query =
+    host_options host ++ options_with (number Path) path ++ options_with (number Query) query
 
 abbrev pub uri_options : Target → List Entry
 uri_options t = options_for t.host t.path t.query
@@ -42,7 +43,8 @@ extra n = if nat_lt n 13 then 0 else (if nat_lt n 269 then 1 else 2)
 abbrev pub spelled_len : ℕ → List Entry → ℕ
 spelled_len before [] = 0
 spelled_len before (o ∷ os) =
-    1 + extra (o.number - before) + extra (length o.value) + length o.value + spelled_len o.number os
+    1 + extra (o.number - before) + extra (length o.value) + length o.value
+    + spelled_len o.number os
 
 abbrev pub is_short : Entry → Bool
 is_short o = nat_le (length o.value) 255

@@ -11,7 +11,8 @@ use Rattle.uri_map.specs.Escapes.{part_at}
 use Rattle.uri_map.specs.Authority.{authority_at}
 use Rattle.uri_map.specs.Limits.{within_limits}
 
--- The target, or the first fault: of the base, the scheme, the authority, the path, the query, the limits.
+-- The target, or the first fault, in this order: of the base, the scheme, the authority, the path,
+-- the query, the limits.
 unfoldable pub target_at : List ℕ → List ℕ → Result Target UriFault
 target_at base text = do
   below ← behind_base base text

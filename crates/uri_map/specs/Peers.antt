@@ -23,7 +23,8 @@ pub record Lines : Type 0 where
 -- the address of the first line with the name
 abbrev pub address_in : List Listed → List ℕ → Option IpAddr
 address_in [] name = None
-address_in (line ∷ others) name = if bytes_eq line.name name then Some line.address else address_in others name
+address_in (line ∷ others) name =
+    if bytes_eq line.name name then Some line.address else address_in others name
 
 abbrev pub literal : Bool → IpAddr → Option IpAddr
 literal taken address = if taken then Some address else None
@@ -70,7 +71,8 @@ plain_at text =
 
 abbrev pub v4_peer : List ℕ → Option Peer
 v4_peer text =
-    option_and_then (λ a. option_map (λ port. peer_with port (Ip.V4 a)) (written_port (from_first (λ b. b == 58) text)))
+    option_and_then (λ a. option_map (λ port. peer_with port (Ip.V4 a))
+    (written_port (from_first (λ b. b == 58) text)))
     (ipv4_of (before_first (λ b. b == 58) text))
 
 abbrev pub peer_of_parts : Option (Ipv6Addr × List ℕ) → List ℕ → Option Peer

@@ -25,7 +25,8 @@ room_behind number len room =
 abbrev pub rooms_behind : ℕ → List (List ℕ) → Room → Result Room UriFault
 rooms_behind number [] room = Ok room
 rooms_behind number (piece ∷ others) room =
-    room_behind number (length (percent_decode piece)) room >>= λ next. rooms_behind number others next
+    room_behind number (length (percent_decode piece)) room
+    >>= λ next. rooms_behind number others next
 
 abbrev pub host_room : Host → Room → Result Room UriFault
 host_room (Host.Name name) room = room_behind 3 (length name) room

@@ -22,10 +22,12 @@ view_next (Ok None) = Ok None
 view_next (Ok (Some text)) = Ok (Some text.now)
 view_next (Err e) = Err e
 
--- A good byte or escape stands in front of a shorter text, or nothing does, or the text is badly escaped.
+-- A good byte or escape stands in front of a shorter text; or the text is empty; or it is badly
+-- escaped.
 abbrev pub Escapes : Result (Option (List ℕ)) UriFault → List ℕ → Type 0
 Escapes (Ok None) text = well_escaped text ≡ true
-Escapes (Ok (Some rest)) text = (well_escaped text ≡ well_escaped rest) × (length rest < length text)
+Escapes (Ok (Some rest)) text = (well_escaped text ≡ well_escaped rest)
+    × (length rest < length text)
 Escapes (Err e) text = (e ≡ Escape) × (well_escaped text ≡ false)
 
 -- The result is Ok where the test is true, and else the fault.
@@ -52,12 +54,13 @@ NameFound (Some found) name = (found ≡ name) × (is_name name ≡ true)
 -- The parts that are written stand for the target that reading gives.
 abbrev pub Stands : Written → Result Target UriFault → Type 0
 Stands w read =
-    (path : List (List ℕ)) × (query : List (List ℕ))
-    × (part_at Path (option_view w.path) ≡ Ok path) × (part_at Query (option_view w.query) ≡ Ok query)
+    (path : List (List ℕ)) × (query : List (List ℕ)) × (part_at Path (option_view w.path) ≡ Ok path)
+    × (part_at Query (option_view w.query) ≡ Ok query)
     × (read ≡ Ok (record { host = host_view w.host; port = w.port; path = path; query = query }))
 
 -- The target has the values of the parts that are written.
 abbrev pub IsBuilt : Written → Target → Type 0
 IsBuilt w t =
     (t.host ≡ host_view w.host) × (t.port ≡ w.port)
-    × (part_at Path (option_view w.path) ≡ Ok t.path) × (part_at Query (option_view w.query) ≡ Ok t.query)
+    × (part_at Path (option_view w.path) ≡ Ok t.path)
+    × (part_at Query (option_view w.query) ≡ Ok t.query)

@@ -13,14 +13,15 @@ from_first p text = drop (position_or_len p text) text
 
 -- what stands after the base
 abbrev pub behind_base : List ℕ → List ℕ → Result (List ℕ) UriFault
-behind_base base text = if starts_with nat_eq text base then Ok (drop (length base) text) else Err OtherBase
+behind_base base text =
+    if starts_with nat_eq text base then Ok (drop (length base) text) else Err OtherBase
 
 -- `coap` in any case
 abbrev pub is_coap : List ℕ → Bool
 is_coap scheme = str_eq_ignore_ascii_case scheme (codes "coap")
 
--- Before the first `/` or `?` stands a scheme where that ends with `:`, and `//` follows. The scheme
--- `coap`, in any case, is dropped with them. Without a scheme it is `coap`.
+-- What stands before the first `/` or `?` is a scheme if it ends with `:` and `//` follows. The
+-- scheme `coap`, in upper or lower case, is dropped with them; without a scheme, `coap` is meant.
 abbrev pub behind_scheme : List ℕ → Result (List ℕ) UriFault
 behind_scheme text =
     let front = before_first ends_authority text in
@@ -30,7 +31,7 @@ behind_scheme text =
     then Ok (drop 2 rest) else Err Scheme)
     else Ok text
 
--- Of what follows an authority: the path after its first `/`, unless the path is empty or `/` alone.
+-- Of what follows an authority: the path after its first `/`, unless the path is empty or just `/`.
 abbrev pub written_path : List ℕ → Option (List ℕ)
 written_path text =
     let path = before_first (λ b. b == 63) text in

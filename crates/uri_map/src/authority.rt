@@ -29,7 +29,8 @@ impl Model for HostName {
 
     ghost view = { λ n. take n.len n.bytes };
 
-    ghost invariant = { λ n. (n.len ≤ 255) × (length n.bytes ≡ 255) × (is_utf8 (take n.len n.bytes) ≡ true) };
+    ghost invariant = { λ n.
+        (n.len ≤ 255) × (length n.bytes ≡ 255) × (is_utf8 (take n.len n.bytes) ≡ true) };
 }
 
 impl HostName {

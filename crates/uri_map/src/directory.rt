@@ -49,7 +49,8 @@ impl Directory {
 
     /// Lists a name, which is kept in lower case. Of equal names the first counts.
     pub fn add(&mut self, name: &str, address: IpAddr) -> Result<(), AllocError>
-        ensures ok { OnOk result (self.new.lines ≡ self.old.lines ++ record { name = str_to_ascii_lowercase name.now; address = address } ∷ []) }
+        ensures ok { OnOk result (self.new.lines ≡ self.old.lines
+            ++ record { name = str_to_ascii_lowercase name.now; address = address } ∷ []) }
         ensures err { OnErr result (self.new.lines ≡ self.old.lines) }
         ensures literals { self.new.literals ≡ self.old.literals }
     {

@@ -47,8 +47,11 @@ impl Part {
 
 /// The next value of what is left of a part, and what is left then.
 pub(crate) fn next_piece(part: Part, left: Option<&[u8]>) -> Option<(&[u8], Option<&[u8]>)>
-    ensures pieces { MatchOption result (pieces (spec.separator part) (option_view left.entry) ≡ []) (λ x. pieces (spec.separator part) (option_view left.entry) ≡ x.0.now ∷ pieces (spec.separator part) (option_view x.1)) }
-    ensures shorter { MatchOption result (left.entry ≡ left.entry) (λ x. scan.left_len (option_view x.1) < scan.left_len (option_view left.entry)) }
+    ensures pieces { MatchOption result (pieces (spec.separator part) (option_view left.entry) ≡ [])
+        (λ x. pieces (spec.separator part) (option_view left.entry)
+        ≡ x.0.now ∷ pieces (spec.separator part) (option_view x.1)) }
+    ensures shorter { MatchOption result (left.entry ≡ left.entry)
+        (λ x. scan.left_len (option_view x.1) < scan.left_len (option_view left.entry)) }
 {
     let text = left?;
     let end = index_of(Mark::Byte(part.separator()), text);

@@ -77,7 +77,8 @@ fn push_group(out: &mut Vec<u8>, n: u16) -> Result<(), AllocError>
 
 /// Appends groups, each after a colon.
 fn push_other_groups(out: &mut Vec<u8>, segments: &[u16]) -> Result<(), AllocError>
-    ensures { OnOk result (out.new.items ≡ out.old.items ++ flat_map (λ n. codes ":" ++ hex n) segments.now) }
+    ensures { OnOk result (out.new.items
+        ≡ out.old.items ++ flat_map (λ n. codes ":" ++ hex n) segments.now) }
 {
     'each: for segment in segments {
         out.push(b':')?;
@@ -154,7 +155,8 @@ fn push_query(alloc: Global, out: &mut Vec<u8>, texts: &[Text]) -> Result<(), Al
     Ok(())
 }
 
-/// The text under which the proxy hosts the target below the base. `target_of` gives the target back.
+/// The text under which the proxy hosts the target, below the base (RFC 8075 section 5.3).
+/// `target_of` gives the target back.
 pub fn hosting_of(alloc: Global, base: &[u8], target: &Target) -> Result<Vec<u8>, AllocError>
     ensures { IfOk result (λ v. v.items ≡ spec.hosting base.now target.now) }
 {

@@ -17,12 +17,15 @@ pub fn addresses_read()
 
 /// The options of a target that a text names take at most 960 bytes of a message.
 pub fn options_fit()
-    ensures { (base text bytes : List ℕ) (t : Target) → target_at base text ≡ Ok t → SpellsOptions 0 (uri_options t) bytes → length bytes ≤ 960 }
+    ensures { (base text bytes : List ℕ) (t : Target) → target_at base text ≡ Ok t
+        → SpellsOptions 0 (uri_options t) bytes → length bytes ≤ 960 }
 {}
 
 /// The text under which a target is hosted names that target again, whichever text named it. So no
 /// two targets are hosted under one text.
 pub fn hosted_is_read()
-    ensures again { (base text : List ℕ) (t : Target) → target_at base text ≡ Ok t → target_at base (hosting base t) ≡ Ok t }
-    ensures only { (base text other : List ℕ) (t u : Target) → target_at base text ≡ Ok t → target_at base other ≡ Ok u → hosting base t ≡ hosting base u → t ≡ u }
+    ensures again { (base text : List ℕ) (t : Target) → target_at base text ≡ Ok t
+        → target_at base (hosting base t) ≡ Ok t }
+    ensures only { (base text other : List ℕ) (t u : Target) → target_at base text ≡ Ok t
+        → target_at base other ≡ Ok u → hosting base t ≡ hosting base u → t ≡ u }
 {}

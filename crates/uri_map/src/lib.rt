@@ -1,10 +1,10 @@
-//! Which resource of a CoAP server a request target of the proxy names (RFC 8075, section 5.3), and
-//! back: the target's parts (RFC 7252, section 6.4), the options that carry them, the peer that
+//! Which resource of a CoAP server a request target of the proxy names (RFC 8075 section 5.3), and
+//! back: the target's parts (RFC 7252 section 6.4), the options that carry them, the peer that
 //! serves them, and the text under which the proxy hosts them.
 //!
-//! The one contract: `target_of` is the partial function `target_at` of `specs/`, which splits whole
-//! texts, with its faults in their order. Whoever maps requests to CoAP stands on it. What
-//! `hosting_of` writes for a target is read as that target (`hosted_is_read`).
+//! The one contract: `target_of` is the partial function `target_at` of `specs/`, which splits
+//! whole texts and gives the first fault. Mapping requests stands on it. What `hosting_of` writes
+//! for a target is read as that target (`hosted_is_read`).
 #![tactic(auto)]
 
 mod address;

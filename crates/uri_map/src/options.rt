@@ -13,7 +13,8 @@ use std::alloc::{AllocError, Global};
 
 /// Appends an option with the text.
 fn push_text(alloc: Global, out: &mut Vec<Opt>, number: u16, text: &Text) -> Result<(), AllocError>
-    ensures { OnOk result (entries out.new.items ≡ entries out.old.items ++ option_with number text.now ∷ []) }
+    ensures { OnOk result (entries out.new.items ≡ entries out.old.items
+        ++ option_with number text.now ∷ []) }
 {
     let value = Vec::from_slice(alloc, text.as_bytes())?;
     out.push(Opt { number, value })?;
@@ -27,7 +28,8 @@ fn push_texts(
     number: u16,
     texts: &[Text],
 ) -> Result<(), AllocError>
-    ensures { OnOk result (entries out.new.items ≡ entries out.old.items ++ options_with number texts.now) }
+    ensures { OnOk result (entries out.new.items ≡ entries out.old.items
+        ++ options_with number texts.now) }
 {
     'each: for text in texts {
         push_text(alloc, out, number, text)?;
@@ -35,9 +37,9 @@ fn push_texts(
     Ok(())
 }
 
-/// The options of a request for the target, in the order of their numbers: Uri-Host for a name,
-/// Uri-Path for each segment, Uri-Query for each argument. The port goes by the peer, so there is no
-/// Uri-Port.
+/// The options of a request for the target, in ascending order of number: Uri-Host for a name,
+/// Uri-Path for each segment, Uri-Query for each argument (RFC 7252 section 6.4). The port is the
+/// peer's, so there is no Uri-Port.
 pub fn options_of(alloc: Global, target: &Target) -> Result<Vec<Opt>, AllocError>
     ensures { IfOk result (λ v. entries v.items ≡ uri_options target.now) }
 {

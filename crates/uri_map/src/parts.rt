@@ -18,7 +18,7 @@ pub(crate) fn behind_base<'a>(base: &[u8], text: &'a [u8]) -> Result<&'a [u8], U
     }
 }
 
-/// Whether the text is `coap`, in any case.
+/// Whether the text is `coap`, in upper or lower case.
 fn is_coap(scheme: &[u8]) -> bool
     ensures { result ≡ split.is_coap scheme.now }
 {
@@ -74,8 +74,8 @@ fn is_scheme(text: &[u8]) -> bool
     }
 }
 
-/// The path and query of a request target: what follows the authority in absolute form, and otherwise
-/// all (RFC 9112, section 3.2).
+/// The path and query of a request target: what follows the authority in absolute form, and
+/// otherwise all (RFC 9112, section 3.2).
 pub fn path_and_query(text: &[u8]) -> &[u8]
     ensures { result.now ≡ split.origin_form text.now }
 {

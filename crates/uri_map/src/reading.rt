@@ -79,7 +79,8 @@ pub(crate) struct Written<'a> {
 /// The target that the text names, as it is written there, or the first fault.
 #[tactic(auto, unfolding(crate::specs::Naming::target_at))]
 fn written_of<'a>(base: &[u8], text: &'a [u8]) -> Result<Written<'a>, UriFault>
-    ensures { MatchResult result (λ w. Stands w (target_at base.now text.now)) (λ e. target_at base.now text.now ≡ Err e) }
+    ensures { MatchResult result (λ w. Stands w (target_at base.now text.now))
+        (λ e. target_at base.now text.now ≡ Err e) }
 {
     let below = behind_base(base, text)?;
     let rest = behind_scheme(below)?;
@@ -119,7 +120,8 @@ fn build(alloc: Global, written: &Written<'_>) -> Result<Target, UriFault>
 pub fn target_of(alloc: Global, base: &[u8], text: &[u8]) -> Result<Target, UriFault>
     ensures exact { GivesLast result (target_at base.now text.now) }
     // Memory runs out only at a target.
-    ensures memory { IsErrOf result UriFault.Memory → (t : Target) × (target_at base.now text.now ≡ Ok t) }
+    ensures memory { IsErrOf result UriFault.Memory
+        → (t : Target) × (target_at base.now text.now ≡ Ok t) }
 {
     let written = written_of(base, text)?;
     build(alloc, &written)

@@ -92,7 +92,8 @@ impl Room {
     fn behind_part(self, part: Part, text: Option<&[u8]>) -> Result<Room, UriFault>
         requires order { self.number ≤ limits.number part }
         requires room { self.left ≤ 960 }
-        ensures room { result ≡ rooms.rooms_behind (limits.number part) (pieces (separator part) (option_view text.entry)) self }
+        ensures room { result ≡ rooms.rooms_behind (limits.number part)
+            (pieces (separator part) (option_view text.entry)) self }
         ensures order { IfOk result (λ r. (r.number ≤ limits.number part) × (r.left ≤ 960)) }
     {
         let mut room = self;
@@ -112,7 +113,8 @@ pub(crate) fn room_for(
     path: Option<&[u8]>,
     query: Option<&[u8]>,
 ) -> Result<Room, UriFault>
-    ensures { result ≡ rooms.room_for (host_view host.now) (pieces 47 (option_view path.entry)) (pieces 38 (option_view query.entry)) }
+    ensures { result ≡ rooms.room_for (host_view host.now) (pieces 47 (option_view path.entry))
+        (pieces 38 (option_view query.entry)) }
 {
     let room = Room::new().behind_host(host)?;
     let room = room.behind_part(Part::Path, path)?;

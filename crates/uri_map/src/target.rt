@@ -17,8 +17,8 @@ pub enum Host {
     V6(Ipv6Addr),
 }
 
-/// A resource of a CoAP server: its host, its UDP port, and the values of its Uri-Path and Uri-Query
-/// options in order (RFC 7252, section 6.4).
+/// A resource of a CoAP server: its host, its UDP port, and the values of its Uri-Path and
+/// Uri-Query options in order (RFC 7252, section 6.4).
 #[derive(Drop, PartialEq, Eq)]
 pub struct Target {
     pub host: Host,

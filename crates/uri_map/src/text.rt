@@ -3,7 +3,8 @@
 use std::alloc::{AllocError, AllocFailed, Global};
 use std::marker::Model;
 
-/// A text in UTF-8, as the value of a Uri-Host, Uri-Path or Uri-Query option. Contracts see its bytes.
+/// A text in UTF-8, such as the value of a Uri-Host, Uri-Path or Uri-Query. Contracts see its
+/// bytes.
 #[derive(Debug, Drop)]
 pub struct Text {
     text: String,
@@ -88,7 +89,7 @@ impl Eq for Text {
     ghost laws = { nat_list_eq_equiv };
 }
 
-/// Texts in order: the segments of a path, or the arguments of a query. Contracts see the list of their bytes.
+/// Texts in order: the segments of a path, or the arguments of a query. Contracts see their bytes.
 #[derive(Debug, Drop)]
 pub struct Texts {
     items: Vec<Text>,

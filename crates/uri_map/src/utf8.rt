@@ -10,8 +10,11 @@ use std::str::from_utf8;
 
 /// Whether the byte begins a character, and the bytes after it, which are taken, complete it.
 fn ends_char(first: u8, bytes: &mut PercentDecode<'_>) -> bool
-    ensures good { result ≡ true → IsUtf8 (first ∷ take (continuation_len first) (decoded_bytes bytes.old)) × (decoded_bytes bytes.new ≡ drop (continuation_len first) (decoded_bytes bytes.old)) }
-    ensures bad { result ≡ false → ¬ (IsUtf8 (first ∷ take (continuation_len first) (decoded_bytes bytes.old))) }
+    ensures good { result ≡ true
+        → IsUtf8 (first ∷ take (continuation_len first) (decoded_bytes bytes.old))
+        × (decoded_bytes bytes.new ≡ drop (continuation_len first) (decoded_bytes bytes.old)) }
+    ensures bad { result ≡ false
+        → ¬ (IsUtf8 (first ∷ take (continuation_len first) (decoded_bytes bytes.old))) }
 {
     if first < 0x80 {
         return true;
