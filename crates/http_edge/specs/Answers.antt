@@ -23,8 +23,10 @@ field_line f = f.name.now ++ codes ": " ++ f.value.items ++ crlf_bytes
 
 -- The status line.
 abbrev pub status_line : ℕ → List ℕ → List ℕ
-status_line status phrase = codes "HTTP/1.1 " ++ digits_of status ++ codes " " ++ phrase ++ crlf_bytes
+status_line status phrase =
+    codes "HTTP/1.1 " ++ digits_of status ++ codes " " ++ phrase ++ crlf_bytes
 
 -- The whole answer: the status line, the fields in order, an empty line and the body.
 abbrev pub answer_text : HttpAnswer → List ℕ
-answer_text a = status_line a.status a.phrase.now ++ flat_map field_line a.fields.items ++ crlf_bytes ++ body_bytes a.body
+answer_text a = status_line a.status a.phrase.now ++ flat_map field_line a.fields.items
+    ++ crlf_bytes ++ body_bytes a.body

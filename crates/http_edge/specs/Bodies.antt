@@ -18,7 +18,8 @@ use Rattle.http_edge.specs.Reading.{TakesBody, NeverTakes}
 -- A text is chunks of those bytes, and then the rest; so many bytes came then.
 abbrev pub Chunks : ℕ → List ℕ → List (List ℕ) → List ℕ → ℕ → Type 0
 Chunks before text [] rest after = (rest ≡ text) × (after ≡ before)
-Chunks before text (c ∷ cs) rest after = (behind : List ℕ) × BeginsChunk before text c behind × Chunks (before + length c) behind cs rest after
+Chunks before text (c ∷ cs) rest after = (behind : List ℕ) × BeginsChunk before text c behind
+    × Chunks (before + length c) behind cs rest after
 
 -- Chunks, and then a chunk's line.
 pub record BehindLine (text : List ℕ) (size : ℕ) (behind body : List ℕ) : Type 0 where
@@ -42,7 +43,8 @@ AtLine body unread text =
 -- Bytes of a chunk came in, and so many of them are missing.
 abbrev pub InData : ℕ → List ℕ → List ℕ → List ℕ → Type 0
 InData missing body unread text =
-    (front : List ℕ) × (got : List ℕ) × BehindLine text (length got + missing) (got ++ unread) front × (0 < length got + missing) × (body ≡ front ++ got)
+    (front : List ℕ) × (got : List ℕ) × BehindLine text (length got + missing) (got ++ unread) front
+    × (0 < length got + missing) × (body ≡ front ++ got)
 
 -- The line of the last chunk came in.
 abbrev pub AtTrailers : List ℕ → List ℕ → List ℕ → Type 0
@@ -50,7 +52,8 @@ AtTrailers body unread text = BehindLine text 0 unread body
 
 -- The body so far and the unread bytes are those of the text, whose body is so framed.
 abbrev pub SoFar : Framing → Left → List ℕ → List ℕ → List ℕ → Type 0
-SoFar f (Bytes missing) body unread text = (f ≡ Sized (length body + missing)) × (text ≡ body ++ unread)
+SoFar f (Bytes missing) body unread text = (f ≡ Sized (length body + missing))
+    × (text ≡ body ++ unread)
 SoFar f Line body unread text = (f ≡ Chunked) × AtLine body unread text
 SoFar f (Data missing) body unread text = (f ≡ Chunked) × InData missing body unread text
 SoFar f Trailers body unread text = (f ≡ Chunked) × AtTrailers body unread text
@@ -74,7 +77,8 @@ pub record OpenTrailers (text : List ℕ) : Type 0 where
 abbrev pub ChunkLeaves : List ℕ → List ℕ → Type 0
 ChunkLeaves text rest =
     (HasNoChunkLine text × (rest ≡ text))
-    ⊎ ((l : ChunkLine) × (behind : List ℕ) × BeginsLine text l behind × (rest ≡ drop (chunk_size l) behind))
+    ⊎ ((l : ChunkLine) × (behind : List ℕ) × BeginsLine text l behind
+    × (rest ≡ drop (chunk_size l) behind))
 
 -- What is left of a chunked body that isn't whole, after all whole chunks (RFC 9112, section 7.1).
 pub record ChunksLeave (text rest : List ℕ) : Type 0 where
@@ -96,11 +100,13 @@ BodyLeaves (Refused k) text rest = ⊥
 abbrev pub Goes : Framing → Next → Left → List ℕ → List ℕ → List ℕ → Type 0
 Goes f On left body unread text = SoFar f left body unread text
 Goes f Whole left body unread text = TakesBody f text body unread
-Goes f Wait left body unread text = SoFar f left body unread text × (NoBody f text ⊎ ((f ≡ Chunked) × OpenTrailers text)) × BodyLeaves f text unread
+Goes f Wait left body unread text = SoFar f left body unread text
+    × (NoBody f text ⊎ ((f ≡ Chunked) × OpenTrailers text)) × BodyLeaves f text unread
 Goes f (Bad kind) left body unread text = NeverTakes f text kind
 
 -- What all steps that there are bytes for come to.
 abbrev pub Comes : Framing → Fill → Left → List ℕ → List ℕ → List ℕ → Type 0
 Comes f filled.Whole left body unread text = TakesBody f text body unread
-Comes f filled.Wait left body unread text = SoFar f left body unread text × (NoBody f text ⊎ ((f ≡ Chunked) × OpenTrailers text)) × BodyLeaves f text unread
+Comes f filled.Wait left body unread text = SoFar f left body unread text
+    × (NoBody f text ⊎ ((f ≡ Chunked) × OpenTrailers text)) × BodyLeaves f text unread
 Comes f (filled.Bad kind) left body unread text = NeverTakes f text kind

@@ -26,7 +26,8 @@ pub record BeginsTrailers (text rest : List ℕ) : Type 0 where
 
 -- No continuation begins with trailers within the limits.
 abbrev pub NeverTrailers : List ℕ → Type 0
-NeverTrailers text = SectionOverflows 64 text ⊎ ((8192 ≤ length text) × HasNoSection (take 8192 text))
+NeverTrailers text = SectionOverflows 64 text
+    ⊎ ((8192 ≤ length text) × HasNoSection (take 8192 text))
 
 -- So many bytes, and a line end after them.
 abbrev pub BeginsData : ℕ → List ℕ → List ℕ → List ℕ → Type 0
@@ -73,9 +74,11 @@ RefusedChunk before text kind = (NeverLine text × (kind ≡ Syntax)) ⊎ Refuse
 -- A text is chunks of those bytes, and then the last.
 abbrev pub TakesChunks : ℕ → List ℕ → List (List ℕ) → List ℕ → Type 0
 TakesChunks before text [] rest = BeginsLast text rest
-TakesChunks before text (c ∷ cs) rest = (behind : List ℕ) × BeginsChunk before text c behind × TakesChunks (before + length c) behind cs rest
+TakesChunks before text (c ∷ cs) rest = (behind : List ℕ) × BeginsChunk before text c behind
+    × TakesChunks (before + length c) behind cs rest
 
 -- A text is chunks of those bytes, and then something refused.
 abbrev pub FailsChunks : ℕ → List ℕ → List (List ℕ) → BadKind → Type 0
 FailsChunks before text [] kind = RefusedChunk before text kind
-FailsChunks before text (c ∷ cs) kind = (behind : List ℕ) × BeginsChunk before text c behind × FailsChunks (before + length c) behind cs kind
+FailsChunks before text (c ∷ cs) kind = (behind : List ℕ) × BeginsChunk before text c behind
+    × FailsChunks (before + length c) behind cs kind

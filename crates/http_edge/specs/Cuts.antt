@@ -8,11 +8,13 @@ use Rattle.http_edge.specs.Edges.{item, Stands, Steps, Waits}
 
 -- The edge took those bytes.
 abbrev pub Fed : Edge → List ℕ → Edge → Type 0
-Fed old bytes new = ((text : List ℕ) → Stands old text → Stands new (text ++ bytes)) × (new.ended ≡ old.ended)
+Fed old bytes new = ((text : List ℕ) → Stands old text → Stands new (text ++ bytes))
+    × (new.ended ≡ old.ended)
 
 -- The edge gave that.
 abbrev pub Gave : Edge → Result (Option Incoming) Memory → Edge → Type 0
-Gave old result new = ((text : List ℕ) → Stands old text → Steps result new text) × (old.ended ≡ true → (result ≡ Ok None) × (new.ended ≡ true))
+Gave old result new = ((text : List ℕ) → Stands old text → Steps result new text)
+    × (old.ended ≡ true → (result ≡ Ok None) × (new.ended ≡ true))
 
 -- A call, and the edge after it.
 pub data Act : Type 0 where
@@ -42,17 +44,21 @@ items_of (gave result new ∷ acts) = given result (items_of acts)
 -- However the text is cut, what is given is the first of what it reads as.
 abbrev pub HoweverCut : Type 0
 HoweverCut =
-    (e : Edge) (acts : List Act) (text : List ℕ) (items : List Item) (rest : List ℕ) → Stands e text → Run e acts
-    → Reads (text ++ text_of acts) items rest → (others : List Item) × (items ≡ items_of acts ++ others)
+    (e : Edge) (acts : List Act) (text : List ℕ) (items : List Item) (rest : List ℕ)
+    → Stands e text → Run e acts
+    → Reads (text ++ text_of acts) items rest
+    → (others : List Item) × (items ≡ items_of acts ++ others)
 
 -- The items stand at the front, one after the other, and each leaves the connection open.
 abbrev pub Taken : List ℕ → List Item → List ℕ → Type 0
 Taken text [] rest = rest ≡ text
-Taken text (i ∷ items) rest = (behind : List ℕ) × First text i behind × (closes i ≡ false) × Taken behind items rest
+Taken text (i ∷ items) rest = (behind : List ℕ) × First text i behind × (closes i ≡ false)
+    × Taken behind items rest
 
 -- The items are those that the text reads as, or the parser waits behind them.
 abbrev pub ReadsAll : List ℕ → List Item → Type 0
-ReadsAll text items = ((rest : List ℕ) × Reads text items rest) ⊎ ((rest : List ℕ) × Taken text items rest × Waits rest)
+ReadsAll text items = ((rest : List ℕ) × Reads text items rest)
+    ⊎ ((rest : List ℕ) × Taken text items rest × Waits rest)
 
 -- The last call answered None.
 abbrev pub EndsInNone : List Act → Type 0

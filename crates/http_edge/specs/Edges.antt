@@ -42,7 +42,8 @@ Waits text = HeadWaits text ⊎ TrailersWait text
 
 -- Each continuation of the head has more than 64 fields, or of the trailers.
 abbrev pub HasTooMany : List ℕ → Type 0
-HasTooMany text = RequestOverflows 64 text ⊎ ((t : TrailersWait text) × SectionOverflows 64 t.waits.unread)
+HasTooMany text = RequestOverflows 64 text
+    ⊎ ((t : TrailersWait text) × SectionOverflows 64 t.waits.unread)
 
 -- What the head at the front of unread bytes says.
 abbrev pub IsStart : List ℕ → Start → Type 0
@@ -50,7 +51,8 @@ IsStart text Wait = HeadWaits text
 IsStart text (Bad kind) = IsRefused text kind
 IsStart text (Head b n) =
     (h : RequestHead) × BeginsWith text h (drop n text) × (n ≤ length text)
-    × SoFar (framing h) b.left [] (drop n text) (drop n text) × (content b.request ≡ content_of h []) × (b.wants ≡ expects h) × (b.told ≡ false) × (0 < n)
+    × SoFar (framing h) b.left [] (drop n text) (drop n text)
+    × (content b.request ≡ content_of h []) × (b.wants ≡ expects h) × (b.told ≡ false) × (0 < n)
 
 -- The request was begun by a head, and its body goes on in the unread bytes.
 pub record GoesOn (c : Content) (left : Left) (wants : Bool) (unread text : List ℕ) : Type 0 where
@@ -89,7 +91,8 @@ LeavesBytes text n = (rest : List ℕ) × Leaves text rest × (n ≡ length rest
 -- The parts of an open edge stand for the text; and it only waits where nothing can be read, and
 -- just what is left of the text is unread.
 abbrev pub StandsIn : Bool → Bool → Option Begun → List ℕ → List ℕ → Type 0
-StandsIn ended waits begun unread text = (ended ≡ false) × StandsBegun begun unread text × (waits ≡ true → WaitsIn begun text × Leaves text unread)
+StandsIn ended waits begun unread text = (ended ≡ false) × StandsBegun begun unread text
+    × (waits ≡ true → WaitsIn begun text × Leaves text unread)
 
 -- The edge is open and stands for the text.
 abbrev pub Stands : Edge → List ℕ → Type 0
@@ -146,14 +149,16 @@ IsWholeIn (Some b) unread text = IsWhole (content b.request) unread text
 -- What filling the body of a request begun does to its text.
 abbrev pub FillsBegun : Result Fill Memory → Content → Left → Bool → List ℕ → List ℕ → Type 0
 FillsBegun (Ok fill.Whole) c left wants unread text = IsWhole c unread text
-FillsBegun (Ok fill.Wait) c left wants unread text = GoesOn c left wants unread text × (HasNone text ⊎ Waits text) × Leaves text unread
+FillsBegun (Ok fill.Wait) c left wants unread text = GoesOn c left wants unread text
+    × (HasNone text ⊎ Waits text) × Leaves text unread
 FillsBegun (Ok (fill.Bad kind)) c left wants unread text = IsRefused text kind
 FillsBegun (Err m) c left wants unread text = GoesOn c left wants unread text
 
 -- The same of the parts of an edge.
 abbrev pub FillsIn : Result Fill Memory → Bool → Bool → Option Begun → List ℕ → List ℕ → Type 0
 FillsIn (Ok fill.Whole) ended waits begun unread text = IsSome begun × IsWholeIn begun unread text
-FillsIn (Ok fill.Wait) ended waits begun unread text = StandsIn ended waits begun unread text × (HasNone text ⊎ Waits text) × Leaves text unread
+FillsIn (Ok fill.Wait) ended waits begun unread text = StandsIn ended waits begun unread text
+    × (HasNone text ⊎ Waits text) × Leaves text unread
 FillsIn (Ok (fill.Bad kind)) ended waits begun unread text = IsRefused text kind
 FillsIn (Err m) ended waits begun unread text = StandsIn ended waits begun unread text
 

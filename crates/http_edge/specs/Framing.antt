@@ -20,7 +20,10 @@ within_limit n = if nat_lt MAX_BODY_LEN n then Refused Large else Sized n
 -- The framing by a Content-Length with that value, which is to be digits.
 unfoldable pub sized_at : List ℕ → Framing
 sized_at [] = Refused Syntax
-sized_at (b ∷ bytes) = if list_all is_ascii_digit (b ∷ bytes) then within_limit (digits_value 10 (b ∷ bytes)) else Refused Syntax
+sized_at (b ∷ bytes) =
+    if list_all is_ascii_digit (b ∷ bytes)
+    then within_limit (digits_value 10 (b ∷ bytes))
+    else Refused Syntax
 
 -- The framing by Content-Length, from the values of its fields (RFC 9112, section 6.2).
 abbrev pub sized_by : List (List ℕ) → Framing
@@ -44,7 +47,8 @@ framed_by minor (c ∷ codings) (l ∷ lengths) = Refused Syntax
 unfoldable pub framing_of : ℕ → List (List ℕ × List ℕ) → Framing
 framing_of minor fields =
     if (minor == 1) && not (length (named (codes "host") fields) == 1) then Refused Syntax
-    else framed_by minor (named (codes "transfer-encoding") fields) (named (codes "content-length") fields)
+    else framed_by minor (named (codes "transfer-encoding") fields)
+    (named (codes "content-length") fields)
 
 abbrev pub framing : RequestHead → Framing
 framing h = framing_of h.minor (map name_and_value h.fields)

@@ -15,7 +15,8 @@ named name (f ∷ fields) = if same_name f.0 name then f.1 ∷ named name fields
 
 -- The list, which commas part, has the member, in any case.
 unfoldable pub has_member : List ℕ → List ℕ → Bool
-has_member bytes member = list_any (λ part. same_name (trim_ows part) member) (slice_split (λ b. b == 44) bytes)
+has_member bytes member =
+    list_any (λ part. same_name (trim_ows part) member) (slice_split (λ b. b == 44) bytes)
 
 -- The field has that name and lists the member.
 abbrev pub field_lists : List ℕ → List ℕ → List ℕ × List ℕ → Bool

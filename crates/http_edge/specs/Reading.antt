@@ -1,5 +1,5 @@
--- What the bytes of a connection spell, as one text (RFC 9112, sections 2, 6 and 9.3): requests, and
--- what stands after them.
+-- What the bytes of a connection spell, as one text (RFC 9112, sections 2, 6 and 9.3): requests,
+-- and what stands after them.
 use Rattle.std.specs.Prelude.{◌≡◌, ◌⊎◌, ⊤, ℕ, ◌≤◌, List, [], ◌∷◌, ◌++◌, length, take, Bool, true, false}
 use Rattle.std.specs.List.{concat}
 use Rattle.httparse.specs.Grammar.{RequestHead, print_request, ReadsRequest, HasNoRequest}
@@ -25,7 +25,8 @@ NeverBegins text = RequestOverflows 64 text ⊎ ((8192 ≤ length text) × HasNo
 -- A text begins with a body so framed, and goes on with the rest.
 abbrev pub TakesBody : Framing → List ℕ → List ℕ → List ℕ → Type 0
 TakesBody (Sized n) text body rest = (length body ≡ n) × (text ≡ body ++ rest)
-TakesBody Chunked text body rest = (chunks : List (List ℕ)) × TakesChunks 0 text chunks rest × (body ≡ concat chunks)
+TakesBody Chunked text body rest = (chunks : List (List ℕ)) × TakesChunks 0 text chunks rest
+    × (body ≡ concat chunks)
 TakesBody (Refused k) text body rest = ⊥
 
 -- No continuation begins with a body so framed.
@@ -76,7 +77,8 @@ abbrev pub Reads : List ℕ → List Item → List ℕ → Type 0
 Reads text [] rest = (rest ≡ text) × HasNone text
 Reads text (i ∷ items) rest =
     (behind : List ℕ) × First text i behind
-    × (((closes i ≡ true) × (items ≡ []) × (rest ≡ behind)) ⊎ ((closes i ≡ false) × Reads behind items rest))
+    × (((closes i ≡ true) × (items ≡ []) × (rest ≡ behind))
+    ⊎ ((closes i ≡ false) × Reads behind items rest))
 
 -- The text begins with these items, each where the one before it ends, and this is left. After one
 -- that closes the connection none is read.

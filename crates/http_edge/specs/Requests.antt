@@ -59,7 +59,8 @@ request_from method target minor fields = record {
 
 -- The request that a head begins, with that body.
 abbrev pub content_of : RequestHead → List ℕ → Content
-content_of h body = record (request_from h.method h.target h.minor (map name_and_value h.fields)) { body = body }
+content_of h body =
+    record (request_from h.method h.target h.minor (map name_and_value h.fields)) { body = body }
 
 abbrev pub expects : RequestHead → Bool
 expects h = expects_of h.minor (map name_and_value h.fields)

@@ -36,7 +36,7 @@ impl Body {
     }
 }
 
-/// An answer, whose fields say all that is said of its body.
+/// An answer. Its fields say everything that is said of its body.
 #[derive(Drop)]
 pub struct HttpAnswer {
     /// Three digits.
@@ -83,7 +83,7 @@ fn add_fields(out: &mut Vec<u8>, fields: &[Field]) -> Result<(), Memory>
     Ok(())
 }
 
-/// How many bytes there will be.
+/// How many bytes the answer will have.
 fn size_of(answer: &HttpAnswer) -> usize {
     let mut size = answer
         .phrase

@@ -22,7 +22,8 @@ pub struct Begun {
 impl Begun {
     /// An equal one.
     pub fn copy(&self) -> Result<Begun, Memory>
-        ensures { IfOk result (λ b. (content b.request ≡ content self.now.request) × (b.left ≡ self.now.left) × (b.wants ≡ self.now.wants) × (b.told ≡ self.now.told)) }
+        ensures { IfOk result (λ b. (content b.request ≡ content self.now.request)
+            × (b.left ≡ self.now.left) × (b.wants ≡ self.now.wants) × (b.told ≡ self.now.told)) }
     {
         Ok(Begun {
             request: self.request.copy()?,

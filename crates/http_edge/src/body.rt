@@ -51,8 +51,12 @@ const LINE: usize = 256;
 
 /// Moves unread bytes into the body, as far as they are its.
 pub fn fill_body(left: &mut Left, body: &mut Vec<u8>, unread: &mut Unread) -> Result<Fill, Memory>
-    ensures ok { IfOk result (λ fill. (f : Framing) (text : List ℕ) → SoFar f left.old body.old.items unread.old text → Comes f fill left.new body.new.items unread.new text) }
-    ensures err { OnErr result ((f : Framing) (text : List ℕ) → SoFar f left.old body.old.items unread.old text → SoFar f left.new body.new.items unread.new text) }
+    ensures ok { IfOk result (λ fill.
+        (f : Framing) (text : List ℕ) → SoFar f left.old body.old.items unread.old text
+        → Comes f fill left.new body.new.items unread.new text) }
+    ensures err { OnErr result ((f : Framing) (text : List ℕ)
+        → SoFar f left.old body.old.items unread.old text
+        → SoFar f left.new body.new.items unread.new text) }
     ensures fewer { length unread.new ≤ length unread.old }
     ensures room { result ≡ Ok Fill.Wait → length unread.new < 8192 }
 {
@@ -68,8 +72,11 @@ pub fn fill_body(left: &mut Left, body: &mut Vec<u8>, unread: &mut Unread) -> Re
 
 /// Reads the next part of the body.
 fn step(left: &mut Left, body: &mut Vec<u8>, unread: &mut Unread) -> Result<Next, Memory>
-    ensures ok { IfOk result (λ next. (f : Framing) (text : List ℕ) → SoFar f left.old body.old.items unread.old text → Goes f next left.new body.new.items unread.new text) }
-    ensures err { OnErr result ((left.new ≡ left.old) × (body.new.items ≡ body.old.items) × (unread.new ≡ unread.old)) }
+    ensures ok { IfOk result (λ next.
+        (f : Framing) (text : List ℕ) → SoFar f left.old body.old.items unread.old text
+        → Goes f next left.new body.new.items unread.new text) }
+    ensures err { OnErr result ((left.new ≡ left.old) × (body.new.items ≡ body.old.items)
+        × (unread.new ≡ unread.old)) }
     ensures reads { IfOk result (λ next. next ≡ On → length unread.new < length unread.old) }
     ensures fewer { length unread.new ≤ length unread.old }
     ensures room { result ≡ Ok Next.Wait → length unread.new < 8192 }
@@ -91,8 +98,11 @@ fn read_bytes(
     unread: &mut Unread,
 ) -> Result<Next, Memory>
     requires { left.old ≡ Bytes missing }
-    ensures ok { IfOk result (λ next. (f : Framing) (text : List ℕ) → SoFar f left.old body.old.items unread.old text → Goes f next left.new body.new.items unread.new text) }
-    ensures err { OnErr result ((left.new ≡ left.old) × (body.new.items ≡ body.old.items) × (unread.new ≡ unread.old)) }
+    ensures ok { IfOk result (λ next.
+        (f : Framing) (text : List ℕ) → SoFar f left.old body.old.items unread.old text
+        → Goes f next left.new body.new.items unread.new text) }
+    ensures err { OnErr result ((left.new ≡ left.old) × (body.new.items ≡ body.old.items)
+        × (unread.new ≡ unread.old)) }
     ensures reads { IfOk result (λ next. next ≡ On → length unread.new < length unread.old) }
     ensures fewer { length unread.new ≤ length unread.old }
     ensures room { result ≡ Ok Next.Wait → length unread.new < 8192 }
@@ -117,8 +127,11 @@ fn read_data(
 ) -> Result<Next, Memory>
     requires at { left.old ≡ Data missing }
     requires some { 0 < missing }
-    ensures ok { IfOk result (λ next. (f : Framing) (text : List ℕ) → SoFar f left.old body.old.items unread.old text → Goes f next left.new body.new.items unread.new text) }
-    ensures err { OnErr result ((left.new ≡ left.old) × (body.new.items ≡ body.old.items) × (unread.new ≡ unread.old)) }
+    ensures ok { IfOk result (λ next.
+        (f : Framing) (text : List ℕ) → SoFar f left.old body.old.items unread.old text
+        → Goes f next left.new body.new.items unread.new text) }
+    ensures err { OnErr result ((left.new ≡ left.old) × (body.new.items ≡ body.old.items)
+        × (unread.new ≡ unread.old)) }
     ensures reads { IfOk result (λ next. next ≡ On → length unread.new < length unread.old) }
     ensures fewer { length unread.new ≤ length unread.old }
     ensures room { result ≡ Ok Next.Wait → length unread.new < 8192 }
@@ -134,7 +147,8 @@ fn read_data(
 /// Moves bytes that are missing, as many as there are.
 fn move_bytes(missing: usize, body: &mut Vec<u8>, unread: &mut Unread) -> Result<usize, Memory>
     ensures count { IfOk result (λ n. n ≡ min missing (length unread.old)) }
-    ensures moved { IfOk result (λ n. (body.new.items ≡ body.old.items ++ take n unread.old) × (unread.new ≡ drop n unread.old)) }
+    ensures moved { IfOk result (λ n.
+        (body.new.items ≡ body.old.items ++ take n unread.old) × (unread.new ≡ drop n unread.old)) }
     ensures err { OnErr result ((body.new.items ≡ body.old.items) × (unread.new ≡ unread.old)) }
 {
     let count = missing.min(unread.as_slice().len());
@@ -146,7 +160,8 @@ fn move_bytes(missing: usize, body: &mut Vec<u8>, unread: &mut Unread) -> Result
 /// Reads a chunk's line.
 fn read_line(left: &mut Left, body: &[u8], unread: &mut Unread) -> Next
     requires { left.old ≡ Line }
-    ensures goes { (f : Framing) (text : List ℕ) → SoFar f left.old body.now unread.old text → Goes f result left.new body.now unread.new text }
+    ensures goes { (f : Framing) (text : List ℕ) → SoFar f left.old body.now unread.old text
+        → Goes f result left.new body.now unread.new text }
     ensures reads { result ≡ On → length unread.new < length unread.old }
     ensures fewer { length unread.new ≤ length unread.old }
     ensures room { result ≡ Next.Wait → length unread.new < 8192 }
@@ -179,7 +194,8 @@ fn read_line(left: &mut Left, body: &[u8], unread: &mut Unread) -> Next
 /// Reads the line end after a chunk's bytes.
 fn read_end(left: &mut Left, unread: &mut Unread) -> Next
     requires { left.old ≡ Data 0 }
-    ensures goes { (f : Framing) (body text : List ℕ) → SoFar f left.old body unread.old text → Goes f result left.new body unread.new text }
+    ensures goes { (f : Framing) (body text : List ℕ) → SoFar f left.old body unread.old text
+        → Goes f result left.new body unread.new text }
     ensures reads { result ≡ On → length unread.new < length unread.old }
     ensures fewer { length unread.new ≤ length unread.old }
     ensures room { result ≡ Next.Wait → length unread.new < 8192 }
@@ -205,7 +221,8 @@ fn is_equal(a: &[u8], b: &[u8]) -> bool
 
 /// Reads the trailers.
 fn read_trailers(unread: &mut Unread) -> Next
-    ensures goes { (f : Framing) (body text : List ℕ) → SoFar f Trailers body unread.old text → Goes f result Trailers body unread.new text }
+    ensures goes { (f : Framing) (body text : List ℕ) → SoFar f Trailers body unread.old text
+        → Goes f result Trailers body unread.new text }
     ensures reads { result ≡ On → length unread.new < length unread.old }
     ensures fewer { length unread.new ≤ length unread.old }
     ensures room { result ≡ Next.Wait → length unread.new < 8192 }

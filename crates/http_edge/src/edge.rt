@@ -50,7 +50,7 @@ impl Edge {
         })
     }
 
-    /// Forgets what it was fed, and is as a new one. It takes no memory.
+    /// Forgets what it was fed, and is like a new one. It allocates nothing.
     pub fn restart(&mut self)
         ensures stands { Stands self.new [] }
         ensures empty { unread_len self.new ≡ 0 }
@@ -85,10 +85,12 @@ impl Edge {
         })
     }
 
-    /// Takes as many of the bytes as fit beside those unread, 8,192 in all. It takes no memory.
+    /// Takes as many of the bytes as fit beside those unread, 8,192 in all, and gives how many
+    /// those are. It allocates nothing.
     pub fn feed(&mut self, bytes: &[u8]) -> usize
         ensures count { result ≡ min (length bytes.now) (8192 - unread_len self.old) }
-        ensures more { (text : List ℕ) → Stands self.old text → Stands self.new (text ++ take result bytes.now) }
+        ensures more { (text : List ℕ) → Stands self.old text
+            → Stands self.new (text ++ take result bytes.now) }
         ensures unread { unread_len self.new ≡ unread_len self.old + result }
         ensures work { work_left self.new ≡ work_left self.old + 2 * result }
         ensures waits { result ≡ 0 → self.new.waits ≡ self.old.waits }
@@ -107,7 +109,8 @@ impl Edge {
         ensures len { result ≡ unread_len self.now }
         ensures few { result ≤ 8192 }
         ensures counts { (text : List ℕ) → Stands self.now text → IsUnread text result }
-        ensures exact { self.now.waits ≡ true → (text : List ℕ) → Stands self.now text → LeavesBytes text result }
+        ensures exact { self.now.waits ≡ true → (text : List ℕ) → Stands self.now text
+            → LeavesBytes text result }
     {
         self.unread.as_slice().len()
     }
@@ -119,13 +122,16 @@ impl Edge {
         ensures ended { self.old.ended ≡ true → (result ≡ Ok None) × (self.new.ended ≡ true) }
         ensures room { self.old.ended ≡ false → result ≡ Ok None → unread_len self.new < 8192 }
         ensures waits { self.old.ended ≡ false → result ≡ Ok None → self.new.waits ≡ true }
-        ensures left { self.old.ended ≡ false → result ≡ Ok None → (text : List ℕ) → Stands self.new text → Leaves text self.new.unread }
+        ensures left { self.old.ended ≡ false → result ≡ Ok None → (text : List ℕ)
+            → Stands self.new text → Leaves text self.new.unread }
         ensures told { is_told self.new ≡ true → is_told self.old ≡ true }
-        ensures fresh { IfOk result (λ found. IfSome found (λ i. closes (item i) ≡ false → is_told self.new ≡ false)) }
+        ensures fresh { IfOk result (λ found.
+            IfSome found (λ i. closes (item i) ≡ false → is_told self.new ≡ false)) }
         ensures still_told { result ≡ Ok None → is_told self.new ≡ is_told self.old }
         ensures told_on_refusal { OnErr result (is_told self.new ≡ is_told self.old) }
         ensures less { IfOk result (λ item. Falls item (work_left self.old) (work_left self.new)) }
-        ensures behind { IfOk result (λ found. IfSome found (λ i. closes (item i) ≡ false → (text : List ℕ) → Stands self.new text → text ≡ self.new.unread)) }
+        ensures behind { IfOk result (λ found. IfSome found (λ i. closes (item i) ≡ false
+            → (text : List ℕ) → Stands self.new text → text ≡ self.new.unread)) }
     {
         if self.ended || self.waits {
             return Ok(None);
@@ -146,12 +152,14 @@ impl Edge {
         }
     }
 
-    /// The request begun waits for `100 Continue`: true once for a request (RFC 9110, section
-    /// 10.1.1). Ask after a `next` that answered None.
+    /// Whether the request that has begun waits for `100 Continue`: true once for each request
+    /// (RFC 9110 section 10.1.1). To be asked after a `next` that gave None.
     pub fn wants_continue(&mut self) -> bool
-        ensures asks { (text : List ℕ) → Stands self.old text → (IsTrue result ↔ IsAsking self.old text) }
+        ensures asks { (text : List ℕ) → Stands self.old text
+            → (IsTrue result ↔ IsAsking self.old text) }
         ensures told { is_told self.new ≡ (result || is_told self.old) }
-        ensures expects { (text : List ℕ) → Stands self.new text → self.new.waits ≡ true → (is_told self.new ≡ true ↔ Expects text) }
+        ensures expects { (text : List ℕ) → Stands self.new text → self.new.waits ≡ true
+            → (is_told self.new ≡ true ↔ Expects text) }
         ensures fresh { IsTrue result → is_told self.old ≡ false }
         ensures stands { (text : List ℕ) → Stands self.old text → Stands self.new text }
         ensures ended { self.new.ended ≡ self.old.ended }
@@ -173,7 +181,8 @@ impl Edge {
         requires reads { self.old.waits ≡ false }
         ensures steps { (text : List ℕ) → Stands self.old text → Begins result self.new text }
         ensures told { is_told self.new ≡ is_told self.old }
-        ensures less { IfOk result (λ begin. BeginFalls begin (work_left self.old) (work_left self.new)) }
+        ensures less { IfOk result (λ begin.
+            BeginFalls begin (work_left self.old) (work_left self.new)) }
         ensures closing { IfOk result BeginCloses }
         ensures stays_open { result ≡ Ok Begin.Begun → self.new.ended ≡ false }
         ensures still_reads { result ≡ Ok Begin.Begun → self.new.waits ≡ false }
@@ -204,7 +213,8 @@ impl Edge {
     /// Moves unread bytes into the body that comes in.
     fn fill(&mut self) -> Result<Fill, Memory>
         requires reads { self.old.waits ≡ false }
-        ensures fills { (text : List ℕ) → Stands self.old text → IsBegun self.old → Fills result self.new text }
+        ensures fills { (text : List ℕ) → Stands self.old text → IsBegun self.old
+            → Fills result self.new text }
         ensures told { is_told self.new ≡ is_told self.old }
         ensures less { work_left self.new ≤ work_left self.old }
         ensures ended { self.new.ended ≡ self.old.ended }
@@ -220,7 +230,9 @@ impl Edge {
     /// The request begun, which is whole.
     fn whole(&mut self) -> Option<Incoming>
         requires { self.old.ended ≡ false }
-        ensures steps { (text : List ℕ) → IsBegun self.old → IsWholeIn self.old.begun self.old.unread text → Steps (spec.ok_of result) self.new text }
+        ensures steps { (text : List ℕ) → IsBegun self.old
+            → IsWholeIn self.old.begun self.old.unread text
+            → Steps (spec.ok_of result) self.new text }
         ensures told { is_told self.new ≡ false }
         ensures none { result ≡ None → is_told self.old ≡ false }
         ensures some { IsBegun self.old → IsSome result }

@@ -64,7 +64,8 @@ pub fn start_of(alloc: Global, unread: &[u8]) -> Result<Start, Memory>
 
 /// What of a body so framed is read first.
 fn left_of(framing: Framing) -> Result<Left, BadKind>
-    ensures { (text : List ℕ) → MatchResult result (λ left. SoFar framing left [] text text) (λ kind. NeverTakes framing text kind) }
+    ensures { (text : List ℕ) → MatchResult result (λ left. SoFar framing left [] text text)
+        (λ kind. NeverTakes framing text kind) }
 {
     match framing {
         Framing::Sized(n) => Ok(Left::Bytes(n)),
@@ -101,7 +102,10 @@ fn request_of(
     requires method { IsWithin (length unread.now) head.now.method }
     requires path { IsWithin (length unread.now) head.now.path }
     requires fields { AreFields unread.now spans.now }
-    ensures { IfOk result (λ r. content r ≡ request_from (span_bytes unread.now head.now.method) (span_bytes unread.now head.now.path) head.now.version (map (header_bytes unread.now) spans.now)) }
+    ensures { IfOk result (λ r.
+        content r ≡ request_from (span_bytes unread.now head.now.method)
+        (span_bytes unread.now head.now.path) head.now.version
+        (map (header_bytes unread.now) spans.now)) }
 {
     Ok(Request {
         method: Vec::from_slice(alloc, head.method.of(unread))?,
@@ -140,7 +144,8 @@ fn add_field(alloc: Global, fields: &mut HeaderMap, name: &[u8], value: &[u8]) -
     requires name { IsToken name.now }
     requires len { length name.now ≤ 8192 }
     requires value { AllPass is_value_byte value.now }
-    ensures { OnOk result (fields.new ≡ append fields.old (lowercase name.now) (plain_value value.now)) }
+    ensures { OnOk result (fields.new
+        ≡ append fields.old (lowercase name.now) (plain_value value.now)) }
 {
     let name = match HeaderName::from_bytes(alloc, name) {
         Ok(name) => name,

@@ -1,10 +1,11 @@
-//! HTTP/1.1 requests, one by one, from the bytes of a connection, and the bytes of answers (RFC 9112).
+//! HTTP/1.1 requests, one by one, from the bytes of a connection; and the bytes of answers
+//! (RFC 9112).
 //!
-//! The contract: each item that an `Edge` gives is the next one that the bytes fed to it spell, however
-//! they were cut (`however_cut`, `none_held_back`). What bytes spell is said by `Reads` of
-//! `specs/Reading.antt`, which knows nothing of pieces. Refusals come first one first, in the order of
-//! `specs/Framing.antt`, and after one nothing more is read. Where an open edge gives nothing it has
-//! room for more bytes, so no connection stops at a full one.
+//! The contract: each item that an `Edge` gives is the next one that the bytes fed to it spell,
+//! however they were cut (`however_cut`, `none_held_back`). What bytes spell is said by `Reads` of
+//! `specs/Reading.antt`, which knows nothing of pieces. The first fault in the order of
+//! `specs/Framing.antt` is the one that is told, and after it nothing more is read. An open edge
+//! that gives nothing has room for more bytes, so no connection stops at a full one.
 //!
 //! The mapping of requests stands on it, and so does the gateway that feeds connections.
 #![tactic(auto)]

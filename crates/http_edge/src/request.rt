@@ -5,7 +5,7 @@ use http_header::HeaderMap;
 use std::error::Error;
 use std::fmt;
 
-/// Why what stands where a request should begin is refused.
+/// Why the bytes that stand where a request should begin are refused, and with which status.
 #[derive(Clone, Copy, Debug, PartialEq, Eq)]
 pub enum BadKind {
     /// The bytes or the framing are no request's: 400.
@@ -61,9 +61,9 @@ pub struct Request {
     pub version: Version,
     /// The head's fields; trailers are dropped.
     pub fields: HeaderMap,
-    /// At most 65,536 bytes, without the framing.
+    /// At most 65,536 bytes, without chunk lines and trailers.
     pub body: Vec<u8>,
-    /// The connection is closed after the answer.
+    /// Whether the connection is closed after the answer (RFC 9112 section 9.3).
     pub close: bool,
 }
 

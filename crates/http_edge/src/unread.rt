@@ -18,7 +18,8 @@ impl Model for Unread {
 
     ghost view = { λ u. drop u.start u.bytes.items };
 
-    ghost invariant = { λ u. (u.start ≤ vec_len u.bytes) × (vec_len u.bytes ≤ 8192) × (8192 ≤ vec_capacity u.bytes) };
+    ghost invariant = { λ u.
+        (u.start ≤ vec_len u.bytes) × (vec_len u.bytes ≤ 8192) × (8192 ≤ vec_capacity u.bytes) };
 }
 
 impl Unread {
