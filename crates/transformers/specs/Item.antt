@@ -1,5 +1,6 @@
--- What CBOR bytes denote (RFC 8949 section 3), in this profile: whole numbers of -2^63 to 2^64 - 1, text, arrays, maps whose keys are
--- texts that differ, false, true and null. A value is one of `serde_json`.
+-- What CBOR bytes denote (RFC 8949 section 3), in this profile: whole numbers of -2^63 to 2^64 - 1,
+-- text, arrays, maps whose keys are texts that differ, false, true and null. A value is one of
+-- `serde_json`.
 use Rattle.std.specs.Prelude.{ℕ, zero, suc, ◌+◌, ◌*◌, ◌/◌, ◌%◌, ◌^◌, ◌==◌, ◌++◌, negsuc, List, [], ◌∷◌, length, take, drop, true, false, ltb, if◌then◌else◌, Option, Some, None, is_some}
 use Rattle.std.specs.Option.{option_or}
 use Rattle.std.specs.Str.{is_utf8}
@@ -40,7 +41,8 @@ eight_at bytes = do
   low ← four_at high.1
   Some (4294967296 * high.0 + low.0, low.1)
 
--- Additional information below 24 is the argument itself, and 24 to 27 say that it follows in 1, 2, 4 or 8 bytes.
+-- Additional information below 24 is the argument itself, and 24 to 27 say that it follows in 1, 2,
+-- 4 or 8 bytes.
 unfoldable pub argument_at : ℕ → List ℕ → Option (ℕ × List ℕ)
 argument_at information bytes =
     if ltb information 24 then Some (information, bytes) else (
@@ -70,19 +72,23 @@ head_at bytes = do
 
 -- so many bytes of UTF-8
 unfoldable pub text_at : ℕ → List ℕ → Option (List ℕ × List ℕ)
-text_at n bytes = if ltb (length bytes) n then None else (if is_utf8 (take n bytes) then Some (take n bytes, drop n bytes) else None)
+text_at n bytes =
+    if ltb (length bytes) n then None
+    else (if is_utf8 (take n bytes) then Some (take n bytes, drop n bytes) else None)
 
 -- -1 - n, where it isn't below -2^63
 unfoldable pub negative_of : ℕ → Option Data
 negative_of n = if ltb n (2 ^ 63) then Some (number (negative (negsuc n))) else None
 
 -- n pieces one after the other, each of which adds to what was found before
-unfoldable pub many_at : {A : Type 0} → (A → List ℕ → Option (A × List ℕ)) → ℕ → A → List ℕ → Option (A × List ℕ)
+unfoldable pub many_at : {A : Type 0} → (A → List ℕ → Option (A × List ℕ)) → ℕ → A → List ℕ
+    → Option (A × List ℕ)
 many_at one zero found bytes = Some (found, bytes)
 many_at one (suc n) found bytes = one found bytes >>= λ x. many_at one n x.0 x.1
 
 -- one more item of an array
-unfoldable pub next_item : (List ℕ → Option (Data × List ℕ)) → List Data → List ℕ → Option (List Data × List ℕ)
+unfoldable pub next_item : (List ℕ → Option (Data × List ℕ)) → List Data → List ℕ
+    → Option (List Data × List ℕ)
 next_item one found bytes = one bytes >>= λ x. Some (found ++ x.0 ∷ [], x.1)
 
 -- a key is a text
@@ -98,10 +104,12 @@ key_at bytes = head_at bytes >>= λ h. key_of h.0 h.1 h.2
 
 -- the members with one more, unless its key is there
 unfoldable pub put_new : List ℕ → Data → Members → Option Members
-put_new key value found = if is_some (get_member key found) then None else Some (put key value found)
+put_new key value found =
+    if is_some (get_member key found) then None else Some (put key value found)
 
 -- one more member of a map
-unfoldable pub next_member : (List ℕ → Option (Data × List ℕ)) → Members → List ℕ → Option (Members × List ℕ)
+unfoldable pub next_member : (List ℕ → Option (Data × List ℕ)) → Members → List ℕ
+    → Option (Members × List ℕ)
 next_member one found bytes = do
   key ← key_at bytes
   value ← one key.1
@@ -115,7 +123,8 @@ unfoldable pub map_at : (List ℕ → Option (Data × List ℕ)) → ℕ → Lis
 map_at one n bytes = many_at (next_member one) n no_members bytes >>= λ x. Some (object x.0, x.1)
 
 -- What follows a head. What is inside an array or a map is read by inner, if one may be opened.
-abbrev pub body_at : Option (List ℕ → Option (Data × List ℕ)) → Major → ℕ → List ℕ → Option (Data × List ℕ)
+abbrev pub body_at : Option (List ℕ → Option (Data × List ℕ)) → Major → ℕ → List ℕ
+    → Option (Data × List ℕ)
 body_at inner Unsigned n bytes = Some (number (unsigned n), bytes)
 body_at inner Negative n bytes = negative_of n >>= λ d. Some (d, bytes)
 body_at inner Text n bytes = text_at n bytes >>= λ t. Some (string t.0, t.1)

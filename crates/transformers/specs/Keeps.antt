@@ -17,20 +17,25 @@ Fits holds takes (Ok v) = holds v.items
 Fits holds takes (Err e) = e ≡ Content → ¬ takes
 
 -- Each answer that may be given at an input fits.
-pub record Keeps (holds : List ℕ → List ℕ → Type 0) (takes : List ℕ → Type 0) (gives : List ℕ → Result (Vec ℕ Global) Refused → Type 0) : Type 0 where
-  pub each : (x : List ℕ) (r : Result (Vec ℕ Global) Refused) → gives x r → Fits (holds x) (takes x) r
+pub record Keeps (holds : List ℕ → List ℕ → Type 0) (takes : List ℕ → Type 0)
+    (gives : List ℕ → Result (Vec ℕ Global) Refused → Type 0) : Type 0 where
+  pub each : (x : List ℕ) (r : Result (Vec ℕ Global) Refused) → gives x r
+      → Fits (holds x) (takes x) r
 
 -- the pair of a stored transformer
 abbrev pub pair_of : {R X : Type 0} {F : X → Type 0} {g : _} → Stored R X F g → Form × Form
 pair_of s = (s.from, s.to)
 
 -- an answer that a stored transformer may give
-abbrev pub Gives : {R X : Type 0} {F : X → Type 0} {g : _} → Stored R X F g → List ℕ → Result (Vec ℕ Global) Refused → Type 0
-Gives {R} {X} {F} {g} s x r = (f : (v : X) × F v) × CalledAt g (s.closure.call.vtable, s.closure.call.value) x r f
+abbrev pub Gives : {R X : Type 0} {F : X → Type 0} {g : _} → Stored R X F g → List ℕ
+    → Result (Vec ℕ Global) Refused → Type 0
+Gives {R} {X} {F} {g} s x r = (f : (v : X) × F v)
+    × CalledAt g (s.closure.call.vtable, s.closure.call.value) x r f
 
 -- A stored transformer keeps the relation for its pair.
 abbrev pub KeepsRelation : {R X : Type 0} {F : X → Type 0} {g : _}
-    → (Form → Form → List ℕ → List ℕ → Type 0) → (Form → Form → List ℕ → Type 0) → Stored R X F g → Type 0
+    → (Form → Form → List ℕ → List ℕ → Type 0) → (Form → Form → List ℕ → Type 0)
+    → Stored R X F g → Type 0
 KeepsRelation holds takes s = Keeps (holds s.from s.to) (takes s.from s.to) (λ x r. Gives s x r)
 
 -- Each of them does.
@@ -40,7 +45,8 @@ pub record AllKeep {R X : Type 0} {F : X → Type 0} {g : _}
   pub each : (s : Stored R X F g) → Contains stored s → KeepsRelation holds takes s
 
 -- the first stored transformer for a pair
-pub record IsFirstFor {R X : Type 0} {F : X → Type 0} {g : _} (stored : List (Stored R X F g)) (from to : Form) (first : Stored R X F g) : Type 0 where
+pub record IsFirstFor {R X : Type 0} {F : X → Type 0} {g : _} (stored : List (Stored R X F g))
+    (from to : Form) (first : Stored R X F g) : Type 0 where
   pub before : List (Stored R X F g)
   pub after : List (Stored R X F g)
   pub parts : stored ≡ before ++ first ∷ after
@@ -55,7 +61,8 @@ passed_on (Err Memory) = Err fault.Memory
 
 -- A bank's answer is that of the first transformer for the pair.
 pub record IsFromFirst {R X : Type 0} {F : X → Type 0} {g : _} (stored : List (Stored R X F g))
-    (from to : Form) (input : List ℕ) (answer : Result (Option (Vec ℕ Global)) ApplyFault) : Type 0 where
+    (from to : Form) (input : List ℕ) (answer : Result (Option (Vec ℕ Global)) ApplyFault)
+    : Type 0 where
   pub first : Stored R X F g
   pub is_first : IsFirstFor stored from to first
   pub gave : Result (Vec ℕ Global) Refused

@@ -1,4 +1,5 @@
--- The relations that the plain transformers keep, each between an input and its output, and which inputs they take.
+-- The relations that the plain transformers keep between input and output, and which inputs they
+-- take.
 use Rattle.std.specs.Prelude.{◌≡◌, ◌<◌, ◌≤◌, ℕ, List, [], ◌∷◌, false, Some, IsSome}
 use Rattle.std.specs.Str.{IsUtf8}
 use Rattle.hex.specs.Hex.{encode_lower}
@@ -8,7 +9,8 @@ use Rattle.serde_json.specs.Written.{compact_text, has_float}
 use Rattle.transformers.specs.Item.{denoted}
 use Rattle.transformers.specs.Shortest.{shortest}
 
--- ---- CBOR (RFC 8949) to JSON (RFC 8259): both texts denote the same value, and the output is compact, with its keys in order of their bytes
+-- ---- CBOR (RFC 8949) to JSON (RFC 8259): both denote one value, and the output is compact, with
+-- its keys in the order of their bytes
 
 pub record CborToJson (input output : List ℕ) : Type 0 where
   pub value : Data
@@ -20,7 +22,8 @@ pub record CborToJson (input output : List ℕ) : Type 0 where
 abbrev pub TakesCbor : List ℕ → Type 0
 TakesCbor input = IsSome (denoted input)
 
--- ---- JSON to CBOR: both texts denote the same value, and the output has the shortest heads, with its keys in order of their bytes
+-- ---- JSON to CBOR: both denote one value, and the output has the shortest heads, with its keys in
+-- the order of their bytes
 
 -- A value of the profile has no number that isn't whole, and is nested at most 32 deep.
 pub record IsInProfile (d : Data) : Type 0 where

@@ -10,10 +10,14 @@ abbrev pub ReadsBack : ℕ → Data → Type 0
 ReadsBack levels d = (rest : List ℕ) → item_at levels (shortest d ++ rest) ≡ Some (d, rest)
 
 abbrev pub ItemsReadBack : ℕ → List Data → Type 0
-ItemsReadBack levels ds = (rest : List ℕ) → many_at (next_item (item_at levels)) (length ds) [] (items_bytes (items_of ds) ++ rest) ≡ Some (ds, rest)
+ItemsReadBack levels ds = (rest : List ℕ)
+    → many_at (next_item (item_at levels)) (length ds) [] (items_bytes (items_of ds) ++ rest)
+    ≡ Some (ds, rest)
 
 abbrev pub MembersReadBack : ℕ → Members → Type 0
-MembersReadBack levels ms = (rest : List ℕ) → many_at (next_member (item_at levels)) (members_len ms) no_members (members_bytes ms ++ rest) ≡ Some (ms, rest)
+MembersReadBack levels ms = (rest : List ℕ)
+    → many_at (next_member (item_at levels)) (members_len ms) no_members (members_bytes ms ++ rest)
+    ≡ Some (ms, rest)
 
 -- a number that is whole, and of -2^63 or more
 abbrev pub IsWhole : Num → Type 0

@@ -1,4 +1,5 @@
--- How a value is written in CBOR: each head as short as it can be (RFC 8949 section 4.1), the keys of a map in order of their bytes.
+-- How a value is written in CBOR: each head as short as it can be (RFC 8949 section 4.1), the keys
+-- of a map in order of their bytes.
 use Rattle.std.specs.Prelude.{ℕ, ◌+◌, ◌*◌, ◌/◌, ◌%◌, ◌++◌, ℤ, pos, negsuc, List, [], ◌∷◌, length, ltb, if◌then◌else◌}
 use Rattle.serde_json.specs.Data.{Num, unsigned, negative, float, Data, null, boolean, number, string, array, object, Items, no_items, item, Members, no_members, member}
 use Rattle.serde_json.specs.Events.{items_len, members_len}
@@ -29,7 +30,8 @@ shortest_head major n =
     if ltb n 24 then (32 * number_of major + n) ∷ [] else (
     if ltb n 256 then (32 * number_of major + 24) ∷ n ∷ [] else (
     if ltb n 65536 then (32 * number_of major + 25) ∷ two_bytes n else (
-    if ltb n 4294967296 then (32 * number_of major + 26) ∷ four_bytes n else (32 * number_of major + 27) ∷ eight_bytes n)))
+    if ltb n 4294967296 then (32 * number_of major + 26) ∷ four_bytes n else
+    (32 * number_of major + 27) ∷ eight_bytes n)))
 
 -- n, where z is -1 - n
 abbrev pub below : ℤ → ℕ

@@ -21,7 +21,8 @@ impl<R: Relation> Bank<R> {
     /// The bank of these transformers. `store` makes the list that keeps the relation.
     pub fn new(stored: Vec<Stored<R>>) -> Bank<R>
         ensures stored { result.stored ≡ stored }
-        ensures keep { AllKeep R.holds R.takes stored.items → AllKeep R.holds R.takes result.stored.items }
+        ensures keep { AllKeep R.holds R.takes stored.items
+            → AllKeep R.holds R.takes result.stored.items }
     {
         Bank { stored }
     }
@@ -42,8 +43,10 @@ impl<R: Relation> Bank<R> {
     pub fn apply(&self, from: &Form, to: &Form, input: &[u8]) -> Result<Option<Vec<u8>>, ApplyFault>
         requires { AllKeep R.holds R.takes self.now.stored.items }
 
-        ensures none { (result ≡ Ok None) ↔ (¬ Contains (map pair_of self.now.stored.items) (from.now, to.now)) }
-        ensures holds { IfOk result (λ o. IfSome o (λ v. R.holds from.now to.now input.now v.items)) }
+        ensures none { (result ≡ Ok None)
+            ↔ (¬ Contains (map pair_of self.now.stored.items) (from.now, to.now)) }
+        ensures holds { IfOk result (λ o.
+            IfSome o (λ v. R.holds from.now to.now input.now v.items)) }
         ensures small { IfOk result (λ o. IfSome o (λ v. length v.items ≤ MAX_BODY_LEN)) }
 
         // When each fault comes.
@@ -52,7 +55,8 @@ impl<R: Relation> Bank<R> {
             → ((v : List ℕ) × R.holds from.now to.now input.now v × (MAX_BODY_LEN < length v)) }
 
         // Any other answer than None is that of the first transformer for the pair.
-        ensures first { (¬ (result ≡ Ok None)) → IsFromFirst self.now.stored.items from.now to.now input.now result }
+        ensures first { (¬ (result ≡ Ok None))
+            → IsFromFirst self.now.stored.items from.now to.now input.now result }
     {
         let Some(first) = self.first_for(from, to) else {
             return Ok(None);
@@ -67,7 +71,8 @@ impl<R: Relation> Bank<R> {
 
     // The first transformer for the pair.
     fn first_for(&self, from: &Form, to: &Form) -> Option<&Stored<R>>
-        ensures none { IsNone result ↔ (¬ Contains (map pair_of self.now.stored.items) (from.now, to.now)) }
+        ensures none { IsNone result
+            ↔ (¬ Contains (map pair_of self.now.stored.items) (from.now, to.now)) }
         ensures some { IfSome result (λ s. IsFirstFor self.now.stored.items from.now to.now s.now) }
     {
         'each: for s in &self.stored {

@@ -7,11 +7,13 @@ use crate::item::value_of;
 use crate::refused::Refused;
 use std::alloc::Global;
 
-/// JSON (RFC 8259) of the same value as a CBOR item (RFC 8949), compact, with keys in order of their bytes.
+/// JSON (RFC 8259) for the value of a CBOR item (RFC 8949), compact, with keys in the order of
+/// their bytes.
 ///
-/// The input is one item with nothing after it: whole numbers of `-2^63` to `2^64 - 1`, text, arrays, maps with
-/// text keys that differ, false, true and null, with at most 32 arrays and maps within each other. Heads may be of
-/// any length. All else is refused, and for its content also where memory is wanted.
+/// The input is one item with nothing after it: whole numbers from `-2^63` to `2^64 - 1`, text,
+/// arrays, maps with distinct text keys, false, true and null, with at most 32 arrays and maps
+/// within one another. Heads may be of any length. Everything else is refused, and that is told
+/// even where memory runs out.
 pub fn cbor_json(alloc: Global, input: &[u8]) -> Result<Vec<u8>, Refused>
     ensures fits { Fits (CborToJson input.now) (TakesCbor input.now) result }
     ensures refused { (result ≡ Err Content) ↔ (¬ TakesCbor input.now) }

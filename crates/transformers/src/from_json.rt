@@ -24,12 +24,13 @@ fn value_of(alloc: Global, input: &[u8]) -> Result<Value, Refused>
     }
 }
 
-/// A CBOR item (RFC 8949) of the same value as a JSON text (RFC 8259), with the shortest heads and with keys in
-/// order of their bytes.
+/// A CBOR item (RFC 8949) for the value of a JSON text (RFC 8259), with the shortest heads and with
+/// keys in the order of their bytes.
 ///
-/// Refused are what `serde_json` refuses, a number that isn't whole or isn't one of `-2^63` to `2^64 - 1` (`-0` and
-/// `1e2` aren't whole), and more than 32 arrays and objects within each other. Of equal keys the last counts.
-/// Where memory is wanted, that may be told before a fault of the content.
+/// Refused are what `serde_json` refuses, numbers that are not whole or not from `-2^63` to `2^64 -
+/// 1` (`-0` and `1e2` are not whole), and more than 32 arrays and objects within one another. Of
+/// equal keys the last counts. Where memory runs out, that may be told before a fault of the
+/// content.
 pub fn json_cbor(alloc: Global, input: &[u8]) -> Result<Vec<u8>, Refused>
     ensures fits { Fits (JsonToCbor input.now) (TakesJson input.now) result }
 {

@@ -69,8 +69,11 @@ pub(crate) fn simple(bytes: &[u8]) -> Option<(Value, &[u8])>
 // One more member, unless its key is there.
 #[tactic(auto, unfolding(crate::specs::Item::put_new))]
 fn add_member(found: &mut Map<String, Value>, key: String, value: Value) -> Result<(), Refused>
-    ensures ok { OnOk result (put_new (string_bytes key) (view value) (members_view found.old.entries) ≡ Some (members_view found.new.entries)) }
-    ensures content { result ≡ Err Content → put_new (string_bytes key) (view value) (members_view found.old.entries) ≡ None }
+    ensures ok { OnOk result
+        (put_new (string_bytes key) (view value) (members_view found.old.entries)
+        ≡ Some (members_view found.new.entries)) }
+    ensures content { result ≡ Err Content
+        → put_new (string_bytes key) (view value) (members_view found.old.entries) ≡ None }
 {
     match found.insert(key, value) {
         Ok(None) => Ok(()),
@@ -103,8 +106,10 @@ fn body(
     argument: u64,
     bytes: &[u8],
 ) -> Result<(Value, &[u8]), Refused>
-    ensures ok { IfOk result (λ x. body_at (inner_of levels) major argument bytes.now ≡ Some (view x.0, x.1.now)) }
-    ensures content { result ≡ Err Content → body_at (inner_of levels) major argument bytes.now ≡ None }
+    ensures ok { IfOk result (λ x.
+        body_at (inner_of levels) major argument bytes.now ≡ Some (view x.0, x.1.now)) }
+    ensures content { result ≡ Err Content
+        → body_at (inner_of levels) major argument bytes.now ≡ None }
 {
     match major {
         Major::Unsigned => Ok((Value::from(argument), bytes)),
@@ -136,8 +141,10 @@ fn items(
     count: u64,
     bytes: &[u8],
 ) -> Result<(Vec<Value>, &[u8]), Refused>
-    ensures ok { IfOk result (λ x. many_at (next_item (item_at levels)) count [] bytes.now ≡ Some (map view x.0.items, x.1.now)) }
-    ensures content { result ≡ Err Content → many_at (next_item (item_at levels)) count [] bytes.now ≡ None }
+    ensures ok { IfOk result (λ x. many_at (next_item (item_at levels)) count [] bytes.now
+        ≡ Some (map view x.0.items, x.1.now)) }
+    ensures content { result ≡ Err Content
+        → many_at (next_item (item_at levels)) count [] bytes.now ≡ None }
 {
     let mut found = Vec::new(alloc);
     let mut rest = bytes;
@@ -157,8 +164,10 @@ fn members(
     count: u64,
     bytes: &[u8],
 ) -> Result<(Map<String, Value>, &[u8]), Refused>
-    ensures ok { IfOk result (λ x. many_at (next_member (item_at levels)) count no_members bytes.now ≡ Some (members_view x.0.entries, x.1.now)) }
-    ensures content { result ≡ Err Content → many_at (next_member (item_at levels)) count no_members bytes.now ≡ None }
+    ensures ok { IfOk result (λ x. many_at (next_member (item_at levels)) count no_members bytes.now
+        ≡ Some (members_view x.0.entries, x.1.now)) }
+    ensures content { result ≡ Err Content
+        → many_at (next_member (item_at levels)) count no_members bytes.now ≡ None }
 {
     let mut found = Map::new(alloc);
     let mut rest = bytes;
@@ -176,8 +185,11 @@ fn member<'b>(
     bytes: &'b [u8],
     found: &mut Map<String, Value>,
 ) -> Result<&'b [u8], Refused>
-    ensures ok { IfOk result (λ rest. next_member (item_at levels) (members_view found.old.entries) bytes.now ≡ Some (members_view found.new.entries, rest.now)) }
-    ensures content { result ≡ Err Content → next_member (item_at levels) (members_view found.old.entries) bytes.now ≡ None }
+    ensures ok { IfOk result (λ rest.
+        next_member (item_at levels) (members_view found.old.entries) bytes.now
+        ≡ Some (members_view found.new.entries, rest.now)) }
+    ensures content { result ≡ Err Content
+        → next_member (item_at levels) (members_view found.old.entries) bytes.now ≡ None }
 {
     let Some((name, rest)) = key(bytes) else {
         return Err(Refused::Content);
@@ -188,7 +200,7 @@ fn member<'b>(
     Ok(rest)
 }
 
-// The value that one item denotes, with nothing after it. Where memory is wanted, a fault of the input is told first.
+// The value of one item with nothing after it. A fault of the input is told before want of memory.
 pub(crate) fn value_of(alloc: Global, bytes: &[u8]) -> Result<Value, Refused>
     ensures ok { IfOk result (λ v. denoted bytes.now ≡ Some (view v)) }
     ensures content { result ≡ Err Content → denoted bytes.now ≡ None }

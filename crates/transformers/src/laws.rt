@@ -13,27 +13,28 @@ pub fn one_output()
     ensures json_taken { (x y : List ℕ) → JsonToCbor x y → TakesJson x }
 {}
 
-/// JSON that was made of a CBOR item is taken, and what is made of it is the item's shortest encoding.
+/// JSON that was made of a CBOR item is taken, and gives that item's shortest encoding.
 pub fn through_json()
     ensures taken { (x y : List ℕ) → CborToJson x y → TakesJson y }
     ensures shortest { (x y z : List ℕ) → CborToJson x y → JsonToCbor y z → IsShortestOf x z }
 {}
 
-/// The shortest encoding of what an item denotes is one and the same, is its own shortest encoding, and tells what the
-/// item denotes.
+/// The shortest encoding of what an item denotes is unique, is its own shortest encoding, and
+/// denotes the same.
 pub fn shortest_unique()
     ensures one { (x y z : List ℕ) → IsShortestOf x y → IsShortestOf x z → y ≡ z }
     ensures itself { (x z : List ℕ) → IsShortestOf x z → IsShortestOf z z }
     ensures tells { (x y z : List ℕ) → IsShortestOf x z → IsShortestOf y z → denoted x ≡ denoted y }
 {}
 
-/// An item that is taken denotes a value of the profile: no number that isn't whole, at most 32 arrays and maps within
-/// each other.
+/// An item that is taken denotes a value of the profile: no number that is not whole, and at most
+/// 32 arrays and maps within one another.
 pub fn taken_in_profile()
     ensures { (x : List ℕ) (d : Data) → denoted x ≡ Some d → IsInProfile d }
 {}
 
 /// No item that denotes a value is shorter than the one that is written.
 pub fn none_shorter()
-    ensures { (x : List ℕ) (d : Data) → IsBytes x → denoted x ≡ Some d → length (shortest d) ≤ length x }
+    ensures { (x : List ℕ) (d : Data) → IsBytes x → denoted x ≡ Some d
+        → length (shortest d) ≤ length x }
 {}

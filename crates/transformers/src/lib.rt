@@ -1,8 +1,10 @@
-//! Transformers: closures that turn bytes of one form into bytes of another, each stored beside the relation
-//! that its answers keep, and three of them as plain functions (CBOR to JSON, JSON to CBOR, bytes to hexadecimal).
+//! Transformers: closures that turn bytes of one form into bytes of another, each stored beside the
+//! relation that its answers keep; and three of them as plain functions (CBOR to JSON, JSON to
+//! CBOR, bytes to hexadecimal).
 //!
-//! The one contract: a `Bank` answers bytes only where the relation holds of input and output, and refuses content
-//! only where the relation doesn't take the input. Who maps a request or renders an answer stands on it.
+//! The one contract: a `Bank` answers with bytes only where the relation holds of input and output,
+//! and refuses content only where the relation does not take the input. Mapping requests and
+//! rendering answers stand on it.
 #![tactic(auto)]
 
 mod apply_fault;

@@ -21,7 +21,8 @@ fn is_whole(number: &Number) -> bool
 // Whether a value has no float, and at most so many arrays and objects within each other.
 #[cycle(is_within)]
 pub(crate) fn is_within(levels: u8, value: &Value) -> bool
-    ensures within { IsTrue result ↔ ((has_float (view value.now) ≡ false) × (depth (view value.now) ≤ levels)) }
+    ensures within { IsTrue result
+        ↔ ((has_float (view value.now) ≡ false) × (depth (view value.now) ≤ levels)) }
     ensures back { IsTrue result → ReadsBack levels (view value.now) }
 {
     match value {
@@ -36,7 +37,8 @@ pub(crate) fn is_within(levels: u8, value: &Value) -> bool
 
 #[cycle(is_within)]
 fn items_within(levels: u8, items: &Vec<Value>) -> bool
-    ensures within { IsTrue result ↔ ((items_have_float (items_view items.now.items) ≡ false) × (items_depth (items_view items.now.items) ≤ levels)) }
+    ensures within { IsTrue result ↔ ((items_have_float (items_view items.now.items) ≡ false)
+        × (items_depth (items_view items.now.items) ≤ levels)) }
     ensures back { IsTrue result → ItemsReadBack levels (map view items.now.items) }
 {
     'each: for item in items {
@@ -49,7 +51,9 @@ fn items_within(levels: u8, items: &Vec<Value>) -> bool
 
 #[cycle(is_within)]
 fn members_within(levels: u8, members: &Map<String, Value>) -> bool
-    ensures within { IsTrue result ↔ ((members_have_float (members_view members.now.entries) ≡ false) × (members_depth (members_view members.now.entries) ≤ levels)) }
+    ensures within { IsTrue result
+        ↔ ((members_have_float (members_view members.now.entries) ≡ false)
+        × (members_depth (members_view members.now.entries) ≤ levels)) }
     ensures back { IsTrue result → MembersReadBack levels (members_view members.now.entries) }
 {
     'each: for (_key, member) in members.iter() {

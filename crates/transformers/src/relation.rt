@@ -1,5 +1,5 @@
-/// What transformers keep: which outputs an input may have, and which inputs are taken. Both speak of the
-/// form that a body is in, of the form that it is wanted in, and of the bytes.
+/// What transformers keep: which outputs an input may have, and which inputs are taken. Both speak
+/// of the form that a body is in, the form that is wanted, and the bytes.
 pub trait Relation {
     ghost use Rattle.std.specs.Prelude.{List, ℕ};
     ghost use Rattle.media_map.specs.declared.form.Form.{Form};

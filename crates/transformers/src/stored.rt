@@ -35,7 +35,8 @@ impl<R: Relation> Stored<R> {
     /// Stores a transformer that keeps the relation for this pair.
     pub fn new(from: Form, to: Form, call: Call) -> Stored<R>
         requires callable { Call.IsAlwaysCallable call }
-        requires keeps { Keeps (R.holds from to) (R.takes from to) (λ x r. FnReturnsAt Call.Fn call x r) }
+        requires keeps { Keeps (R.holds from to) (R.takes from to)
+            (λ x r. FnReturnsAt Call.Fn call x r) }
         ensures pair { pair_of result ≡ (from, to) }
         ensures call { result.closure.call ≡ call }
         ensures keeps { KeepsRelation R.holds R.takes result }
@@ -65,15 +66,18 @@ impl<R: Relation> Stored<R> {
     /// Calls the transformer.
     pub fn answer(&self, input: &[u8]) -> Result<Vec<u8>, Refused>
         requires { KeepsRelation R.holds R.takes self.now }
-        ensures fits { Fits (R.holds self.now.from self.now.to input.now) (R.takes self.now.from self.now.to input.now) result }
+        ensures fits { Fits (R.holds self.now.from self.now.to input.now)
+            (R.takes self.now.from self.now.to input.now) result }
         ensures gives { Gives self.now input.now result }
     {
         self.call(input)
     }
 
     fn call(&self, input: &[u8]) -> Result<Vec<u8>, Refused>
-        requires { Keeps (R.holds self.now.from self.now.to) (R.takes self.now.from self.now.to) (λ x r. FnReturnsAt Call.Fn self.now.closure.call x r) }
-        ensures fits { Fits (R.holds self.now.from self.now.to input.now) (R.takes self.now.from self.now.to input.now) result }
+        requires { Keeps (R.holds self.now.from self.now.to) (R.takes self.now.from self.now.to)
+            (λ x r. FnReturnsAt Call.Fn self.now.closure.call x r) }
+        ensures fits { Fits (R.holds self.now.from self.now.to input.now)
+            (R.takes self.now.from self.now.to input.now) result }
         ensures gives { FnReturnsAt Call.Fn self.now.closure.call input.now result }
     {
         (self.closure.call)(input)

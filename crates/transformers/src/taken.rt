@@ -1,4 +1,5 @@
-//! Whether a CBOR input is taken, found without memory: for where the value of an input could not be built.
+//! Whether a CBOR input is taken, found without allocating: for when there is no memory to build
+//! its value.
 ghost use Rattle.std.specs.Prelude.{◌≡◌, ℕ, List, [], Some, is_some};
 ghost use Rattle.std.specs.Option.{option_map};
 ghost use Rattle.serde_json.specs.Data.{Members, no_members};
@@ -30,7 +31,8 @@ fn behind_head(
     argument: u64,
     bytes: &[u8],
 ) -> Option<&[u8]>
-    ensures { IsBehind compared (body_at (inner_of levels) major argument bytes.now) (option_map (λ r. r.now) result) }
+    ensures { IsBehind compared (body_at (inner_of levels) major argument bytes.now)
+        (option_map (λ r. r.now) result) }
 {
     match major {
         Major::Unsigned => Some(bytes),
@@ -51,7 +53,8 @@ fn behind_head(
 // What stands after so many items of an array.
 #[cycle(behind)]
 fn behind_items(compared: bool, levels: u8, count: u64, bytes: &[u8]) -> Option<&[u8]>
-    ensures { IsBehind compared (many_at (next_item (item_at levels)) count [] bytes.now) (option_map (λ r. r.now) result) }
+    ensures { IsBehind compared (many_at (next_item (item_at levels)) count [] bytes.now)
+        (option_map (λ r. r.now) result) }
 {
     let mut rest = bytes;
     'each: for _ in 0..count {
@@ -63,7 +66,8 @@ fn behind_items(compared: bool, levels: u8, count: u64, bytes: &[u8]) -> Option<
 // What stands after so many members of a map.
 #[cycle(behind)]
 fn behind_members(compared: bool, levels: u8, count: u64, bytes: &[u8]) -> Option<&[u8]>
-    ensures { IsBehind compared (many_at (next_member (item_at levels)) count no_members bytes.now) (option_map (λ r. r.now) result) }
+    ensures { IsBehind compared (many_at (next_member (item_at levels)) count no_members bytes.now)
+        (option_map (λ r. r.now) result) }
 {
     let mut rest = bytes;
     'each: for seen in 0..count {
@@ -79,7 +83,9 @@ fn behind_members(compared: bool, levels: u8, count: u64, bytes: &[u8]) -> Optio
 // Whether one of the first members of a map has this key.
 #[cycle(behind)]
 fn is_among(levels: u8, name: &str, count: u64, bytes: &[u8]) -> bool
-    ensures { (x : Members × List ℕ) → many_at (next_member (item_at levels)) count no_members bytes.now ≡ Some x → result ≡ is_some (get_member name.now x.0) }
+    ensures { (x : Members × List ℕ)
+        → many_at (next_member (item_at levels)) count no_members bytes.now ≡ Some x
+        → result ≡ is_some (get_member name.now x.0) }
 {
     let mut rest = bytes;
     let mut found = false;
@@ -98,7 +104,8 @@ fn is_among(levels: u8, name: &str, count: u64, bytes: &[u8]) -> bool
     found
 }
 
-// Whether an input is one item with nothing after it. Takes time quadratic in the number of a map's members.
+// Whether an input is one item with nothing after it. Takes time quadratic in the number of members
+// of a map.
 pub(crate) fn is_taken(bytes: &[u8]) -> bool
     ensures { result ≡ is_some (denoted bytes.now) }
 {

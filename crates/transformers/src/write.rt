@@ -121,7 +121,8 @@ pub(crate) fn put(out: &mut Vec<u8>, value: &Value) -> Result<(), AllocError>
 
 #[cycle(put)]
 fn put_items(out: &mut Vec<u8>, items: &Vec<Value>) -> Result<(), AllocError>
-    ensures { OnOk result (out.new.items ≡ out.old.items ++ items_bytes (items_view items.now.items)) }
+    ensures { OnOk result (out.new.items
+        ≡ out.old.items ++ items_bytes (items_view items.now.items)) }
 {
     'each: for item in items {
         put(out, item)?;
@@ -132,7 +133,8 @@ fn put_items(out: &mut Vec<u8>, items: &Vec<Value>) -> Result<(), AllocError>
 #[cycle(put)]
 #[tactic(auto, using(crate::proofs::Writing::member_written))]
 fn put_members(out: &mut Vec<u8>, members: &Map<String, Value>) -> Result<(), AllocError>
-    ensures { OnOk result (out.new.items ≡ out.old.items ++ members_bytes (members_view members.now.entries)) }
+    ensures { OnOk result (out.new.items
+        ≡ out.old.items ++ members_bytes (members_view members.now.entries)) }
 {
     let mut left = members.iter();
     'each: while let Some((key, member)) = left.next() {
@@ -143,7 +145,8 @@ fn put_members(out: &mut Vec<u8>, members: &Map<String, Value>) -> Result<(), Al
 
 #[cycle(put)]
 fn put_member(out: &mut Vec<u8>, key: &String, member: &Value) -> Result<(), AllocError>
-    ensures { OnOk result (out.new.items ≡ out.old.items ++ (text_bytes (string_bytes key.now) ++ shortest (view member.now))) }
+    ensures { OnOk result (out.new.items
+        ≡ out.old.items ++ (text_bytes (string_bytes key.now) ++ shortest (view member.now))) }
 {
     put_text(out, key.as_str())?;
     put(out, member)
