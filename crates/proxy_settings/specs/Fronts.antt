@@ -1,4 +1,5 @@
--- What is read of a table before any memory is taken: the single values, and that the rest is there.
+-- What is read of a table before any memory is taken: its single values, and that its lists can be
+-- read.
 use Rattle.std.specs.Prelude.{◌≡◌, true, false, List, codes}
 use Rattle.toml.specs.Data.{Members, as_bool}
 use Rattle.proxy_settings.specs.declared.keys.Keys.TheVariants as Keys

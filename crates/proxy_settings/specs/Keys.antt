@@ -13,7 +13,8 @@ keys_of Serve =
 keys_of Origin = codes "host" ∷ codes "address" ∷ codes "observe" ∷ []
 keys_of Route = codes "from" ∷ codes "to" ∷ codes "by" ∷ []
 keys_of Device = codes "listen" ∷ codes "block" ∷ codes "resource" ∷ []
-keys_of Resource = codes "path" ∷ codes "kind" ∷ codes "state" ∷ codes "format" ∷ codes "max_age" ∷ []
+keys_of Resource =
+    codes "path" ∷ codes "kind" ∷ codes "state" ∷ codes "format" ∷ codes "max_age" ∷ []
 
 abbrev pub is_key : Keys → List ℕ → Bool
 is_key keys key = list_any (bytes_eq key) (keys_of keys)

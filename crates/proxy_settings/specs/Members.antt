@@ -39,7 +39,8 @@ abbrev pub items_at : List ℕ → Members → Option Items
 items_at key t = provided no_items as_array key t
 
 -- The key has an array of tables that stand for the rows; where it isn't there, there are none.
-pub record HasRows {A : Type 0} (t : Members) (key : List ℕ) (IsRow : Members → A → Type 0) (rows : List A) : Type 0 where
+pub record HasRows {A : Type 0} (t : Members) (key : List ℕ) (IsRow : Members → A → Type 0)
+    (rows : List A) : Type 0 where
   pub tables : Items
   pub there : items_at key t ≡ Some tables
   pub each : AreTables IsRow tables rows

@@ -12,7 +12,8 @@ abbrev pub Reads : {X Y E : Type 0} → (X → Y) → Result X E → Option Y �
 Reads view (Ok x) read = read ≡ Some (view x)
 Reads view (Err e) read = read ≡ None
 
--- What a function returned, seen by view, stands in the relation, and a fault is there where nothing does.
+-- What a function returned, seen by view, stands in the relation; it returned a fault if nothing
+-- does.
 abbrev pub Shows : {X Y E : Type 0} → (X → Y) → Result X E → (Y → Type 0) → Type 0
 Shows view (Ok x) R = R (view x)
 Shows {X} {Y} view (Err e) R = (y : Y) → R y → ⊥

@@ -58,9 +58,11 @@ unfoldable pub is_base_byte : ℕ → Bool
 is_base_byte b = is_ascii_alphanumeric b || list_any (λ c. b == c) (codes "-._~/")
 
 unfoldable pub is_base : List ℕ → Bool
-is_base text = starts_with nat_eq text (codes "/") && ends_with nat_eq text (codes "/") && list_all is_base_byte text
+is_base text = starts_with nat_eq text (codes "/") && ends_with nat_eq text (codes "/")
+    && list_all is_base_byte text
 
--- a name of a host, which no target has that is empty, longer than a Uri-Host (RFC 7252, section 5.10) or an address
+-- a host's name that a target can have: not empty, no longer than a Uri-Host (RFC 7252
+-- section 5.10), and no address
 unfoldable pub is_host : List ℕ → Bool
 is_host text = nat_lt 0 (length text) && nat_le (length text) 255 && is_none (ipv4_of text)
 

@@ -13,7 +13,11 @@ use Rattle.proxy_settings.specs.declared.resource.Resource.{Resource}
 use Rattle.proxy_settings.specs.declared.resource.WrittenResource.{WrittenResource}
 
 abbrev pub origin_of : WrittenOrigin → Origin
-origin_of w = record { host = str_to_ascii_lowercase w.host.now; address = w.address; observe = w.observe }
+origin_of w = record {
+  host = str_to_ascii_lowercase w.host.now;
+  address = w.address;
+  observe = w.observe;
+}
 
 abbrev pub way_key : Way → List ℕ
 way_key Down = codes "down"
@@ -28,7 +32,17 @@ to_of Down format media = Media media
 to_of Up format media = Format format
 
 abbrev pub route_of : Way → WrittenRoute → Route
-route_of way w = record { from = from_of way w.format w.media.now; to = to_of way w.format w.media.now; by = w.by }
+route_of way w = record {
+  from = from_of way w.format w.media.now;
+  to = to_of way w.format w.media.now;
+  by = w.by;
+}
 
 abbrev pub resource_of : WrittenResource → Resource
-resource_of w = record { path = w.path.now; kind = w.kind; state = w.state.now; format = w.format; max_age = w.max_age }
+resource_of w = record {
+  path = w.path.now;
+  kind = w.kind;
+  state = w.state.now;
+  format = w.format;
+  max_age = w.max_age;
+}

@@ -21,8 +21,8 @@ use uri_map::Peer;
 pub struct Device {
     /// Where CoAP messages are taken: `listen`.
     pub listen: Peer,
-    /// The exponent of its greatest block, as Block options have it (RFC 7959, section 2.2): `block`, from
-    /// 0 for 16 bytes to 6 for 1,024 bytes, or 6.
+    /// The size exponent of its largest block (RFC 7959 section 2.2): `block`, from 0 for 16 bytes
+    /// to 6 for 1,024 bytes; without it, 6.
     pub block: u8,
     /// Its resources, no two of a path: of equal paths the first counts.
     pub resources: Listing<Resource>,

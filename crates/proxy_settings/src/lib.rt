@@ -1,8 +1,8 @@
-//! Settings from the text of a TOML file: those of the proxy, and those of the demonstration device.
+//! Settings from the text of a TOML file: the proxy's, and the demonstration device's.
 //!
-//! One contract: `settings_of` gives exactly the settings that the file's table has by the relations of
-//! `specs/Setups.antt`, one line for each key, and refuses exactly the text that has none. The program
-//! stands on it.
+//! One contract: `settings_of` gives exactly the settings that the file's table has by the
+//! relations of `specs/Setups.antt`, a line for each key, and refuses exactly the texts that have
+//! none. The program stands on it.
 #![tactic(auto)]
 
 mod by;

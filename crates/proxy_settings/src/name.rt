@@ -5,8 +5,8 @@ use std::fmt;
 /// How much of a key is shown.
 const SHOWN: usize = 40;
 
-/// A key as a fault shows it: its first bytes on one line, without memory. What isn't printable ASCII is
-/// shown as `?`, and what is cut as `..`.
+/// A key as a fault shows it, on one line and without allocating: its first bytes, with `?` for
+/// what is not printable ASCII, and `..` for a rest that is cut off.
 #[derive(Clone, Copy, Debug, PartialEq, Eq)]
 pub struct Name {
     bytes: [u8; 40],

@@ -28,8 +28,8 @@ pub enum Setup {
     Origin(Device),
 }
 
-/// The settings of the part that a table stands for. A table that stands for none is refused before memory
-/// is wanted.
+/// The settings of the part that a table stands for. A table that stands for none is refused before
+/// anything is allocated.
 pub fn setup_of(alloc: Global, part: Part, table: &Table) -> Result<Setup, SetupFault>
     ensures { FindsLast result (IsSetup part (table_view table.now)) }
 {
@@ -39,8 +39,8 @@ pub fn setup_of(alloc: Global, part: Part, table: &Table) -> Result<Setup, Setup
     }
 }
 
-/// The settings of the part that a text stands for: those of the table that it writes in TOML. Reading the
-/// text takes memory; once its table is read, it is refused before memory is wanted.
+/// The settings of the part that a TOML text stands for. Reading the text allocates; its table, if
+/// it stands for none, is refused before anything else is allocated.
 pub fn settings_of(alloc: Global, part: Part, text: &str) -> Result<Setup, SetupFault>
     ensures { Finds result (StandsFor part text.now) }
 {

@@ -11,9 +11,9 @@ use toml::{Table, Value};
 /// How many parts of a text are read at most to find a line.
 const READS: usize = 64;
 
-/// The line, counted from 1, in which the text first has what the wrong key is told of: the key with its
-/// value, or for a key that is missing the table that has to have it. None where the key is missing in the
-/// whole text, and where the line isn't found: memory ran out, or values of many lines stand around it.
+/// The line, counted from 1, in which the wrong key first stands with its value; for a missing key,
+/// the line of the table that has to have it. None if the key is missing from the whole text, or if
+/// the line is not found: memory ran out, or values of many lines stand around it.
 pub(crate) fn line_of(alloc: Global, text: &[u8], wrong: &Wrong) -> Option<usize>
     ensures { IsLineOf text.now result }
 {
@@ -35,7 +35,7 @@ pub(crate) fn line_of(alloc: Global, text: &[u8], wrong: &Wrong) -> Option<usize
     None
 }
 
-/// Where the lines of the text end that have a line end.
+/// Where each line ends that has a line end: the place after it.
 #[tactic(auto, using(std::proofs::lemmas::List::Sums::count_by_more_no, std::proofs::lemmas::List::Sums::count_by_more_yes))]
 fn line_ends(alloc: Global, text: &[u8]) -> Option<Vec<usize>>
     ensures { IfSome result (λ ends. length ends.items + 1 ≡ lines_in text.now) }
@@ -49,13 +49,13 @@ fn line_ends(alloc: Global, text: &[u8]) -> Option<Vec<usize>>
     Some(ends)
 }
 
-/// A search for the first line, counted from 0, such that the text to its end has something. A text that ends
-/// within a statement can't be read, and its line is passed over.
+/// A search for the first line, counted from 0, such that the text up to its end has what is looked
+/// for. A text that ends within a statement cannot be read, and its line is skipped.
 #[derive(Clone, Copy)]
 struct Search {
     /// The first line that may be it.
     low: usize,
-    /// The line after those that may be it, but for the best.
+    /// The line after those that may be it, other than `best`.
     high: usize,
     /// The line that is tried.
     at: usize,

@@ -15,8 +15,8 @@ use media_map::{Form, Media};
 use std::alloc::Global;
 use toml::Table;
 
-/// A pair of forms, and what transforms bodies of the first into bodies of the second: `[[down]]` or
-/// `[[up]]`.
+/// A pair of forms, and what transforms bodies of the first into bodies of the second: a `[[down]]`
+/// or an `[[up]]`.
 #[derive(Drop)]
 pub struct Route {
     pub from: Form,

@@ -25,11 +25,13 @@ pub struct Serve {
     pub listen: Peer,
     /// From where CoAP messages are sent: `udp`.
     pub udp: Peer,
-    /// What a target begins with that names a CoAP resource (RFC 8075, section 5.3): `base`, or `/hc/`.
+    /// The path that a target begins with if it names a CoAP resource (RFC 8075 section 5.3):
+    /// `base`; without it, `/hc/`.
     pub base: Text,
-    /// Whether addresses that stand in targets are taken as they are: `literals`, or true.
+    /// Whether addresses in targets are taken as they are: `literals`; without it, true.
     pub literals: bool,
-    /// How far media types that CoAP doesn't know are taken: `loose` and `pass`, or false.
+    /// How far media types are taken that CoAP does not know: `loose` and `pass`; without them,
+    /// false.
     pub policy: Policy,
     /// The devices, no two of a name: of equal names the first counts.
     pub origins: Listing<Origin>,
