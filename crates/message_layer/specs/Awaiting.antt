@@ -1,4 +1,5 @@
--- What a run of a link awaits, by its calls, what they told and what they put out (RFC 7252, sections 4.2, 4.4 and 5.3.2).
+-- What a run of a link awaits, by its calls, what they told and what they put out (RFC 7252,
+-- sections 4.2, 4.4 and 5.3.2).
 use Rattle.std.specs.Prelude.{ℕ, ◌%◌, List, [], ◌∷◌, filter, take, drop, Option, Some, None, Result, Ok, Err, Bool, true, false, not, nat_lt, ◌==◌, ◌&&◌, ◌||◌, if◌then◌else◌}
 use Rattle.std.specs.List.{list_any}
 use Rattle.std.specs.Str.{bytes_eq}
@@ -44,7 +45,8 @@ is_drop (timed_out token) = false
 is_drop (was_reset token) = false
 is_drop was_dropped = true
 
--- The messages that a step sends for the first time: its CONs. A tick sends a copy, unless it gives a message up.
+-- The messages that a step sends for the first time: its CONs. A tick sends a copy, unless it gives
+-- a message up.
 abbrev pub firsts_by : Call → List (List ℕ) → List (List ℕ)
 firsts_by (submit m word) sent = filter is_con sent
 firsts_by (hear d told) sent = filter is_con sent
@@ -64,11 +66,12 @@ expects_by token (expect other on) before = if bytes_eq token other then on else
 expects_by token (take_send d) before = before
 expects_by token refuse before = before
 
--- A response is awaited under the token: a message with it was sent or it was expected, and since then nobody said that it
--- is expected no more.
+-- A response is awaited under the token: a message with it was sent, or a response under it was
+-- expected, and since then nobody said that none is expected any more.
 abbrev pub awaits : List ℕ → List Step → Bool
 awaits token [] = false
-awaits token (x ∷ older) = expects_by token x.call (awaits token older) || list_any (is_under token) (firsts_by x.call x.sent)
+awaits token (x ∷ older) = expects_by token x.call (awaits token older)
+    || list_any (is_under token) (firsts_by x.call x.sent)
 
 -- an ACK brings one response
 abbrev pub keeps_by : List ℕ → Call → Bool → Bool
@@ -80,24 +83,27 @@ keeps_by token (expect other on) before = before && (on || not (bytes_eq token o
 keeps_by token (take_send d) before = before
 keeps_by token refuse before = before
 
--- An ACK may bring a response: a message with its ID and its token was sent, and since then no response was told under the
--- token, nor did anybody say that it is expected no more.
+-- An ACK may bring a response: a message with its ID and token was sent, and since then no response
+-- was told under the token, and nobody said that none is expected any more.
 abbrev pub awaits_ack : ℕ → List ℕ → List Step → Bool
 awaits_ack mid token [] = false
-awaits_ack mid token (x ∷ older) = keeps_by token x.call (awaits_ack mid token older) || list_any (is_as mid token) (firsts_by x.call x.sent)
+awaits_ack mid token (x ∷ older) = keeps_by token x.call (awaits_ack mid token older)
+    || list_any (is_as mid token) (firsts_by x.call x.sent)
 
--- What ends the interaction of a datagram: a response in a CON or NON that is told under its token, an ACK with its ID that is
--- empty or has a response under its token, or an RST with its ID.
+-- What ends the interaction of a datagram: a response in a CON or NON that is told under its token,
+-- an ACK with its ID that is empty or has a response under its token, or an RST with its ID.
 abbrev pub ends_by : List ℕ → Told → Content → MsgType → Bool
 ends_by d told m Con = tells_under (token_of d) told
 ends_by d told m Non = tells_under (token_of d) told
-ends_by d told m Ack = (mid_of d == m.mid) && ((m.code == 0) || (nat_lt 31 m.code && bytes_eq (token_of d) m.token))
+ends_by d told m Ack =
+    (mid_of d == m.mid) && ((m.code == 0) || (nat_lt 31 m.code && bytes_eq (token_of d) m.token))
 ends_by d told m Rst = (m.code == 0) && (mid_of d == m.mid)
 
 abbrev pub heard_by : Told → Result Content CodecFault → Option (List ℕ) → Option (List ℕ)
 heard_by told (Err e) before = before
 heard_by told (Ok m) None = None
-heard_by told (Ok m) (Some d) = if not (is_drop told) && ends_by d told m m.kind then None else Some d
+heard_by told (Ok m) (Some d) =
+    if not (is_drop told) && ends_by d told m m.kind then None else Some d
 
 abbrev pub left_by : Call → Option (List ℕ) → Option (List ℕ)
 left_by (submit m word) before = before
@@ -115,4 +121,5 @@ first_or (d ∷ ds) other = Some d
 -- the message that was sent last, unless its interaction has ended or it was given up
 abbrev pub outstanding_of : List Step → Option (List ℕ)
 outstanding_of [] = None
-outstanding_of (x ∷ older) = first_or (firsts_by x.call x.sent) (left_by x.call (outstanding_of older))
+outstanding_of (x ∷ older) =
+    first_or (firsts_by x.call x.sent) (left_by x.call (outstanding_of older))

@@ -13,22 +13,51 @@ waits_not_under token w = not (bytes_eq w.token token)
 
 -- what waits under the token is never sent
 abbrev pub forgotten : List ℕ → LinkState → LinkState
-forgotten token s = record { waiting = filter (waits_not_under token) s.waiting; outstanding = s.outstanding; last_mid = s.last_mid; given = s.given; awaited = s.awaited; heard = s.heard; out = s.out }
+forgotten token s = record {
+  waiting = filter (waits_not_under token) s.waiting;
+  outstanding = s.outstanding;
+  last_mid = s.last_mid;
+  given = s.given;
+  awaited = s.awaited;
+  heard = s.heard;
+  out = s.out;
+}
 
 abbrev pub is_other : List ℕ → Awaited → Bool
 is_other token a = not (bytes_eq a.token token)
 
 abbrev pub expected_in : List ℕ → Bool → List Awaited → List Awaited
 expected_in token false awaited = filter (is_other token) awaited
-expected_in token true awaited = if list_any (is_awaited token) awaited then awaited else (awaited ++ record { token = token; mid = None } ∷ [])
+expected_in token true awaited =
+    if list_any (is_awaited token) awaited then awaited
+    else (awaited ++ record { token = token; mid = None } ∷ [])
 
 -- whether a response is awaited under the token
 abbrev pub expected : List ℕ → Bool → LinkState → LinkState
-expected token on s = record { waiting = s.waiting; outstanding = s.outstanding; last_mid = s.last_mid; given = s.given; awaited = expected_in token on s.awaited; heard = s.heard; out = s.out }
+expected token on s = record {
+  waiting = s.waiting;
+  outstanding = s.outstanding;
+  last_mid = s.last_mid;
+  given = s.given;
+  awaited = expected_in token on s.awaited;
+  heard = s.heard;
+  out = s.out;
+}
 
 abbrev pub taken_by : LinkState → List (List ℕ) → LinkState × Option (List ℕ)
 taken_by s [] = (s, None)
-taken_by s (d ∷ ds) = (record { waiting = s.waiting; outstanding = s.outstanding; last_mid = s.last_mid; given = s.given; awaited = s.awaited; heard = s.heard; out = ds }, Some d)
+taken_by s (d ∷ ds) = (
+  record {
+    waiting = s.waiting;
+    outstanding = s.outstanding;
+    last_mid = s.last_mid;
+    given = s.given;
+    awaited = s.awaited;
+    heard = s.heard;
+    out = ds;
+  },
+  Some d,
+)
 
 -- the first datagram is taken away
 abbrev pub sent_out : LinkState → LinkState × Option (List ℕ)
@@ -57,8 +86,8 @@ without tokens s = rid_of (is_among tokens) s
 abbrev pub out_empty : LinkState → LinkState
 out_empty s = record s { out = [] }
 
--- Nothing is on its way, waits or is awaited any more. What has to be remembered at this moment stays: the
--- IDs that are in use, and what may be repeated.
+-- Nothing is on its way, waits or is awaited any more. What has to be remembered at this moment
+-- stays: the IDs in use, and the messages that may be repeated.
 abbrev pub kept_link : ℕ → LinkState → LinkState
 kept_link t s = record {
   waiting = [];

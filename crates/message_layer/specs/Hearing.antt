@@ -43,36 +43,63 @@ is_outstanding_as mid (Some o) = o.mid == mid
 abbrev pub ignored : Verdict
 ignored = record { reply = reply.Nothing; remembered = false; ends = false; news = Quiet }
 
--- A CON or NON that was not heard before: an empty one, a response that is awaited, or one that is reset. A response that
--- can't be processed is told too, and reset.
+-- A CON or NON that was not heard before: an empty one, a response that is awaited, or one that is
+-- reset. A response that can't be processed is told too, and reset.
 abbrev pub new_verdict : LinkState → Content → Reply → Reply → Verdict
 new_verdict s m accepts empties =
-    if m.code == 0 then (record { reply = empties; remembered = true; ends = false; news = Quiet }) else
-    (if nat_lt 31 m.code && list_any (is_awaited m.token) s.awaited
-    then (record { reply = if is_rejected m then reply.Rst else accepts; remembered = true; ends = is_outstanding_under m.token s.outstanding; news = Response })
+    if m.code == 0
+    then (record { reply = empties; remembered = true; ends = false; news = Quiet })
+    else (if nat_lt 31 m.code && list_any (is_awaited m.token) s.awaited
+    then (record {
+      reply = if is_rejected m then reply.Rst else accepts;
+      remembered = true;
+      ends = is_outstanding_under m.token s.outstanding;
+      news = Response;
+    })
     else (record { reply = reply.Rst; remembered = true; ends = false; news = Quiet }))
 
--- One that was heard before gets the same answer again, and is not processed; where 1,024 are remembered a further one
--- counts as lost. An empty CON is a ping, which is reset.
+-- One that was heard before gets the same answer again, and is not processed; where 1,024 are
+-- remembered a further one counts as lost. An empty CON is a ping, which is reset.
 abbrev pub heard_verdict : ℕ → LinkState → Content → Bool → Option Heard → Verdict
-heard_verdict t s m confirms (Some h) = record { reply = if confirms then h.reply else reply.Nothing; remembered = false; ends = false; news = Quiet }
+heard_verdict t s m confirms (Some h) = record {
+  reply = if confirms then h.reply else reply.Nothing;
+  remembered = false;
+  ends = false;
+  news = Quiet;
+}
 heard_verdict t s m confirms None =
     if nat_lt (count_by (is_fresh t) s.heard) MAX_REMEMBERED
-    then new_verdict s m (if confirms then reply.Ack else reply.Nothing) (if confirms then reply.Rst else reply.Nothing)
+    then new_verdict s m (if confirms then reply.Ack else reply.Nothing)
+    (if confirms then reply.Rst else reply.Nothing)
     else (record { reply = reply.Nothing; remembered = false; ends = false; news = Lost })
 
--- An ACK ends the interaction with its ID; with a response it has to have the token too. It is never answered.
+-- An ACK ends the interaction with its ID; with a response it has to have the token too. It is
+-- never answered.
 abbrev pub ack_verdict : LinkState → Content → Verdict
 ack_verdict s m =
-    if m.code == 0 then (record { reply = reply.Nothing; remembered = false; ends = is_outstanding_as m.mid s.outstanding; news = Quiet }) else
-    (if nat_lt 31 m.code
-    then (record { reply = reply.Nothing; remembered = false; ends = is_outstanding_as m.mid s.outstanding && is_outstanding_under m.token s.outstanding; news = if list_any (is_awaited_by_ack m.mid m.token) s.awaited then Response else Quiet })
+    if m.code == 0
+    then (record {
+      reply = reply.Nothing;
+      remembered = false;
+      ends = is_outstanding_as m.mid s.outstanding;
+      news = Quiet;
+    })
+    else (if nat_lt 31 m.code
+    then (record {
+      reply = reply.Nothing;
+      remembered = false;
+      ends = is_outstanding_as m.mid s.outstanding && is_outstanding_under m.token s.outstanding;
+      news = if list_any (is_awaited_by_ack m.mid m.token) s.awaited then Response else Quiet;
+    })
     else ignored)
 
 -- An RST is empty and has the ID of the message that it rejects.
 abbrev pub rst_verdict : Content → Option Outstanding → Verdict
 rst_verdict m None = ignored
-rst_verdict m (Some o) = if (m.code == 0) && (o.mid == m.mid) then (record { reply = reply.Nothing; remembered = false; ends = true; news = Reset o.token }) else ignored
+rst_verdict m (Some o) =
+    if (m.code == 0) && (o.mid == m.mid)
+    then (record { reply = reply.Nothing; remembered = false; ends = true; news = Reset o.token })
+    else ignored
 
 abbrev pub verdict_by : ℕ → LinkState → Content → MsgType → Verdict
 verdict_by t s m Con = heard_verdict t s m true (find (is_repeat t m.mid) s.heard)
@@ -95,7 +122,8 @@ listed (Some x) = x ∷ []
 
 abbrev pub remembered_in : ℕ → ℕ → Reply → Bool → List Heard → List Heard
 remembered_in t mid r false heard = heard
-remembered_in t mid r true heard = filter (is_fresh t) heard ++ record { mid = mid; moment = t; reply = r } ∷ []
+remembered_in t mid r true heard =
+    filter (is_fresh t) heard ++ record { mid = mid; moment = t; reply = r } ∷ []
 
 -- an ACK may carry the response no more
 abbrev pub answered : List ℕ → Awaited → Awaited
@@ -142,7 +170,15 @@ reset_for (a ∷ b ∷ c ∷ d ∷ rest) = if a / 16 == 4 then Some (256 * c + d
 
 abbrev pub undecoded : Option ℕ → LinkState → LinkState
 undecoded None s = s
-undecoded (Some mid) s = record { waiting = s.waiting; outstanding = s.outstanding; last_mid = s.last_mid; given = s.given; awaited = s.awaited; heard = s.heard; out = s.out ++ replies mid reply.Rst }
+undecoded (Some mid) s = record {
+  waiting = s.waiting;
+  outstanding = s.outstanding;
+  last_mid = s.last_mid;
+  given = s.given;
+  awaited = s.awaited;
+  heard = s.heard;
+  out = s.out ++ replies mid reply.Rst;
+}
 
 abbrev pub hears_read : ℕ → List ℕ → LinkState → Result Content CodecFault → LinkState × Told
 hears_read t d s (Ok m) = takes t m s

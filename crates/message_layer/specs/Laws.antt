@@ -35,18 +35,28 @@ pub record IsGivenUp (t : ℕ) (s : LinkState) (r : LinkState × Told) : Type 0 
 
 -- the message under this ID
 abbrev pub numbered : ℕ → Content → Content
-numbered mid m = record { kind = m.kind; code = m.code; mid = mid; token = m.token; options = m.options; payload = m.payload }
+numbered mid m = record {
+  kind = m.kind;
+  code = m.code;
+  mid = mid;
+  token = m.token;
+  options = m.options;
+  payload = m.payload;
+}
 
 -- what is sent spells the message that was handed in, under the ID that it is given
 abbrev pub SentSpells : Type 0
-SentSpells = (m : Content) (text : List ℕ) (mid : ℕ) → Spells (unnumbered m) text → Spells (numbered mid m) (with_mid mid text)
+SentSpells = (m : Content) (text : List ℕ) (mid : ℕ) → Spells (unnumbered m) text
+    → Spells (numbered mid m) (with_mid mid text)
 
 abbrev pub TickSends : Type 0
-TickSends = (t : ℕ) (s : LinkState) → IsSound s → IsQuiet t s (ticked t s) ⊎ (IsCopy t s (ticked t s) ⊎ IsGivenUp t s (ticked t s))
+TickSends = (t : ℕ) (s : LinkState) → IsSound s
+    → IsQuiet t s (ticked t s) ⊎ (IsCopy t s (ticked t s) ⊎ IsGivenUp t s (ticked t s))
 
 -- a datagram leaves the outstanding message as it is, or lets the next one go
 abbrev pub HeardSends : Type 0
-HeardSends = (t : ℕ) (d : List ℕ) (s : LinkState) → ((hears t d s).0.outstanding ≡ s.outstanding) ⊎ ((hears t d s).0.outstanding ≡ next_outstanding t s.last_mid s.waiting)
+HeardSends = (t : ℕ) (d : List ℕ) (s : LinkState) → ((hears t d s).0.outstanding ≡ s.outstanding)
+    ⊎ ((hears t d s).0.outstanding ≡ next_outstanding t s.last_mid s.waiting)
 
 -- what a datagram with this ID and token leaves, before the next message has its turn
 abbrev pub heard_so : ℕ → ℕ → List ℕ → Verdict → LinkState → LinkState

@@ -11,7 +11,8 @@ pub record MidsGiven : Type 0 where
   -- for how many more there is room in memory
   pub room : ℕ
 
--- An ID given then is still in use: a message may come until 494 s after its sending, twice EXCHANGE_LIFETIME.
+-- An ID that was given then is still in use: a message may come up to 494 s after it was sent,
+-- twice EXCHANGE_LIFETIME.
 abbrev pub is_in_use : ℕ → ℕ → Bool
 is_in_use t given = nat_lt (t - given) MESSAGE_ID_LIFETIME
 

@@ -54,7 +54,8 @@ pub record AreChained (forgotten : ℕ) (before last : List ℕ) (messages : Lis
   pub as_many : length before ≡ length messages
   pub chain_ends : (c : ℕ) → c < 256 → get_or last c 0 - forgotten ≡ last_place c messages
   pub steps : (i : ℕ) (h : Heard) (n : ℕ) → i < length messages
-      → get_or before i n - forgotten ≡ last_place (chain_of (get_or messages i h).mid) (take i messages)
+      → get_or before i n - forgotten
+      ≡ last_place (chain_of (get_or messages i h).mid) (take i messages)
 
 abbrev pub IsChained : Chains → List Heard → Type 0
 IsChained x messages = AreChained x.forgotten x.before.items x.last.items messages
@@ -74,8 +75,10 @@ chosen t mid h found = if is_repeat t mid h then Some h else found
 
 -- A chain was followed back to this number: the first repeat is among so many first messages, or
 -- else it was found.
-pub record IsFollowed (x : Chains) (messages : List Heard) (t mid number : ℕ) (found : Option Heard) : Type 0 where
+pub record IsFollowed (x : Chains) (messages : List Heard) (t mid number : ℕ) (found : Option Heard)
+    : Type 0 where
   pub left : ℕ
   pub within : left ≤ length messages
   pub is : number - x.forgotten ≡ last_place (chain_of mid) (take left messages)
-  pub rest : option_or (find (is_repeat t mid) (take left messages)) found ≡ find (is_repeat t mid) messages
+  pub rest : option_or (find (is_repeat t mid) (take left messages)) found
+      ≡ find (is_repeat t mid) messages

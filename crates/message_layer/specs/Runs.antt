@@ -1,4 +1,4 @@
--- Runs of a link: any list of calls, the newest first, with what they were answered and what they put out.
+-- Runs of a link: any list of calls, the newest first, with what each told and put out.
 use Rattle.std.specs.Prelude.{◌≡◌, ℕ, ◌+◌, ◌^◌, ◌≤◌, List, [], ◌∷◌, ◌++◌, map, filter, Option, Bool}
 use Rattle.limits.specs.declared.TheConstants.{LAST_MOMENT, MAX_MESSAGE_IDS}
 use Rattle.coap_codec.specs.Spelling.{Content}
@@ -64,7 +64,8 @@ last_moment (x ∷ older) = x.moment
 -- the calls lead from a new link to this one
 abbrev pub IsRun : List Step → LinkState → Type 0
 IsRun [] s = s ≡ empty_link
-IsRun (x ∷ older) s = (before : LinkState) × IsRun older before × IsStep (last_moment older) x before s
+IsRun (x ∷ older) s = (before : LinkState) × IsRun older before
+    × IsStep (last_moment older) x before s
 
 pub record Transmission : Type 0 where
   pub moment : ℕ

@@ -16,7 +16,8 @@ use Rattle.coap_codec.specs.Spelling.{Content, Spells}
 abbrev pub with_mid : ℕ → List ℕ → List ℕ
 with_mid mid datagram = slice_set (slice_set datagram 2 (mid / 256)) 3 (mid % 256)
 
--- The initial timeout by a random word: from ACK_TIMEOUT, 2 s, to that times ACK_RANDOM_FACTOR, 1.5.
+-- The initial timeout that a random word gives: from ACK_TIMEOUT (2 s) to 1.5 times that
+-- (ACK_RANDOM_FACTOR).
 abbrev pub initial_timeout : ℕ → ℕ
 initial_timeout word = ACK_TIMEOUT + word % 4294967296 % 1001
 
@@ -39,8 +40,14 @@ next_mid (Some mid) first_mid = (mid + 1) % 65536
 
 -- a message that waited is sent
 abbrev pub first_sent : ℕ → Option ℕ → Waiting → Outstanding
-first_sent t last_mid w = let mid = next_mid last_mid w.first_mid in
-    record { token = w.token; mid = mid; datagram = with_mid mid w.datagram; timeout = w.timeout; sent = t; retransmissions = 0 }
+first_sent t last_mid w = let mid = next_mid last_mid w.first_mid in record {
+  token = w.token;
+  mid = mid;
+  datagram = with_mid mid w.datagram;
+  timeout = w.timeout;
+  sent = t;
+  retransmissions = 0;
+}
 
 -- the first that waits
 abbrev pub next_outstanding : ℕ → Option ℕ → List Waiting → Option Outstanding
@@ -60,7 +67,15 @@ with_outstanding s ws o = record {
 }
 
 abbrev pub without_outstanding : LinkState → LinkState
-without_outstanding s = record { waiting = s.waiting; outstanding = None; last_mid = s.last_mid; given = s.given; awaited = s.awaited; heard = s.heard; out = s.out }
+without_outstanding s = record {
+  waiting = s.waiting;
+  outstanding = None;
+  last_mid = s.last_mid;
+  given = s.given;
+  awaited = s.awaited;
+  heard = s.heard;
+  out = s.out;
+}
 
 abbrev pub next_by : ℕ → LinkState → List Waiting → LinkState
 next_by t s [] = without_outstanding s
@@ -72,7 +87,14 @@ next_sent t s = next_by t s s.waiting
 
 -- sent once more
 abbrev pub again : ℕ → Outstanding → Outstanding
-again t o = record { token = o.token; mid = o.mid; datagram = o.datagram; timeout = o.timeout; sent = t; retransmissions = o.retransmissions + 1 }
+again t o = record {
+  token = o.token;
+  mid = o.mid;
+  datagram = o.datagram;
+  timeout = o.timeout;
+  sent = t;
+  retransmissions = o.retransmissions + 1;
+}
 
 -- the same bytes go out once more
 abbrev pub with_copy : ℕ → LinkState → Outstanding → LinkState
@@ -86,7 +108,8 @@ with_copy t s o = record {
   out = s.out ++ o.datagram ∷ [];
 }
 
--- A tick looks at the timer: it is not due, or it sends one of the four copies (MAX_RETRANSMIT), or it gives up.
+-- A tick looks at the timer. If it has run out, the tick sends one of the four copies
+-- (MAX_RETRANSMIT), or gives the message up.
 abbrev pub ticked_by : ℕ → LinkState → Option Outstanding → LinkState × Told
 ticked_by t s None = (s, no_news)
 ticked_by t s (Some o) =
@@ -100,10 +123,23 @@ ticked t s = ticked_by t s s.outstanding
 
 -- a message that was handed in, with its bytes under ID 0
 abbrev pub waits : List ℕ → List ℕ → ℕ → Waiting
-waits token text word = record { token = token; datagram = text; timeout = initial_timeout word; first_mid = word % 65536 }
+waits token text word = record {
+  token = token;
+  datagram = text;
+  timeout = initial_timeout word;
+  first_mid = word % 65536;
+}
 
 abbrev pub queued : ℕ → Waiting → LinkState → LinkState
-queued t w s = record { waiting = s.waiting ++ w ∷ []; outstanding = s.outstanding; last_mid = s.last_mid; given = pruned t (length s.waiting) s.given; awaited = s.awaited; heard = s.heard; out = s.out }
+queued t w s = record {
+  waiting = s.waiting ++ w ∷ [];
+  outstanding = s.outstanding;
+  last_mid = s.last_mid;
+  given = pruned t (length s.waiting) s.given;
+  awaited = s.awaited;
+  heard = s.heard;
+  out = s.out;
+}
 
 abbrev pub submitted_by : ℕ → LinkState → Option Outstanding → LinkState
 submitted_by t s None = next_sent t s
@@ -115,7 +151,14 @@ submitted t w s = submitted_by t (queued t w s) s.outstanding
 
 -- the message under ID 0
 abbrev pub unnumbered : Content → Content
-unnumbered m = record { kind = m.kind; code = m.code; mid = 0; token = m.token; options = m.options; payload = m.payload }
+unnumbered m = record {
+  kind = m.kind;
+  code = m.code;
+  mid = 0;
+  token = m.token;
+  options = m.options;
+  payload = m.payload;
+}
 
 -- the message is spelled once and for all, save for its ID, and is taken
 pub record Submits (t word : ℕ) (m : Content) (old new : LinkState) : Type 0 where

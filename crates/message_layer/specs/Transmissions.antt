@@ -32,10 +32,12 @@ abbrev pub latest : ℕ → List ℕ → ℕ
 latest first [] = first
 latest first (t ∷ earlier) = t
 
--- each copy waits for the timeout, which is counted from the sending before and doubles with each copy
+-- each copy waits for a timeout that is counted from the sending before it, and doubles with each
+-- copy
 abbrev pub IsSpaced : ℕ → ℕ → List ℕ → Type 0
 IsSpaced timeout first [] = Unit {0}
-IsSpaced timeout first (t ∷ earlier) = (latest first earlier + timeout * 2 ^ length earlier ≤ t) × IsSpaced timeout first earlier
+IsSpaced timeout first (t ∷ earlier) = (latest first earlier + timeout * 2 ^ length earlier ≤ t)
+    × IsSpaced timeout first earlier
 
 -- one more than the ID of the message before
 abbrev pub HasNextMid : ℕ → List SentMessage → Type 0
@@ -53,8 +55,8 @@ first_of m = m.first
 abbrev pub recent : ℕ → List SentMessage → ℕ
 recent t ms = length (filter (is_in_use t) (map first_of ms))
 
--- A message is sent five times at most, after all sendings of the messages before, under the next ID; less than 32,768
--- of these were sent within 494 s.
+-- A message is sent at most five times, after all sendings of the messages before it, under the
+-- next ID. Fewer than 32,768 of those were sent within 494 s.
 pub record IsSent (m : SentMessage) (older : List SentMessage) : Type 0 where
   pub least : ACK_TIMEOUT ≤ m.timeout
   pub most : m.timeout ≤ LONGEST_ACK_TIMEOUT
@@ -109,7 +111,9 @@ IsFirst due copy t = (t < due) ⊎ (copy ≤ t)
 
 abbrev pub ArePrompt : List ℕ → ℕ → ℕ → List ℕ → Type 0
 ArePrompt ticks timeout first [] = Unit {0}
-ArePrompt ticks timeout first (t ∷ earlier) = AllByRecursion (IsFirst (latest first earlier + timeout * 2 ^ length earlier) t) ticks × ArePrompt ticks timeout first earlier
+ArePrompt ticks timeout first (t ∷ earlier) =
+    AllByRecursion (IsFirst (latest first earlier + timeout * 2 ^ length earlier) t) ticks
+    × ArePrompt ticks timeout first earlier
 
 abbrev pub IsPrompt : List ℕ → SentMessage → Type 0
 IsPrompt ticks m = ArePrompt ticks m.timeout m.first m.copies
@@ -127,7 +131,8 @@ pub record IsHandedIn (m : Content) (word : ℕ) (w : Waiting) : Type 0 where
 
 -- what waits once the call has put its message behind, or has taken those with the token away
 abbrev pub Queues : Call → List Waiting → List Waiting → Type 0
-Queues (submit m word) before queue = (w : Waiting) × IsHandedIn m word w × (queue ≡ before ++ w ∷ [])
+Queues (submit m word) before queue = (w : Waiting) × IsHandedIn m word w
+    × (queue ≡ before ++ w ∷ [])
 Queues (hear d told) before queue = queue ≡ before
 Queues (tick told) before queue = queue ≡ before
 Queues (forget token) before queue = queue ≡ filter (waits_not_under token) before
@@ -137,25 +142,29 @@ Queues refuse before queue = queue ≡ before
 
 -- one call sends nothing first, or the message that waits longest
 abbrev pub Turns : List Waiting → List Waiting → List Waiting → List Waiting → Type 0
-Turns queue before sent waiting = ((sent ≡ before) × (waiting ≡ queue)) ⊎ ((w : Waiting) × (sent ≡ w ∷ before) × (queue ≡ w ∷ waiting))
+Turns queue before sent waiting = ((sent ≡ before) × (waiting ≡ queue))
+    ⊎ ((w : Waiting) × (sent ≡ w ∷ before) × (queue ≡ w ∷ waiting))
 
--- The messages that a run sent, the latest first, and those that wait: each that was handed in is sent in its turn, once,
--- unless it was forgotten before.
+-- The messages that a run sent, the latest first, and those that wait: each that was handed in is
+-- sent in its turn, once, unless it was forgotten before.
 abbrev pub HasQueued : List Step → List Waiting → List Waiting → Type 0
 HasQueued [] sent waiting = (sent ≡ []) × (waiting ≡ [])
-HasQueued (x ∷ older) sent waiting = (sent_before : List Waiting) × (before : List Waiting) × (queue : List Waiting)
-    × HasQueued older sent_before before × Queues x.call before queue × Turns queue sent_before sent waiting
+HasQueued (x ∷ older) sent waiting =
+    (sent_before : List Waiting) × (before : List Waiting) × (queue : List Waiting)
+    × HasQueued older sent_before before × Queues x.call before queue
+    × Turns queue sent_before sent waiting
 
 -- they were sent with their IDs
 abbrev pub AreSentAs : List Waiting → List SentMessage → Type 0
 AreSentAs [] [] = Unit {0}
 AreSentAs [] (m ∷ ms) = ⊥
 AreSentAs (w ∷ ws) [] = ⊥
-AreSentAs (w ∷ ws) (m ∷ ms) = (m.datagram ≡ with_mid (mid_of m.datagram) w.datagram) × (m.timeout ≡ w.timeout) × AreSentAs ws ms
+AreSentAs (w ∷ ws) (m ∷ ms) = (m.datagram ≡ with_mid (mid_of m.datagram) w.datagram)
+    × (m.timeout ≡ w.timeout) × AreSentAs ws ms
 
--- All CONs that a run puts out are the sendings of messages one after another, and these are the messages that were handed
--- in, in their order. Each copy goes out at the first tick at or after the moment when it is due, and what is outstanding
--- has no copy, and no end, that is due.
+-- All CONs that a run puts out are the sendings of messages one after another, and these are the
+-- messages that were handed in, in their order. Each copy goes out at the first tick at or after
+-- the moment when it is due, and what is outstanding has no copy, and no end, that is due.
 pub record Transmits (run : List Step) (s : LinkState) : Type 0 where
   pub messages : List SentMessage
   pub sequence : IsSequence messages
@@ -172,10 +181,12 @@ RunTransmits = (run : List Step) (s : LinkState) → IsRun run s → Transmits r
 
 -- No message ID stands in the first sendings of two messages within 494 s.
 abbrev pub MidsApart : Type 0
-MidsApart = (m : SentMessage) (between : List SentMessage) (n : SentMessage) (older : List SentMessage)
+MidsApart =
+    (m : SentMessage) (between : List SentMessage) (n : SentMessage) (older : List SentMessage)
     → IsSequence (m ∷ between ++ n ∷ older) → mid_of m.datagram ≡ mid_of n.datagram
     → n.first + MESSAGE_ID_LIFETIME ≤ m.first
 
--- Where nothing is outstanding nothing waits: the next message goes out in the step that ends the one before.
+-- Where nothing is outstanding nothing waits: the next message goes out in the step that ends the
+-- one before it.
 abbrev pub RunKeepsTurn : Type 0
 RunKeepsTurn = (run : List Step) (s : LinkState) → IsRun run s → IsSound s

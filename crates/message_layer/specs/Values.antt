@@ -29,7 +29,15 @@ pub record LinkState : Type 0 where
   pub out : List (List ℕ)
 
 abbrev pub seen : State → LinkState
-seen s = record { waiting = s.waiting.items; outstanding = s.outstanding; last_mid = s.last_mid; given = s.given.moments; awaited = s.awaited.items; heard = s.heard.messages; out = s.out.items }
+seen s = record {
+  waiting = s.waiting.items;
+  outstanding = s.outstanding;
+  last_mid = s.last_mid;
+  given = s.given.moments;
+  awaited = s.awaited.items;
+  heard = s.heard.messages;
+  out = s.out.items;
+}
 
 -- there is room in memory for what one more call adds
 abbrev pub has_room : State → Bool
@@ -49,7 +57,15 @@ abbrev pub shown : State → LinkValue
 shown s = record { state = seen s; room = has_room s }
 
 abbrev pub empty_link : LinkState
-empty_link = record { waiting = []; outstanding = None; last_mid = None; given = []; awaited = []; heard = []; out = [] }
+empty_link = record {
+  waiting = [];
+  outstanding = None;
+  last_mid = None;
+  given = [];
+  awaited = [];
+  heard = [];
+  out = [];
+}
 
 -- what a step tells, without where it lies in memory
 pub data Told : Type 0 where
@@ -71,7 +87,8 @@ abbrev pub is_con : List ℕ → Bool
 is_con [] = false
 is_con (first ∷ rest) = first / 16 == 4
 
--- A CON has a header, and an initial timeout of ACK_TIMEOUT, 2 s, up to that times ACK_RANDOM_FACTOR, 1.5.
+-- A message that waits is a CON with a header. Its initial timeout is from ACK_TIMEOUT (2 s) to 1.5
+-- times that (ACK_RANDOM_FACTOR).
 pub record IsSoundWaiting (w : Waiting) : Type 0 where
   pub confirmable : is_con w.datagram ≡ true
   pub header : 4 ≤ length w.datagram

@@ -32,7 +32,7 @@ impl Bytes {
         })
     }
 
-    /// The same bytes once more, which are not copied.
+    /// The same bytes, shared and not copied.
     pub fn share(&self) -> Result<Bytes, AllocError>
         ensures { IfOk result (λ b. b ≡ self.now) }
     {

@@ -18,7 +18,7 @@ fn drop_waiting(waiting: &mut Vec<Waiting>, token: &Token)
     waiting.retain(|w| !is_same(&w.token, token));
 }
 
-/// The messages with the token are not to be sent, should they wait yet.
+/// Messages with the token that still wait are not sent.
 pub fn forget(s: &mut State, token: &Token)
     ensures { seen s.new ≡ forgotten token.now (seen s.old) }
 {
@@ -71,7 +71,8 @@ fn drop_gone_waiting(waiting: &mut Vec<Waiting>, gone: &[Token])
 }
 
 fn drop_gone_awaited(awaited: &mut Vec<Awaited>, gone: &[Token])
-    ensures items { awaited.new.items ≡ filter (is_awaited_on (is_among gone.now)) awaited.old.items }
+    ensures items { awaited.new.items
+        ≡ filter (is_awaited_on (is_among gone.now)) awaited.old.items }
     ensures len { vec_len awaited.new ≤ vec_len awaited.old }
     ensures capacity { vec_capacity awaited.new ≡ vec_capacity awaited.old }
 {
@@ -161,7 +162,7 @@ fn copy_out(alloc: Global, out: &VecDeque<Bytes>) -> Result<VecDeque<Bytes>, All
     Ok(copy)
 }
 
-/// The same state again. The bytes of its messages are shared.
+/// An equal state. The bytes of its messages are shared.
 pub fn copy(alloc: Global, s: &State) -> Result<State, AllocError>
     ensures { IfOk result (λ copy. seen copy ≡ seen s.now) }
 {

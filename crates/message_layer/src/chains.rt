@@ -1,4 +1,4 @@
-//! The messages heard, in chains by their IDs: so that one is found without a look at each.
+//! The messages heard, in chains by their IDs, so that one is found without looking at all of them.
 
 ghost use Rattle.std.specs.Prelude.{◌≡◌, ℕ, ◌<◌, ◌≤◌, ◌+◌, ◌++◌, ◌∷◌, ◌^◌, [], length, drop, get_or, nat_lt, IfOk, OnOk, OnErr, true, vec_len};
 ghost use Rattle.std.specs.List.{find};
@@ -22,7 +22,7 @@ impl Countable for u32 {
 /// table of the chains, 1 KiB, is made with the first room for a message.
 #[derive(Drop)]
 pub struct Chains {
-    /// How many messages were forgotten: what has no greater number is remembered no more.
+    /// How many messages were forgotten: those numbered up to this are no longer remembered.
     pub forgotten: u32,
     /// For each message that is remembered, the number of the one before it in its chain.
     pub before: Series<u32>,

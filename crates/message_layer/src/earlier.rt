@@ -6,7 +6,7 @@ use std::alloc::{AllocError, Global};
 use std::marker::Model;
 use std::sync::Arc;
 
-/// Items that were listed, made once and never changed: those who have them share them.
+/// A list of items, made once and never changed; all who have it share it.
 #[derive(Drop)]
 pub struct Earlier<T: Copy> {
     items: Option<Arc<Vec<T>>>,
@@ -18,7 +18,8 @@ impl<T: Copy> Model for Earlier<T> {
 
     ghost Value = { List T };
 
-    ghost view = { λ e. elim e.items as (λ _. List T) [ None ↦ [] | Some a ↦ (arc_value a).items ] };
+    ghost view = { λ e.
+        elim e.items as (λ _. List T) [ None ↦ [] | Some a ↦ (arc_value a).items ] };
 }
 
 impl<T: Copy> Earlier<T> {
@@ -36,7 +37,7 @@ impl<T: Copy> Earlier<T> {
         Ok(Earlier { items: Some(items) })
     }
 
-    /// The same items once more, which are not copied.
+    /// The same items, shared and not copied.
     pub fn share(&self) -> Result<Earlier<T>, AllocError>
         ensures { IfOk result (λ e. e ≡ self.now) }
     {

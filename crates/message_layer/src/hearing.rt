@@ -1,4 +1,4 @@
-//! Datagrams of the peer's: what the verdict over them says is done.
+//! Datagrams from the peer, and carrying out the verdict on them.
 
 ghost use Rattle.std.specs.Prelude.{◌≡◌, ◌<◌, ◌≤◌, ◌+◌, ◌/◌, ◌%◌, ◌++◌, ◌∷◌, [], map, IfOk, OnErr, IsOkUnless, None, true, false, vec_len, vec_capacity};
 ghost use Rattle.std.specs.VecDeque.{deque_len, deque_capacity};
@@ -122,7 +122,7 @@ fn end_if(s: &mut State, ends: bool, next: Option<FirstSending>, moment: u64)
     }
 }
 
-/// What the verdict says, with all that it puts out. It changes nothing.
+/// What the verdict says, with everything that it puts out. Nothing is changed.
 fn prepare_heeding(
     alloc: Global,
     s: &mut State,
@@ -171,7 +171,7 @@ pub fn heed(s: &mut State, x: Heeding, moment: u64)
     end_if(s, verdict.ends, next, moment);
 }
 
-/// The ID of a CON that is no message, where it shows one.
+/// The message ID of a CON that cannot be read, if it shows one.
 fn mid_to_reset(datagram: &[u8]) -> Option<u16>
     ensures { result ≡ reset_for datagram.now }
 {
@@ -193,7 +193,7 @@ fn mid_or_zero(mid: Option<u16>) -> u16
     mid.unwrap_or(0)
 }
 
-/// What can't be read is reset, where it shows an ID.
+/// The verdict on what cannot be read: it is reset, if it shows an ID (RFC 7252 section 4.2).
 fn unread(mid: Option<u16>) -> Verdict
     ensures { result ≡ unread_verdict mid }
 {
@@ -270,7 +270,7 @@ fn prepare_message(
     Ok(Some(Hearing { heeding, up }))
 }
 
-/// What a datagram does and tells. It changes nothing.
+/// What a datagram does and tells. Nothing is changed.
 pub fn prepare_heard(
     alloc: Global,
     s: &mut State,

@@ -1,4 +1,4 @@
-//! Lists in which what is past stands no more, wherever it stood.
+//! Lists from which everything before a moment can be dropped, wherever it stands.
 
 ghost use Rattle.std.specs.Prelude.{ℕ, ◌≡◌, ◌<◌, ◌≤◌, ◌+◌, ◌++◌, ◌∷◌, ◌^◌, [], length, drop, filter, count_by, get_or, slice_get, if◌then◌else◌, IfOk, OnOk, true};
 ghost use Rattle.std.specs.Option.{option_to_list};
@@ -24,14 +24,14 @@ impl Timed for u64 {
     }
 }
 
-/// A list of what has a moment. Copies share it; and still what was before a moment can be taken
-/// out, and takes no memory: that moment is noted, and looked at until room is made for more.
+/// A list of items that each have a moment. Copies share it. Items before a moment can be dropped
+/// without allocating: the moment is noted, and heeded until room is made for more.
 #[derive(Drop)]
 pub struct Kept<T: Timed> {
     pub series: Series<T>,
-    /// What of the series is before this moment stands no more.
+    /// Items of the series before this moment count as dropped.
     pub since: u64,
-    /// What came after something was taken out so.
+    /// An item that came after some were dropped so.
     pub latest: Option<T>,
 }
 
@@ -99,7 +99,7 @@ fn latest_since<T: Timed>(latest: &Option<T>, since: u64) -> Option<T>
     }
 }
 
-/// The series with what came after it, of which nothing is past.
+/// The series with the item that came after it, and with nothing in it that was dropped.
 fn settled<T: Timed>(
     series: &Series<T>,
     since: u64,
@@ -180,7 +180,7 @@ impl<T: Timed> Kept<T> {
         self.series.drop_first();
     }
 
-    /// What is before this moment stands no more.
+    /// Drops what is before this moment.
     pub fn drop_before(&mut self, moment: u64)
         ensures items { self.new.items ≡ filter (is_since T.moment_of moment) self.old.items }
         ensures room { self.old.room ≤ self.new.room }
@@ -189,7 +189,7 @@ impl<T: Timed> Kept<T> {
         self.latest = latest_since(&self.latest, moment);
     }
 
-    /// What is past is taken out for good.
+    /// Takes out for good what was dropped.
     fn settle(&mut self) -> Result<(), AllocError>
         ensures same { self.new.items ≡ self.old.items }
         ensures whole { self.old.whole ≡ true → self.new.whole ≡ true }

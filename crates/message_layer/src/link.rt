@@ -83,8 +83,8 @@ impl Link {
         Ok(())
     }
 
-    /// Prepares that a message is taken: one that is spelled already, as a CON under message ID 0.
-    /// It makes all that `submit_prepared` wants, and changes nothing else.
+    /// Prepares to take a message that is already encoded, as a CON under message ID 0. It
+    /// allocates all that `submit_prepared` needs, and changes nothing else.
     pub fn prepare_submit(
         &mut self,
         token: Token,
@@ -113,8 +113,8 @@ impl Link {
         sending::submit_prepared(&mut self.state, x, moment);
     }
 
-    /// Prepares a tick, once what bears one of these tokens is neither awaited nor sent any more.
-    /// It makes all that `tick_prepared` wants, and changes nothing else.
+    /// Prepares a tick, after which nothing that bears one of these tokens is awaited or sent any
+    /// more. It allocates all that `tick_prepared` needs, and changes nothing else.
     pub fn prepare_tick(&mut self, moment: u64, gone: &[Token]) -> Result<Ticking, LinkFault>
         requires { moment ≤ LAST_MOMENT }
         ensures same { self.new.state ≡ self.old.state }
@@ -125,8 +125,8 @@ impl Link {
         Ok(x)
     }
 
-    /// Takes what bears one of these tokens away, and does the tick that was prepared for them at
-    /// this moment.
+    /// Removes what bears one of these tokens, and does the tick that was prepared for that at this
+    /// moment.
     pub fn tick_prepared(&mut self, x: Ticking, moment: u64, gone: &[Token]) -> Up
         requires moment { moment ≤ LAST_MOMENT }
         requires ready { IsTicking moment gone.now self.old x }
@@ -135,7 +135,7 @@ impl Link {
         sending::tick_prepared(&mut self.state, x, moment, gone)
     }
 
-    /// Looks at the timer: it sends one copy, or gives up and sends the next message, or does
+    /// Looks at the timer: sends one copy, or gives the message up and sends the next one, or does
     /// nothing.
     pub fn tick(&mut self, moment: u64) -> Result<Up, LinkFault>
         requires { moment ≤ LAST_MOMENT }
@@ -147,9 +147,9 @@ impl Link {
         Ok(self.tick_prepared(x, moment, &[]))
     }
 
-    /// Prepares that a datagram of the peer's is heard: what it does to the link, and what it
-    /// tells. It makes all that `hear_prepared` wants, and changes nothing else. `None`: it counts
-    /// as lost, so that nothing is to be done.
+    /// Prepares to hear a datagram of the peer's: what it does to the link, and what it tells. It
+    /// allocates all that `hear_prepared` needs, and changes nothing else. `None`: the datagram
+    /// counts as lost, and nothing is to be done.
     pub fn prepare_heard(
         &mut self,
         datagram: &[u8],
@@ -189,7 +189,8 @@ impl Link {
         requires ready { MayHeed moment self.now x.now }
         requires message { IsUnnumberedCon token text.now }
         ensures ok { IfOk result
-            (λ more. IsSubmission moment token text.now word (link_after moment x.now self.now) more) }
+            (λ more. IsSubmission moment token text.now word
+            (link_after moment x.now self.now) more) }
         ensures fault { IsSubmitted moment (heeded moment x.now self.now.state) result }
     {
         more::check_more(&self.state, x, moment)?;
@@ -214,7 +215,8 @@ impl Link {
     /// its token is awaited until `expect` says otherwise.
     pub fn heard(&mut self, datagram: &[u8], moment: u64) -> Result<Up, LinkFault>
         requires { moment ≤ LAST_MOMENT }
-        ensures ok { IfOk result (λ up. hears moment datagram.now self.old.state ≡ (self.new.state, told up)) }
+        ensures ok { IfOk result (λ up.
+            hears moment datagram.now self.old.state ≡ (self.new.state, told up)) }
         ensures err { OnErr result (self.new.state ≡ self.old.state) }
         ensures memory { IsOkUnless result LinkFault.Memory }
     {
@@ -222,8 +224,7 @@ impl Link {
         Ok(up)
     }
 
-    /// The messages with this token are not to be sent, should they wait yet. Copies of one that
-    /// was sent go on.
+    /// Messages with this token that still wait are not sent. Copies of one that was sent go on.
     pub fn forget(&mut self, token: &Token)
         ensures { self.new.state ≡ forgotten token.now self.old.state }
     {
@@ -248,8 +249,7 @@ impl Link {
         calls::take_send(&mut self.state)
     }
 
-    /// Nothing is to be given out any more: for a caller that took the datagrams from what was
-    /// prepared.
+    /// Drops the datagrams that are to be sent, for a caller that took them from what was prepared.
     pub fn clear_out(&mut self)
         ensures { self.new.state ≡ out_empty self.old.state }
     {
@@ -267,22 +267,22 @@ impl Link {
         calls::forget_exchanges(&mut self.state, moment);
     }
 
-    /// When a tick has something to do.
+    /// When a tick has something to do, in milliseconds; None where nothing is outstanding.
     pub fn next_due(&self) -> Option<u64>
         ensures { result ≡ option_map due_of self.now.state.outstanding }
     {
         sending::next_due(&self.state)
     }
 
-    /// Whether nothing is outstanding at this moment, were all ticks in time: the message that is, is
-    /// given up by then at the latest (RFC 7252 section 4.2).
+    /// Whether nothing would be outstanding at this moment if all ticks came in time: by then at
+    /// the latest the message that is, is given up (RFC 7252 section 4.2).
     pub fn is_over(&self, moment: u64) -> bool
         ensures { result ≡ is_over_by moment self.now.state.outstanding }
     {
         over::is_over(&self.state, moment)
     }
 
-    /// The same link again, which shares the bytes of its messages.
+    /// An equal link, which shares the bytes of its messages.
     pub fn copy(&self) -> Result<Link, LinkFault>
         ensures ok { IfOk result (λ link. link.state ≡ self.now.state) }
         ensures memory { IsOkUnless result LinkFault.Memory }

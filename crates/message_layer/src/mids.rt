@@ -1,4 +1,4 @@
-//! The message IDs that were given, by the moments at which they were.
+//! The message IDs that were given, known by when they were given (RFC 7252 section 4.4).
 
 ghost use Rattle.std.specs.Prelude.{◌≡◌, ◌<◌, ◌≤◌, ◌+◌, ◌-◌, ◌++◌, ◌&&◌, [], ◌∷◌, length, filter, count_by, Some, IfOk, OnOk, IsTrue, true, ◌↔◌, nat_le};
 ghost use Rattle.message_layer.specs.Mids.{AreRising, is_in_use, begins_unused, pruned, newest_behind};
@@ -10,8 +10,8 @@ use std::marker::Model;
 
 /// The moments at which the last message IDs were given, the oldest first.
 ///
-/// On a clock that doesn't go back no call looks through them: those that are in use no more
-/// stand in front, and each is taken away once.
+/// If the clock never goes back, no call looks through them: those that are no longer in use stand
+/// in front, and each is removed once.
 #[derive(Drop)]
 pub struct Mids {
     moments: Kept<u64>,
@@ -27,7 +27,11 @@ impl Model for Mids {
 
     ghost Value = { MidsGiven };
 
-    ghost view = { λ m. record { moments = m.moments.items; newest = newest_of m.rising m.newest; room = m.moments.room } };
+    ghost view = { λ m. record {
+      moments = m.moments.items;
+      newest = newest_of m.rising m.newest;
+      room = m.moments.room;
+    } };
 
     ghost invariant = { λ m. m.rising ≡ true
         → IsRising m.newest m.moments.items × (m.moments.whole ≡ true) };
@@ -39,7 +43,7 @@ fn is_used(given: u64, moment: u64) -> bool
     moment.saturating_sub(given) < MESSAGE_ID_LIFETIME
 }
 
-/// The first moment at which an ID was given that is in use.
+/// The earliest moment at which an ID was given that is still in use.
 fn first_used(moment: u64) -> u64
     ensures { result ≡ moment - (MESSAGE_ID_LIFETIME - 1) }
 {
@@ -84,7 +88,7 @@ fn count_in_use(moments: &Kept<u64>, moment: u64) -> usize
     moments.count_since(first_used(moment))
 }
 
-/// Where as many stand as may be in use, the oldest one alone says whether one is free.
+/// Where as many stand as may be in use, the oldest alone tells whether an ID is free.
 fn has_free_first(moments: &Kept<u64>, waiting: usize, moment: u64) -> bool
     requires whole { moments.now.whole ≡ true }
     requires rising { AreRising moments.now.items }
@@ -136,7 +140,7 @@ impl Mids {
         self.moments.push_reserved(moment);
     }
 
-    /// Beside those that are in use, and so many that will be, one more can be given.
+    /// Whether one more ID can be given, beside those in use and `waiting` that will be.
     pub fn has_free(&self, waiting: usize, moment: u64) -> bool
         requires { length self.now.moments + waiting ≤ MAX_MESSAGE_IDS }
         ensures { IsTrue result
@@ -177,7 +181,7 @@ impl Mids {
         self.drop_unused(moment);
     }
 
-    /// The same again, which shares the moments of most.
+    /// An equal value, which shares most of the moments.
     pub fn copy(&self, alloc: Global) -> Result<Mids, AllocError>
         ensures moments { IfOk result (λ copy. copy.moments ≡ self.now.moments) }
         ensures newest { IfOk result (λ copy. copy.newest ≡ self.now.newest) }

@@ -1,4 +1,4 @@
-//! A message that follows a datagram of the peer's in the same step: it is taken after it.
+//! A message that is taken in the same step as a datagram from the peer, and after it.
 
 ghost use Rattle.std.specs.Prelude.{◌≡◌, ◌≤◌, ◌+◌, length, IfOk};
 ghost use Rattle.limits.specs.declared.TheConstants.{LAST_MOMENT};
@@ -37,7 +37,7 @@ fn has_free_turn(s: &State, x: &Heeding) -> bool
     }
 }
 
-/// After the datagram a place in the queue and an ID are free, or which of them is not.
+/// Whether a place in the queue and an ID are free after the datagram; if not, which is missing.
 pub fn check_more(s: &State, x: &Heeding, moment: u64) -> Result<(), LinkFault>
     requires sound { IsSound (seen s.now) }
     requires ready { MayHeed moment (shown s.now) x.now }

@@ -16,7 +16,7 @@ fn last_due(outstanding: &Outstanding) -> u64
     outstanding.sent + outstanding.timeout * (32 - power(outstanding.retransmissions))
 }
 
-/// Whether nothing is outstanding at this moment, were all ticks in time.
+/// Whether nothing would be outstanding at this moment if all ticks came in time.
 pub fn is_over(s: &State, moment: u64) -> bool
     requires { IsSound (seen s.now) }
     ensures { result ≡ is_over_by moment (seen s.now).outstanding }

@@ -1,11 +1,12 @@
-//! What is prepared for a call of a link: all that may want memory, made before the link changes.
+//! What is prepared for a call of a link: everything that may need memory is made before the link
+//! changes.
 
 use crate::bytes::Bytes;
 use crate::state::{Outstanding, Up, Waiting};
 use crate::verdict::Verdict;
 use coap_codec::Token;
 
-/// A message as it is when it is sent first, and its datagram once more.
+/// A message as it is sent for the first time, and its datagram once more.
 #[derive(Drop)]
 pub struct FirstSending {
     pub message: Outstanding,

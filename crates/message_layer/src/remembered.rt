@@ -1,4 +1,4 @@
-//! The messages heard lately, by which a repeated one is known (RFC 7252 section 4.2).
+//! The messages heard lately, by which a copy is recognised (RFC 7252 sections 4.2 and 4.5).
 
 ghost use Rattle.std.specs.Prelude.{◌≡◌, ◌<◌, ◌≤◌, ◌+◌, ◌-◌, ◌++◌, ◌∷◌, ◌&&◌, [], length, filter, count_by, nat_lt, nat_le, IfOk, OnOk, true};
 ghost use Rattle.std.specs.Option.{option_to_list};
@@ -51,13 +51,16 @@ impl Model for Remembered {
 
     ghost Value = { MessagesHeard };
 
-    ghost view = { λ m. record { messages = m.messages.items; room = nat_lt 0 m.messages.room && has_number_room m.chains } };
+    ghost view = { λ m. record {
+      messages = m.messages.items;
+      room = nat_lt 0 m.messages.room && has_number_room m.chains;
+    } };
 
     ghost invariant = { λ m. m.orderly ≡ true
         → IsOrderly m.newest m.chains m.messages.items × (m.messages.whole ≡ true) };
 }
 
-/// The first moment at which a message was heard that is remembered.
+/// The earliest moment at which a message was heard that is still remembered.
 fn first_fresh(moment: u64) -> u64
     ensures { result ≡ moment - (EXCHANGE_LIFETIME - 1) }
 {
@@ -145,7 +148,8 @@ fn fresh_count(messages: &Kept<Heard>, moment: u64) -> usize
     messages.count_since(first_fresh(moment))
 }
 
-/// Where as many stand as are remembered, the oldest of so many says whether one more is.
+/// Where as many stand as are remembered at most, the oldest of those tells whether one more can
+/// be.
 fn has_free_last(messages: &Kept<Heard>, moment: u64) -> bool
     requires whole { messages.now.whole ≡ true }
     requires in_order { AreInOrder messages.now.items }
@@ -241,7 +245,7 @@ impl Remembered {
         self.push_reserved(h);
     }
 
-    /// The same again, which shares most messages.
+    /// An equal value, which shares most of the messages.
     pub fn copy(&self, alloc: Global) -> Result<Remembered, AllocError>
         ensures { IfOk result (λ copy. copy.messages ≡ self.now.messages) }
     {

@@ -190,7 +190,7 @@ fn count_copy(outstanding: &mut Option<Outstanding>, moment: u64)
     }
 }
 
-/// What a tick does once what bears one of these tokens is gone. It changes nothing.
+/// What a tick does after what bears one of these tokens is gone. Nothing is changed.
 pub fn prepare_tick(
     alloc: Global,
     s: &mut State,
@@ -281,7 +281,7 @@ pub fn waiting_of(token: Token, text: Bytes, word: u64) -> Waiting
     }
 }
 
-/// A place in the queue and an ID are free, or which of them is not.
+/// Whether a place in the queue and an ID are free; if not, which is missing.
 pub fn check(s: &State, moment: u64) -> Result<(), LinkFault>
     requires { IsSound (seen s.now) }
     ensures { IsSubmitted moment (seen s.now) result }
@@ -337,7 +337,7 @@ fn sent_at_once(
     }
 }
 
-/// The message with these bytes, as it is taken. It changes nothing.
+/// The message with these bytes, as it is taken. Nothing is changed.
 pub fn prepare_submit(
     alloc: Global,
     s: &mut State,

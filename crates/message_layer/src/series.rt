@@ -1,5 +1,4 @@
-//! Lists that grow at their end and lose items at their front, and share what stood in them when
-//! they are copied.
+//! Lists that grow at their end, lose items at their front, and share most items with their copies.
 
 ghost use Rattle.std.specs.Prelude.{◌≡◌, ◌<◌, ◌≤◌, ◌+◌, ◌++◌, ◌∷◌, ◌^◌, [], length, drop, get_or, slice_get, IfOk, OnOk};
 
@@ -7,7 +6,7 @@ use crate::earlier::Earlier;
 use std::alloc::{AllocError, Global};
 use std::marker::Model;
 
-/// So many items come until they are shared.
+/// How many items are added before they are shared.
 const SHARED_AFTER: usize = 64;
 
 /// What can stand in a series. It has a size, so that no more of it fits into memory than can be
@@ -25,14 +24,14 @@ impl Countable for u64 {
     }
 }
 
-/// A list whose copies share all of its items but those that came last: a copy takes as long,
-/// however many there are.
+/// A list whose copies share all its items but the last few, so that copying takes no longer the
+/// more there are.
 #[derive(Drop)]
 pub struct Series<T: Countable> {
     earlier: Earlier<T>,
     /// What came after those that are shared.
     last: Vec<T>,
-    /// So many of the first items are gone.
+    /// How many of the first items are gone.
     gone: usize,
 }
 

@@ -123,7 +123,8 @@ fn new_message(s: &State, m: &Message, accepts: Reply, empties: Reply) -> Verdic
 
 /// A CON or NON: one that was heard before gets the same answer again and is not processed.
 fn own_message(s: &State, m: &Message, confirms: bool, moment: u64) -> Verdict
-    ensures { result ≡ heard_verdict moment (seen s.now) (content m.now) confirms (find (is_repeat moment m.now.mid) s.now.heard.messages) }
+    ensures { result ≡ heard_verdict moment (seen s.now) (content m.now) confirms
+        (find (is_repeat moment m.now.mid) s.now.heard.messages) }
 {
     if let Some(h) = s.heard.find(m.mid, moment) {
         return Verdict {
