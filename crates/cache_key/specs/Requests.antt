@@ -13,7 +13,8 @@ use Rattle.cache_key.specs.Keys.{key_of}
 
 -- a number of a format as an option's value, without leading zeros (RFC 7252 section 3.2)
 abbrev pub format_bytes : ℕ → List ℕ
-format_bytes n = if n == 0 then [] else (if nat_lt n 256 then n ∷ [] else (n / 256) ∷ (n % 256) ∷ [])
+format_bytes n =
+    if n == 0 then [] else (if nat_lt n 256 then n ∷ [] else (n / 256) ∷ (n % 256) ∷ [])
 
 -- Accept is 17.
 abbrev pub accept_options : Option ℕ → List Entry
