@@ -54,7 +54,8 @@ abbrev pub names_piece : ℕ → Option Block → Bool
 names_piece num None = true
 names_piece num (Some b) = b.num == num
 
--- It answers this piece of a body, and all of it is here. A body that goes whole is piece 0. Of what
--- an answer carries no more is asked for, so by its Block2 it is the only block, whatever its size.
+-- The message answers piece `num` of a body, and all of that answer is here. A body that is sent
+-- whole is piece 0. No more of a response is fetched here, so its Block2, if it has one, has to
+-- name the only block, of whatever size.
 abbrev pub answers_piece : ℕ → Content → Bool
 answers_piece num m = names_piece num (block_in 27 m) && is_alone (block_in 23 m)

@@ -63,8 +63,8 @@ next_szx (Some b) szx = if nat_lt b.szx szx then b.szx else szx
 abbrev pub if_final : Bool → Answered
 if_final final = if final then Last else Wrong
 
--- What ends a request is the whole response after the last piece, and an error is after any. By 2.31
--- a piece before the last is taken.
+-- After the last piece any final response ends the request; before it only an error does, and 2.31
+-- says that the piece was taken (RFC 7959 section 2.3).
 abbrev pub answer_to : UploadValue → Content → Answered
 answer_to u m =
     if not (answers_piece (next_num u) m) then Wrong

@@ -43,7 +43,8 @@ pub enum Progress {
 /// Puts the bytes after those that there are, for which there is room. The first ones aren't
 /// copied.
 fn join(bytes: &mut Vec<u8>, more: Vec<u8>)
-    requires { (bytes.old.items ≡ []) ⊎ (vec_len bytes.old + vec_len more ≤ vec_capacity bytes.old) }
+    requires { (bytes.old.items ≡ [])
+        ⊎ (vec_len bytes.old + vec_len more ≤ vec_capacity bytes.old) }
     ensures { bytes.new.items ≡ bytes.old.items ++ more.items }
 {
     if bytes.is_empty() {
@@ -137,7 +138,8 @@ impl Download {
         ensures ok { IfOk result
             (λ p. takes self.old.download (content m) ≡ Ok (self.new.download, told p)) }
         ensures asked { IfOk result NextCanBeAsked }
-        ensures err { IfErr result (λ fault. IsRefused fault (takes self.old.download (content m))) }
+        ensures err { IfErr result (λ fault.
+            IsRefused fault (takes self.old.download (content m))) }
         ensures first { self.old.download.bytes ≡ []
             → IfErr result (λ fault. fault ≢ BlockFault.Memory) }
         ensures same { OnErr result (self.new ≡ self.old) }

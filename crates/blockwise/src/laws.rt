@@ -27,8 +27,8 @@ pub fn uploads_succeed()
     ensures { UploadsSucceed }
 {}
 
-/// What goes in one message is whole as what goes in pieces is: the only piece, which a download gives,
-/// and the answer to piece 0, which an upload takes for its response.
+/// A body in one message counts as a body in pieces does: a download gives its only piece, and an
+/// upload takes the answer to its piece 0 as its response.
 pub fn one_message()
     ensures downloads { OnlyPieceIsWhole }
     ensures uploads { OnlyAnswerIsLast }

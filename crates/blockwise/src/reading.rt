@@ -63,7 +63,7 @@ pub fn is_alone(block: Option<Block>) -> bool
     }
 }
 
-/// Whether it names the piece of this number, should it name one.
+/// Whether it names the piece of this number, or none.
 fn names_piece(num: u32, block: Option<Block>) -> bool
     ensures { result ≡ names_piece num block }
 {
@@ -73,8 +73,8 @@ fn names_piece(num: u32, block: Option<Block>) -> bool
     }
 }
 
-/// Whether it answers the piece of this number of a body, and all of the answer is here. A body that
-/// goes whole is piece 0.
+/// Whether the message answers the piece of this number, and all of that answer is here (RFC 7959
+/// section 2.3). A body that is sent whole is piece 0.
 pub fn answers_piece(num: u32, m: &Message) -> bool
     ensures { result ≡ answers_piece num (content m.now) }
 {

@@ -190,7 +190,7 @@ impl Upload {
         self.szx = next_szx(block1_in(m), self.szx);
     }
 
-    /// Judges the answer to the piece. After `Next` the piece counts as taken; else nothing changes.
+    /// Judges the answer to the piece. `Next` counts the piece as taken; otherwise nothing changes.
     pub fn answered(&mut self, m: &Message) -> Answered
         ensures answer { result ≡ answer_to self.old (content m.now) }
         ensures next { (result ≡ Answered.Next) ↔ Continues self.old (content m.now) }
