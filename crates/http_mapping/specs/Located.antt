@@ -17,7 +17,8 @@ segments (first ∷ second ∷ others) = first ∷ second ∷ others
 
 -- the response names something, in texts
 abbrev pub names : List (List ℕ) → List (List ℕ) → Bool
-names path query = not ((length path == 0) && (length query == 0)) && (list_all is_utf8 path && list_all is_utf8 query)
+names path query = not ((length path == 0) && (length query == 0))
+    && (list_all is_utf8 path && list_all is_utf8 query)
 
 -- the text under which the target is hosted, if the proxy takes that text
 abbrev pub hosted : List ℕ → Target → Option (List ℕ)
@@ -25,13 +26,20 @@ hosted base t = if is_ok (target_at base (hosting base t)) then Some (hosting ba
 
 -- the target with another path and query
 abbrev pub with_parts : Target → List (List ℕ) → List (List ℕ) → Target
-with_parts asked path query = record { host = asked.host; port = asked.port; path = path; query = query }
+with_parts asked path query = record {
+  host = asked.host;
+  port = asked.port;
+  path = path;
+  query = query;
+}
 
 abbrev pub beside : List ℕ → Target → List (List ℕ) → List (List ℕ) → Option (List ℕ)
-beside base asked path query = if names path query then hosted base (with_parts asked path query) else None
+beside base asked path query =
+    if names path query then hosted base (with_parts asked path query) else None
 
 -- what 2.01 says was created is hosted at the host and port that were asked
 abbrev pub located : Rules → Sense → Response → Option (List ℕ)
 located rules (Requests q) w =
-    if w.code == 65 then beside rules.base q.target (segments w.location.path) w.location.query else None
+    if w.code == 65 then beside rules.base q.target (segments w.location.path) w.location.query
+    else None
 located rules (Refuses cause status) w = None

@@ -60,7 +60,8 @@ seconds_left w age = (1000 * unwrap_or w.max_age 60 - age) / 1000
 -- Cache-Control, on a 200 from 2.05
 abbrev pub cache_control : Response → ℕ → Pairs
 cache_control w age =
-    when (w.code == 69) (only (codes "Cache-Control") (codes "max-age=" ++ decimal (seconds_left w age)))
+    when (w.code == 69)
+    (only (codes "Cache-Control") (codes "max-age=" ++ decimal (seconds_left w age)))
 
 abbrev pub quoted : Option (List ℕ) → Pairs
 quoted None = []
@@ -80,8 +81,8 @@ abbrev pub is_read : Came → Bool
 is_read (Whole r) = is_read_method (method_named r.method)
 is_read (Bad kind) = false
 
--- What tells a cache of the representation, where one was asked for: that of an answer to another method is
--- none that a later GET may be answered with (RFC 9110, sections 9.3.3 and 9.3.4).
+-- What tells a cache about the representation, if one was asked for. An answer to another method
+-- has none with which a later GET may be answered (RFC 9110 sections 9.3.3 and 9.3.4).
 abbrev pub caching : Came → Response → ℕ → Pairs
 caching came w age = when (is_read came) (cache_control w age ++ entity_tag w)
 
@@ -108,7 +109,8 @@ connection came = when (closes came) (only (codes "Connection") (codes "close"))
 
 -- Content-Length, but in a 204 (RFC 9110, section 8.6)
 abbrev pub content_length : Status → ℕ → Pairs
-content_length status n = when (not (number_of status == 204)) (only (codes "Content-Length") (decimal n))
+content_length status n =
+    when (not (number_of status == 204)) (only (codes "Content-Length") (decimal n))
 
 abbrev pub is_head_method : Option Method → Bool
 is_head_method (Some Head) = true
@@ -122,18 +124,20 @@ is_head (Bad kind) = false
 abbrev pub status_for : Response → Status
 status_for w = status_of w.code (not (is_empty w.body))
 
--- The answer shows the response with this Content-Type and body: its status by its code, each field by its
--- rule, in this order, and the body, but to a HEAD (RFC 9110, section 9.3.2).
-pub record Shows (mapping : Mapping) (w : Response) (typing : Pairs) (body : List ℕ) (age : ℕ) (a : HttpAnswer) : Type 0 where
+-- The answer shows the response, with this Content-Type and body. Its status goes by the code, and
+-- each field by its rule, in this order. An answer to a HEAD has no body (RFC 9110 section 9.3.2).
+pub record Shows (mapping : Mapping) (w : Response) (typing : Pairs) (body : List ℕ) (age : ℕ)
+    (a : HttpAnswer) : Type 0 where
   pub status : a.status ≡ number_of (status_for w)
   pub phrase : a.phrase.now ≡ phrase_of (status_for w)
   pub fields : map pair_of a.fields.items
-      ≡ typing ++ caching mapping.came w age ++ value_if (codes "Location") (located mapping.rules mapping.sense w)
+      ≡ typing ++ caching mapping.came w age
+      ++ value_if (codes "Location") (located mapping.rules mapping.sense w)
       ++ retry_after w ++ connection mapping.came ++ content_length (status_for w) (length body)
   pub shown : body_bytes a.body ≡ (if is_head mapping.came then [] else body)
 
--- The status of an error of the proxy's own: of a refusal its own; 503 where the proxy is busy, 504 where
--- no reply came in time, and else 502 (RFC 9110, section 15.6).
+-- The status of an error of the proxy's own: 503 where the proxy is busy, 504 where no reply came
+-- in time, and otherwise 502 (RFC 9110 section 15.6). A refusal has a status of its own.
 abbrev pub failure_status : Cause → ℕ
 failure_status Busy = 503
 failure_status Timeout = 504
@@ -143,7 +147,8 @@ abbrev pub told_status : Sense → Cause → ℕ
 told_status (Requests q) cause = failure_status cause
 told_status (Refuses named status) cause = status
 
--- a status of the proxy's own: 4.05 of a CoAP server is none, which is told by another phrase than 400
+-- a status of the proxy's own; the 400 for a 4.05 of a CoAP server is not one, and has another
+-- phrase
 pub record IsOwn (n : ℕ) (status : Status) : Type 0 where
   pub number : number_of status ≡ n
   pub own : status ≢ MethodNotAllowed
@@ -159,13 +164,15 @@ pub record Tells (mapping : Mapping) (cause : Cause) (number : ℕ) (a : HttpAns
       ++ connection mapping.came ++ content_length told 0
   pub body : body_bytes a.body ≡ []
 
--- The body of the response is to be transformed: it isn't empty, and one of the routes leads from its format
--- to the media type that is wanted (RFC 8075, section 6.5).
-pub record IsRouted (routes : List (Form × Form)) (mapping : Mapping) (w : Response) (format : ℕ) (media : List ℕ) : Type 0 where
+-- The body of the response is to be transformed: it is not empty, and a route leads from its format
+-- to the media type that is wanted (RFC 8075 section 6.5).
+pub record IsRouted (routes : List (Form × Form)) (mapping : Mapping) (w : Response) (format : ℕ)
+    (media : List ℕ) : Type 0 where
   pub filled : is_empty w.body ≡ false
   pub has_format : w.format ≡ Some format
   pub accept : ℕ
-  pub wanted : wanted_of mapping.rules mapping.came mapping.sense ≡ Some (record { format = accept; media = media })
+  pub wanted : wanted_of mapping.rules mapping.came mapping.sense
+      ≡ Some (record { format = accept; media = media })
   pub routed : Contains routes (Format format, Media media)
 
 -- the number of the last reply that a response rests on
@@ -177,32 +184,39 @@ replies_of (Fault cause number) = []
 abbrev pub last_reply : Grounds → ℕ
 last_reply grounds = unwrap_or (slice_get (replies_of grounds) (length (replies_of grounds) - 1)) 0
 
-module _ (holds : Form → Form → List ℕ → List ℕ → Type 0) (takes : Form → Form → List ℕ → Type 0) where
+module _ (holds : Form → Form → List ℕ → List ℕ → Type 0)
+    (takes : Form → Form → List ℕ → Type 0) where
   -- No body can be made of it: its content isn't taken, or it is too large in the other form.
   abbrev pub FailsTo : Form → Form → List ℕ → Type 0
   FailsTo from to body =
       (takes from to body → ⊥)
       ⊎ ((other : List ℕ) × holds from to body other × (MAX_BODY_LEN < length other))
 
-module _ (routes : List (Form × Form)) (holds : Form → Form → List ℕ → List ℕ → Type 0) (takes : Form → Form → List ℕ → Type 0) where
-  -- A response whose body is transformed is shown with the other body, under the media type that is wanted. One
-  -- whose body can't be is an error of the proxy's own, which names the last reply.
+module _ (routes : List (Form × Form)) (holds : Form → Form → List ℕ → List ℕ → Type 0)
+    (takes : Form → Form → List ℕ → Type 0) where
+  -- A transformed response is shown with its other body, under the media type that is wanted. If
+  -- its body cannot be transformed, the answer is an error of the proxy's own that names the last
+  -- reply.
   abbrev pub MeansRouted : Mapping → Response → ℕ → List ℕ → ℕ → ℕ → HttpAnswer → Type 0
   MeansRouted mapping w format media last age a =
       ((other : List ℕ) × holds (Format format) (Media media) w.body other
       × Shows mapping w (only (codes "Content-Type") media) other age a)
-      ⊎ (FailsTo holds takes (Format format) (Media media) w.body × Tells mapping NotUnderstood last a)
+      ⊎ (FailsTo holds takes (Format format) (Media media) w.body
+      × Tells mapping NotUnderstood last a)
 
   abbrev pub MeansWhole : Mapping → Response → ℕ → ℕ → HttpAnswer → Type 0
   MeansWhole mapping w last age a =
-      (((format : ℕ) (media : List ℕ) → IsRouted routes mapping w format media → ⊥) × Shows mapping w (content_type w) w.body age a)
-      ⊎ ((format : ℕ) × (media : List ℕ) × IsRouted routes mapping w format media × MeansRouted mapping w format media last age a)
+      (((format : ℕ) (media : List ℕ) → IsRouted routes mapping w format media → ⊥)
+      × Shows mapping w (content_type w) w.body age a)
+      ⊎ ((format : ℕ) × (media : List ℕ) × IsRouted routes mapping w format media
+      × MeansRouted mapping w format media last age a)
 
   abbrev pub MeansTold : Mapping → Told → Grounds → ℕ → HttpAnswer → Type 0
   MeansTold mapping (TellsOf w) grounds age a = MeansWhole mapping w (last_reply grounds) age a
   MeansTold mapping (Fails cause) (Fault named number) age a = Tells mapping cause number a
   MeansTold mapping (Fails cause) grounds age a = ⊥
 
-  -- What an HTTP response says of what a request came to, where the first reply that this rests on is of that age.
+  -- What an HTTP response says of what a request came to. `age` is that of the first reply that
+  -- this rests on, in milliseconds.
   abbrev pub Means : Mapping → Found → ℕ → HttpAnswer → Type 0
   Means mapping found age a = MeansTold mapping found.told found.grounds age a

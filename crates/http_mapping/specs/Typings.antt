@@ -21,7 +21,8 @@ IsAlong routes (Routed from n) = Contains routes (from, Format n)
 IsAlong routes _ = ⊤
 
 -- Why the body isn't sent, but for want of memory.
-abbrev pub HasFault : (Form → Form → List ℕ → List ℕ → Type 0) → (Form → Form → List ℕ → Type 0) → BodyTyping → List ℕ → Unsent → Type 0
+abbrev pub HasFault : (Form → Form → List ℕ → List ℕ → Type 0) → (Form → Form → List ℕ → Type 0)
+    → BodyTyping → List ℕ → Unsent → Type 0
 HasFault holds takes typing body U.Type = typing ≡ Untypable
 HasFault holds takes typing body U.Content = Fails holds takes typing body
 HasFault holds takes typing body U.Memory = ⊤

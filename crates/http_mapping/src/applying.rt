@@ -27,7 +27,8 @@ pub fn applied<R: Relation>(
     body: &[u8],
 ) -> Result<Made, Memory>
     requires keep { AllKeep R.holds R.takes bank.now.stored.items }
-    ensures { IfOk result (λ a. IsApplied (map pair_of bank.now.stored.items) R.holds R.takes from.now to.now body.now a) }
+    ensures { IfOk result (λ a.
+        IsApplied (map pair_of bank.now.stored.items) R.holds R.takes from.now to.now body.now a) }
 {
     match bank.apply(from, to, body) {
         Ok(None) => Ok(Made::Nothing),

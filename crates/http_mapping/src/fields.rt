@@ -37,7 +37,8 @@ const DEFAULT_MAX_AGE: u32 = 60;
 
 /// Puts a field last.
 fn add(fields: &mut Vec<Field>, name: &'static str, value: String) -> Result<(), Memory>
-    ensures { OnOk result (map pair_of fields.new.items ≡ map pair_of fields.old.items ++ only name.now (string_bytes value)) }
+    ensures { OnOk result (map pair_of fields.new.items ≡ map pair_of fields.old.items
+        ++ only name.now (string_bytes value)) }
 {
     let value = value.into_bytes();
     fields.push(Field { name, value })?;
@@ -51,7 +52,8 @@ fn add_text(
     name: &'static str,
     text: &str,
 ) -> Result<(), Memory>
-    ensures { OnOk result (map pair_of fields.new.items ≡ map pair_of fields.old.items ++ only name.now text.now) }
+    ensures { OnOk result (map pair_of fields.new.items ≡ map pair_of fields.old.items
+        ++ only name.now text.now) }
 {
     add(fields, name, String::from_str(alloc, text)?)
 }
@@ -63,7 +65,8 @@ pub fn add_cause(
     cause: Cause,
     number: u32,
 ) -> Result<(), Memory>
-    ensures { OnOk result (map pair_of fields.new.items ≡ map pair_of fields.old.items ++ only (codes "HC-Cause") (cause_text cause ++ codes " " ++ decimal number)) }
+    ensures { OnOk result (map pair_of fields.new.items ≡ map pair_of fields.old.items
+        ++ only (codes "HC-Cause") (cause_text cause ++ codes " " ++ decimal number)) }
 {
     add(fields, "HC-Cause", format!(in alloc; "{cause} {number}")?)
 }
@@ -74,7 +77,8 @@ pub fn add_content_type(
     fields: &mut Vec<Field>,
     response: &Response,
 ) -> Result<(), Memory>
-    ensures { OnOk result (map pair_of fields.new.items ≡ map pair_of fields.old.items ++ content_type response.now) }
+    ensures { OnOk result (map pair_of fields.new.items ≡ map pair_of fields.old.items
+        ++ content_type response.now) }
 {
     let body = response.body.as_slice();
     if body.is_empty() {
@@ -95,7 +99,8 @@ pub fn add_content_type(
 
 /// The media type that a body was transformed to.
 pub fn add_media(alloc: Global, fields: &mut Vec<Field>, media: &Media) -> Result<(), Memory>
-    ensures { OnOk result (map pair_of fields.new.items ≡ map pair_of fields.old.items ++ only (codes "Content-Type") media.now) }
+    ensures { OnOk result (map pair_of fields.new.items ≡ map pair_of fields.old.items
+        ++ only (codes "Content-Type") media.now) }
 {
     add_text(alloc, fields, "Content-Type", media.as_str())
 }
@@ -117,7 +122,8 @@ fn add_freshness(
     response: &Response,
     age: u64,
 ) -> Result<(), Memory>
-    ensures { OnOk result (map pair_of fields.new.items ≡ map pair_of fields.old.items ++ cache_control response.now age) }
+    ensures { OnOk result (map pair_of fields.new.items ≡ map pair_of fields.old.items
+        ++ cache_control response.now age) }
 {
     if response.code != CONTENT {
         return Ok(());
@@ -140,7 +146,8 @@ fn seconds_left(response: &Response, age: u64) -> u64
 
 /// The entity tag, as HTTP writes it (RFC 9110, section 8.8.3).
 fn add_entity_tag(alloc: Global, fields: &mut Vec<Field>, response: &Response) -> Result<(), Memory>
-    ensures { OnOk result (map pair_of fields.new.items ≡ map pair_of fields.old.items ++ entity_tag response.now) }
+    ensures { OnOk result (map pair_of fields.new.items ≡ map pair_of fields.old.items
+        ++ entity_tag response.now) }
 {
     match &response.etag {
         Some(tag) if response.code == CONTENT => {
@@ -159,7 +166,8 @@ pub fn add_caching(
     response: &Response,
     age: u64,
 ) -> Result<(), Memory>
-    ensures { OnOk result (map pair_of fields.new.items ≡ map pair_of fields.old.items ++ caching (came_of came.now) response.now age) }
+    ensures { OnOk result (map pair_of fields.new.items ≡ map pair_of fields.old.items
+        ++ caching (came_of came.now) response.now age) }
 {
     if !is_read(came) {
         return Ok(());
@@ -187,7 +195,8 @@ pub fn add_location<R: Relation>(
     mapped: &Mapped<R>,
     response: &Response,
 ) -> Result<(), Memory>
-    ensures { OnOk result (map pair_of fields.new.items ≡ map pair_of fields.old.items ++ value_if (codes "Location") (located mapped.now.rules mapped.now.sense response.now)) }
+    ensures { OnOk result (map pair_of fields.new.items ≡ map pair_of fields.old.items
+        ++ value_if (codes "Location") (located mapped.now.rules mapped.now.sense response.now)) }
 {
     if let Some(value) = location_of(alloc, mapped, response)? {
         fields.push(Field {
@@ -204,7 +213,8 @@ pub fn add_retry_after(
     fields: &mut Vec<Field>,
     response: &Response,
 ) -> Result<(), Memory>
-    ensures { OnOk result (map pair_of fields.new.items ≡ map pair_of fields.old.items ++ retry_after response.now) }
+    ensures { OnOk result (map pair_of fields.new.items ≡ map pair_of fields.old.items
+        ++ retry_after response.now) }
 {
     match response.max_age {
         Some(seconds) if response.code == UNAVAILABLE => {
@@ -216,7 +226,8 @@ pub fn add_retry_after(
 
 /// Says that the connection is closed after the answer, where it is (RFC 9112, section 9.6).
 pub fn add_connection(alloc: Global, fields: &mut Vec<Field>, came: &Incoming) -> Result<(), Memory>
-    ensures { OnOk result (map pair_of fields.new.items ≡ map pair_of fields.old.items ++ connection (came_of came.now)) }
+    ensures { OnOk result (map pair_of fields.new.items ≡ map pair_of fields.old.items
+        ++ connection (came_of came.now)) }
 {
     if closes(came) {
         add_text(alloc, fields, "Connection", "close")?;
@@ -241,7 +252,8 @@ pub fn add_content_length(
     status: Status,
     len: usize,
 ) -> Result<(), Memory>
-    ensures { OnOk result (map pair_of fields.new.items ≡ map pair_of fields.old.items ++ content_length status len) }
+    ensures { OnOk result (map pair_of fields.new.items ≡ map pair_of fields.old.items
+        ++ content_length status len) }
 {
     if status.number() == NO_CONTENT {
         return Ok(());

@@ -1,8 +1,9 @@
-//! What a request of HTTP means to a device, and the HTTP response that tells an answer (RFC 8075, sections 5 to 7).
+//! What an HTTP request asks of a device, and the HTTP response that tells the answer (RFC 8075
+//! sections 5 to 7).
 //!
-//! Its one contract: `map_request` gives a request the one meaning that `Maps` allows, and `render` an HTTP
-//! response that tells the answer as `Means` says, field by field. The proxy's inputs and outputs
-//! (`gateway_world`) stand on it.
+//! One contract: `map_request` gives a request the one meaning that `Maps` allows, and `render`
+//! gives an HTTP response that tells the answer as `Means` says, field by field. The proxy's inputs
+//! and outputs (`gateway_world`) stand on it.
 #![tactic(auto)]
 
 mod applying;

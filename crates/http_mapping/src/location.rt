@@ -26,7 +26,8 @@ pub fn location_of<R: Relation>(
     mapped: &Mapped<R>,
     response: &Response,
 ) -> Result<Option<Vec<u8>>, Memory>
-    ensures { IfOk result (λ o. option_map (λ v. v.items) o ≡ spec.located mapped.now.rules mapped.now.sense response.now) }
+    ensures { IfOk result (λ o.
+        option_map (λ v. v.items) o ≡ spec.located mapped.now.rules mapped.now.sense response.now) }
 {
     match mapped.meaning() {
         Meaning::Ask { target, .. } if response.code == CREATED => {
@@ -58,7 +59,8 @@ fn hosted_beside(
     path: &[Bytes],
     query: &[Bytes],
 ) -> Result<Option<Vec<u8>>, Memory>
-    ensures { IfOk result (λ o. option_map (λ v. v.items) o ≡ spec.beside base.now asked.now path.now query.now) }
+    ensures { IfOk result (λ o.
+        option_map (λ v. v.items) o ≡ spec.beside base.now asked.now path.now query.now) }
 {
     if path.is_empty() && query.is_empty() {
         return Ok(None);

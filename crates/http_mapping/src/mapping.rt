@@ -58,7 +58,8 @@ pub fn map_request<R: Relation>(
     requires suits { Suits R.holds R.takes (rules_of (arc_value settings.now)).routes bank.now }
     ensures came { IfOk result (λ m. m.came ≡ limited (came_of came)) }
     ensures rules { IfOk result (λ m. m.rules ≡ rules_of (arc_value settings.now)) }
-    ensures maps { IfOk result (λ m. Maps R.holds R.takes (rules_of (arc_value settings.now)) m.came m.sense) }
+    ensures maps { IfOk result (λ m.
+        Maps R.holds R.takes (rules_of (arc_value settings.now)) m.came m.sense) }
 {
     let came = within_limit(came);
     let meant = meant_by(alloc, settings, bank, &came)?;
@@ -85,8 +86,12 @@ fn meant_by<R: Relation>(
     came: &Incoming,
 ) -> Result<Meant, Memory>
     requires suits { Suits R.holds R.takes settings.now.routes bank.now }
-    ensures maps { IfOk result (λ m. Maps R.holds R.takes (rules_of settings.now) (came_of came.now) (sense_of m.meaning (body_of (came_of came.now)))) }
-    ensures wants { IfOk result (λ m. m.wanted ≡ wanted_of (rules_of settings.now) (came_of came.now) (sense_of m.meaning (body_of (came_of came.now)))) }
+    ensures maps { IfOk result (λ m.
+        Maps R.holds R.takes (rules_of settings.now) (came_of came.now)
+        (sense_of m.meaning (body_of (came_of came.now)))) }
+    ensures wants { IfOk result (λ m.
+        m.wanted ≡ wanted_of (rules_of settings.now) (came_of came.now)
+        (sense_of m.meaning (body_of (came_of came.now)))) }
 {
     match came {
         Incoming::Bad(kind) => Ok(refused(Cause::BadHttp, bad_status(*kind))),
@@ -94,7 +99,7 @@ fn meant_by<R: Relation>(
     }
 }
 
-/// The status that tells of bytes which are no request.
+/// The status for bytes that are no request.
 fn bad_status(kind: BadKind) -> Status
     ensures { number_of result ≡ status_of kind }
 {
@@ -113,8 +118,12 @@ fn request_meant<R: Relation>(
     request: &Request,
 ) -> Result<Meant, Memory>
     requires suits { Suits R.holds R.takes settings.now.routes bank.now }
-    ensures maps { IfOk result (λ m. MapsMethod R.holds R.takes (rules_of settings.now) (content request.now) (method_named request.now.method.items) (sense_of m.meaning request.now.body.items)) }
-    ensures wants { IfOk result (λ m. m.wanted ≡ wanted_of (rules_of settings.now) (Whole (content request.now)) (sense_of m.meaning request.now.body.items)) }
+    ensures maps { IfOk result (λ m.
+        MapsMethod R.holds R.takes (rules_of settings.now) (content request.now)
+        (method_named request.now.method.items) (sense_of m.meaning request.now.body.items)) }
+    ensures wants { IfOk result (λ m.
+        m.wanted ≡ wanted_of (rules_of settings.now) (Whole (content request.now))
+        (sense_of m.meaning request.now.body.items)) }
 {
     match method_of(&request.method) {
         Some(method) if !is_refused_write(request, method) => {
@@ -124,8 +133,8 @@ fn request_meant<R: Relation>(
     }
 }
 
-/// The meaning of a request whose method is mapped. A target in absolute form counts by its path and
-/// query.
+/// The meaning of a request whose method is mapped. Of a target in absolute form, the path and the
+/// query count (RFC 9112 section 3.2.2).
 fn target_meant<R: Relation>(
     alloc: Global,
     settings: &Settings,
@@ -134,8 +143,13 @@ fn target_meant<R: Relation>(
     method: Method,
 ) -> Result<Meant, Memory>
     requires suits { Suits R.holds R.takes settings.now.routes bank.now }
-    ensures maps { IfOk result (λ m. MapsTarget R.holds R.takes (rules_of settings.now) (content request.now) method (target_at settings.now.base (origin_form request.now.target.items)) (sense_of m.meaning request.now.body.items)) }
-    ensures wants { IfOk result (λ m. m.wanted ≡ wanted_of (rules_of settings.now) (Whole (content request.now)) (sense_of m.meaning request.now.body.items)) }
+    ensures maps { IfOk result (λ m.
+        MapsTarget R.holds R.takes (rules_of settings.now) (content request.now) method
+        (target_at settings.now.base (origin_form request.now.target.items))
+        (sense_of m.meaning request.now.body.items)) }
+    ensures wants { IfOk result (λ m.
+        m.wanted ≡ wanted_of (rules_of settings.now) (Whole (content request.now))
+        (sense_of m.meaning request.now.body.items)) }
 {
     match target_of(alloc, settings.base.as_bytes(), named_text(request)) {
         Ok(target) => peer_meant(alloc, settings, bank, request, method, target),
@@ -161,8 +175,12 @@ fn peer_meant<R: Relation>(
     target: Target,
 ) -> Result<Meant, Memory>
     requires suits { Suits R.holds R.takes settings.now.routes bank.now }
-    ensures maps { IfOk result (λ m. MapsPeer R.holds R.takes (rules_of settings.now) (content request.now) method target (peer_in settings.now.directory target) (sense_of m.meaning request.now.body.items)) }
-    ensures wants { IfOk result (λ m. m.wanted ≡ wanted_of (rules_of settings.now) (Whole (content request.now)) (sense_of m.meaning request.now.body.items)) }
+    ensures maps { IfOk result (λ m.
+        MapsPeer R.holds R.takes (rules_of settings.now) (content request.now) method target
+        (peer_in settings.now.directory target) (sense_of m.meaning request.now.body.items)) }
+    ensures wants { IfOk result (λ m.
+        m.wanted ≡ wanted_of (rules_of settings.now) (Whole (content request.now))
+        (sense_of m.meaning request.now.body.items)) }
 {
     match peer_of(&settings.directory, &target) {
         Some(peer) => body_meant(alloc, settings, bank, request, method, target, peer),
@@ -170,7 +188,7 @@ fn peer_meant<R: Relation>(
     }
 }
 
-/// The status that tells of a target that names no resource.
+/// The status for a target that names no resource.
 fn target_status(fault: UriFault) -> Status
     ensures { number_of result ≡ fault_status fault }
 {
@@ -193,8 +211,12 @@ fn body_meant<R: Relation>(
     peer: Peer,
 ) -> Result<Meant, Memory>
     requires suits { Suits R.holds R.takes settings.now.routes bank.now }
-    ensures maps { IfOk result (λ m. MapsBody R.holds R.takes (rules_of settings.now) (content request.now) method target peer (sense_of m.meaning request.now.body.items)) }
-    ensures wants { IfOk result (λ m. m.wanted ≡ wanted_of (rules_of settings.now) (Whole (content request.now)) (sense_of m.meaning request.now.body.items)) }
+    ensures maps { IfOk result (λ m.
+        MapsBody R.holds R.takes (rules_of settings.now) (content request.now) method target peer
+        (sense_of m.meaning request.now.body.items)) }
+    ensures wants { IfOk result (λ m.
+        m.wanted ≡ wanted_of (rules_of settings.now) (Whole (content request.now))
+        (sense_of m.meaning request.now.body.items)) }
 {
     let body = carried_body(request, method);
     let typing = typing_of(request, settings, body);
@@ -239,8 +261,8 @@ fn carried_body(request: &Request, method: Method) -> &[u8]
     }
 }
 
-/// Whether what is asked beside the method isn't mapped: a condition of a write, or a body that is longer
-/// than any that goes to a server.
+/// Whether a request is refused although its method is mapped: a write with a condition (RFC 9110
+/// section 13.1), or a body that is longer than any that goes to a server.
 fn is_refused_write(request: &Request, method: Method) -> bool
     ensures { result ≡ refused_write method (content request.now) }
 {

@@ -22,10 +22,10 @@ use reply_reading::{Finding, Outcome, Response};
 use std::alloc::Global;
 use transformers::{Bank, Relation};
 
-/// The HTTP response that tells what a request came to, where the first reply that this rests on was heard
-/// `age` milliseconds ago. A body that isn't empty is transformed where the bank has a transformer from its format
-/// to the media type that is wanted; one that can't be gives 502. An answer to HEAD has no body, and the Content-Length
-/// of the one to GET.
+/// The HTTP response that tells what a request came to. The first reply that this rests on was
+/// heard `age` milliseconds ago. A body is transformed if the bank has a transformer from its
+/// format to the media type that is wanted; if that fails, the answer is a 502. An answer to a HEAD
+/// has no body, and the Content-Length of the answer to a GET.
 pub fn render<R: Relation>(
     alloc: Global,
     bank: &Bank<R>,
@@ -34,7 +34,8 @@ pub fn render<R: Relation>(
     age: u64,
 ) -> Result<HttpAnswer, Memory>
     requires keep { AllKeep R.holds R.takes bank.now.stored.items }
-    ensures means { IfOk result (λ a. Means (map forms_of bank.now.stored.items) R.holds R.takes mapped.now finding.now age a) }
+    ensures means { IfOk result (λ a.
+        Means (map forms_of bank.now.stored.items) R.holds R.takes mapped.now finding.now age a) }
     ensures digits { IfOk result (λ a. a.status < 1000) }
 {
     match finding.outcome() {
@@ -60,7 +61,8 @@ fn last_reply(finding: &Finding) -> u32
 
 /// The number of the entry that an error of the proxy's own names.
 fn number_named(finding: &Finding) -> u32
-    ensures { (cause : Causes) → Fits (Fails cause) finding.now.grounds → finding.now.grounds ≡ Fault cause result }
+    ensures { (cause : Causes) → Fits (Fails cause) finding.now.grounds
+        → finding.now.grounds ≡ Fault cause result }
 {
     match finding.grounds() {
         Grounds::Fault(_, number) => *number,
@@ -113,7 +115,8 @@ fn failure_status(cause: Cause) -> Status
     }
 }
 
-/// The answer that shows a response of that age, in milliseconds, with its body as it is or transformed.
+/// The answer that shows a response of that age (in milliseconds), with its body as it is or
+/// transformed.
 fn show_whole<R: Relation>(
     alloc: Global,
     bank: &Bank<R>,
@@ -123,7 +126,9 @@ fn show_whole<R: Relation>(
     age: u64,
 ) -> Result<HttpAnswer, Memory>
     requires keep { AllKeep R.holds R.takes bank.now.stored.items }
-    ensures means { IfOk result (λ a. MeansWhole (map forms_of bank.now.stored.items) R.holds R.takes mapped.now response.now last age a) }
+    ensures means { IfOk result (λ a.
+        MeansWhole (map forms_of bank.now.stored.items) R.holds R.takes
+        mapped.now response.now last age a) }
     ensures digits { IfOk result (λ a. a.status < 1000) }
 {
     match showing_of(bank, mapped, response)? {
@@ -157,7 +162,8 @@ fn show<R: Relation>(
     body: &[u8],
     age: u64,
 ) -> Result<HttpAnswer, Memory>
-    ensures shows { IfOk result (λ a. Shows mapped.now response.now (map pair_of fields.items) body.now age a) }
+    ensures shows { IfOk result (λ a.
+        Shows mapped.now response.now (map pair_of fields.items) body.now age a) }
     ensures digits { IfOk result (λ a. a.status < 1000) }
 {
     let status = status_of(response.code, !response.body.as_slice().is_empty());

@@ -57,7 +57,8 @@ fn transformed<R: Relation>(
     requires along { Contains (map pair_of bank.now.stored.items) (from.now, Format format) }
     ensures holds { IfOk result (λ b. R.holds from.now (Format format) body.now b) }
     ensures short { IfOk result (λ b. length b ≤ MAX_BODY_LEN) }
-    ensures fault { IfErr result (λ e. HasFault R.holds R.takes (Routed from.now format) body.now e) }
+    ensures fault { IfErr result (λ e.
+        HasFault R.holds R.takes (Routed from.now format) body.now e) }
 {
     match applied(bank, from, &Form::Format(format), body) {
         Ok(Made::Bytes(bytes)) => Ok(Bytes::of(bytes)),
@@ -76,8 +77,11 @@ pub fn sending_of<R: Relation>(
 ) -> Result<Sending, Unsent>
     requires keep { AllKeep R.holds R.takes bank.now.stored.items }
     requires along { IsAlong (map pair_of bank.now.stored.items) (typing_shown typing) }
-    ensures sent { (whole : List ℕ) → carried method whole ≡ body.now → IfOk result (λ s. Becomes R.holds R.takes (typing_shown typing.entry) body.now s.format (payload_in s.payload whole)) }
-    ensures fault { IfErr result (λ e. HasFault R.holds R.takes (typing_shown typing.entry) body.now e) }
+    ensures sent { (whole : List ℕ) → carried method whole ≡ body.now
+        → IfOk result (λ s. Becomes R.holds R.takes (typing_shown typing.entry) body.now s.format
+        (payload_in s.payload whole)) }
+    ensures fault { IfErr result (λ e.
+        HasFault R.holds R.takes (typing_shown typing.entry) body.now e) }
 {
     match typing {
         Typing::Untyped => Ok(Sending {

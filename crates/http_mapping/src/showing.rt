@@ -30,7 +30,8 @@ pub fn showing_of<'a, R: Relation>(
     response: &Response,
 ) -> Result<Showing<'a>, Memory>
     requires keep { AllKeep R.holds R.takes bank.now.stored.items }
-    ensures { IfOk result (λ s. IsShowing (map pair_of bank.now.stored.items) R.holds R.takes mapped.now response.now s) }
+    ensures { IfOk result (λ s.
+        IsShowing (map pair_of bank.now.stored.items) R.holds R.takes mapped.now response.now s) }
 {
     if response.body.as_slice().is_empty() {
         return Ok(Showing::Same);
@@ -52,8 +53,10 @@ fn showing_along<'a, R: Relation>(
     requires keep { AllKeep R.holds R.takes bank.now.stored.items }
     requires filled { (length response.now.body == 0) ≡ false }
     requires has_format { response.now.format ≡ Some format }
-    requires wanted { wanted_of mapped.now.rules mapped.now.came mapped.now.sense ≡ Some wanted.now }
-    ensures { IfOk result (λ s. IsShowing (map pair_of bank.now.stored.items) R.holds R.takes mapped.now response.now s) }
+    requires wanted { wanted_of mapped.now.rules mapped.now.came mapped.now.sense
+        ≡ Some wanted.now }
+    ensures { IfOk result (λ s.
+        IsShowing (map pair_of bank.now.stored.items) R.holds R.takes mapped.now response.now s) }
 {
     let to = Form::Media(wanted.media.copy()?);
     match applied(bank, &Form::Format(format), &to, response.body.as_slice())? {

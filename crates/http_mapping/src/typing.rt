@@ -76,10 +76,11 @@ fn typing_said<'a>(value: &[u8], settings: &'a Settings) -> Typing<'a>
     }
 }
 
-/// What is known of a body that goes to a server. An empty one has no format, and one in a content coding
-/// none that CoAP has.
+/// What is known of the format of a body that goes to a server. An empty body has none; one with a
+/// content coding has none that CoAP knows.
 pub fn typing_of<'a>(request: &Request, settings: &'a Settings, body: &[u8]) -> Typing<'a>
-    ensures says { typing_shown result ≡ typing_for (rules_of settings.now) (content request.now) body.now }
+    ensures says { typing_shown result
+        ≡ typing_for (rules_of settings.now) (content request.now) body.now }
     ensures along { IsAlong settings.now.routes (typing_shown result) }
 {
     if body.is_empty() {
@@ -96,7 +97,8 @@ pub fn typing_of<'a>(request: &Request, settings: &'a Settings, body: &[u8]) -> 
 
 /// Puts a value last, with a comma before it where one stands there.
 fn put_value(all: &mut Vec<u8>, begun: bool, value: &[u8]) -> Result<(), Memory>
-    ensures { OnOk result (all.new.items ≡ all.old.items ++ (if begun then 44 ∷ value.now else value.now)) }
+    ensures { OnOk result (all.new.items
+        ≡ all.old.items ++ (if begun then 44 ∷ value.now else value.now)) }
 {
     if begun {
         all.push(b',')?;
@@ -119,15 +121,17 @@ fn one_value(alloc: Global, request: &Request, name: &'static str) -> Result<Vec
     Ok(all)
 }
 
-/// What a request takes as its answer, where it asks for something; a fault but Memory where nothing that it
-/// takes can be had.
+/// The format and media type that a request wants, if its Accept asks for some. A fault other than
+/// `Memory` says that nothing that it accepts can be had.
 pub fn wanted_by(
     alloc: Global,
     request: &Request,
     settings: &Settings,
 ) -> Result<Option<Wanted>, MediaFault>
-    ensures wanted { IfOk result (λ o. accepted_of (rules_of settings.now) (content request.now) ≡ Ok o) }
-    ensures fault { IfErr result (λ e. e ≢ MediaFault.Memory → accepted_of (rules_of settings.now) (content request.now) ≡ Err e) }
+    ensures wanted { IfOk result (λ o.
+        accepted_of (rules_of settings.now) (content request.now) ≡ Ok o) }
+    ensures fault { IfErr result (λ e. e ≢ MediaFault.Memory
+        → accepted_of (rules_of settings.now) (content request.now) ≡ Err e) }
 {
     match one_value(alloc, request, "accept") {
         Ok(value) => accept_of(alloc, &value, settings.policy, &settings.routes),
