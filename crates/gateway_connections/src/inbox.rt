@@ -1,4 +1,4 @@
-//! The bytes of one connection, as far as they aren't asked.
+//! The bytes of one connection that are not asked yet.
 
 ghost use Rattle.std.specs.Prelude.{IfOk, OnOk, OnErr};
 
@@ -17,7 +17,7 @@ pub enum Next {
     Nothing,
 }
 
-/// What an inbox held: the bytes between two places, and the rest.
+/// What an inbox held: the bytes between two places, and everything else.
 #[derive(Clone, Copy)]
 pub struct Mark {
     start: usize,
@@ -32,7 +32,7 @@ pub struct Mark {
 pub struct Inbox {
     number: u32,
     reader: Reader,
-    /// How many bytes count as unread: what came in of a request begun doesn't.
+    /// How many bytes count as unread; those of a request that has begun do not.
     unread: usize,
     /// The client was told to go on with the request that is next.
     told: bool,
@@ -97,7 +97,8 @@ impl Inbox {
         self.number
     }
 
-    /// Whether so many bytes more would be too many. Bytes after the last request don't count.
+    /// Whether so many bytes more would be more than may wait unread (`MAX_UNREAD`). Bytes after
+    /// the last request do not count.
     pub fn passes_limit(&self, reads: bool, more: usize) -> bool
         ensures { result ≡ is_full reads more self.now.current }
     {

@@ -8,14 +8,14 @@ ghost use Rattle.http_edge.specs.Reading.{closes as is_last};
 use http_edge::{Edge, Incoming, Memory};
 use std::alloc::Global;
 
-/// The bytes that came in, as far as they weren't let go, and the edge that reads them.
+/// The bytes that came in and were not let go, and the edge that reads them.
 #[derive(Drop)]
 pub struct Reader {
     edge: Edge,
     pub bytes: Vec<u8>,
-    /// The bytes before it were asked.
+    /// The bytes before this place were asked.
     pub start: usize,
-    /// The edge was given the bytes before it.
+    /// The edge was given the bytes before this place.
     taken: usize,
     ghost order: { start ≤ taken },
     ghost within: { taken ≤ vec_len bytes },
@@ -62,7 +62,7 @@ impl Reader {
         self.edge.unread() + (self.bytes.len() - self.taken)
     }
 
-    /// How many bytes aren't asked yet.
+    /// How many bytes are not asked yet.
     pub fn len(&self) -> usize
         ensures { result ≡ length (text_of self.now) }
     {
@@ -144,7 +144,7 @@ impl Reader {
         self.edge.wants_continue()
     }
 
-    /// Lets the bytes go that were asked, where they are more than the others.
+    /// Lets go of the bytes that were asked, once they are more than the others.
     pub fn let_go(&mut self)
         ensures in_step { IsInStep self.old → IsInStep self.new }
         ensures text { text_of self.new ≡ text_of self.old }
@@ -158,7 +158,7 @@ impl Reader {
         }
     }
 
-    /// Takes off the bytes from the end on, and reads again from the start on.
+    /// Removes the bytes from `end` on, and reads again from `start` on.
     pub fn go_back(&mut self, start: usize, end: usize)
         requires order { start ≤ end }
         requires within { end ≤ vec_len self.old.bytes }
