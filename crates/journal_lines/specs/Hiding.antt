@@ -10,7 +10,8 @@ stars n = replicate n 42
 abbrev pub starred : Content → Content
 starred m = record m { payload = stars (length m.payload) }
 
--- Of a message the same one with stars for its payload is shown, and of bytes that spell none as many stars.
+-- A message is shown with `*` for each byte of its payload. Bytes that spell no message are shown
+-- as so many `*`.
 pub record Hides (bytes shown : List ℕ) : Type 0 where
   pub message : (m : Content) → Spells m bytes → Spells (starred m) shown
   pub other : ((m : Content) → Spells m bytes → ⊥) → shown ≡ stars (length bytes)

@@ -1,7 +1,7 @@
 //! The line of an entry of a journal, as it is printed, written to files and shown.
 //!
-//! One contract: of a datagram whose payload isn't to be shown, the line has the same message with `*` in
-//! place of each byte of the payload, and of bytes that are no message as many `*`. `script_runs`, the
+//! One contract: where payloads are hidden, the line of a datagram has the message with `*` for
+//! each byte of its payload; bytes that are no message become as many `*`. `script_runs`, the
 //! window of `gateway_server` and the program write their lines by it.
 #![tactic(auto)]
 
