@@ -6,8 +6,7 @@ use Rattle.journal_book.specs.Views.{item_of}
 use Rattle.journal_extracts.specs.declared.extract.Extract.{Extract}
 use Rattle.journal_extracts.specs.declared.extract.Numbered.{Numbered}
 
--- The entries from this number on, in order: as many as there are, but at most 256, and one at least where
--- there is one.
+-- The entries from this number on, in order: 256 at most, and at least one if there is one.
 pub record IsExtract {R : Type 0} (h : List Written) (from : ℕ) (x : Extract R) : Type 0 where
   pub total : x.total ≡ length h
   pub entries : map item_of x.entries.items ≡ take (length x.entries.items) (drop from h)

@@ -37,8 +37,8 @@ fn size_at<R: Relation>(journal: &Journal<R>, number: usize) -> u64 {
     }
 }
 
-/// Where the copied entries end that begin at this number: the first of them is copied, and those with it
-/// that count no more together than may be copied.
+/// Where the entries end that are copied from this number on: the first of them, and as many more
+/// as count no more bytes in all than may be copied.
 fn copied_end<R: Relation>(journal: &Journal<R>, from: usize) -> usize
     requires { from ≤ length journal.now.entries }
     ensures begin { from ≤ result }
@@ -105,7 +105,8 @@ pub fn numbered_of<R: Relation>(
     numbers: &[u32],
     entries: Vec<Numbered<R>>,
 ) -> Result<Vec<Numbered<R>>, AllocError>
-    ensures placed { IfOk result (λ v. map place_of v.items ≡ entries_at journal.now.entries numbers.now) }
+    ensures placed { IfOk result (λ v.
+        map place_of v.items ≡ entries_at journal.now.entries numbers.now) }
     ensures few { IfOk result (λ v. length v.items ≤ length numbers.now) }
 {
     let mut entries = entries;

@@ -1,9 +1,9 @@
-//! Entries of a journal, copied for who looks at it while more are added: some that follow each other, or
+//! Entries of a journal, copied for a viewer while more are added: some that follow one another, or
 //! those that tell of one request.
 //!
-//! One contract: what is copied are the journal's entries, under their numbers, 256 at most. Which of them
-//! tell of a request is found in goes that look at 4,096 entries each. `gateway_desk` makes each copy and
-//! each go under its lock, so that who looks is waited for no longer than that takes.
+//! One contract: what is copied are the journal's entries under their numbers, 256 at most. Those
+//! that tell of a request are found in rounds of 4,096 entries each. `gateway_desk` makes each copy
+//! and each round under its lock, so a viewer holds up the gateway no longer than that.
 #![tactic(auto)]
 
 mod extract;

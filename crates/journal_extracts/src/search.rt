@@ -8,11 +8,12 @@ use std::alloc::{AllocError, Global};
 use transformers::Relation;
 use uri_map::{Peer, is_same_peer};
 
-/// How many entries a search looks at in one go.
+/// How many entries a search looks at in one round.
 const MOST_SEEN: usize = 4096;
 
-/// In how many goes a search ends at most: it looks at each of the journal's entries three times, once to
-/// find the answer, once the connection and once what to choose, and each time starts with a go of its own.
+/// How many rounds a search takes at most. It looks at each entry of the journal three times: to
+/// find the answer, to find the connection, and to choose. Each of these begins with a round of its
+/// own.
 pub const MOST_GOES: usize = 64;
 
 /// What the entry is that a search begins at.
@@ -54,8 +55,8 @@ enum Stage {
     Done,
 }
 
-/// A search for the entries that tell of one request: that of its connection, its own, those of the
-/// datagrams to its device and from it until it was answered, that of its answer, and those of what that
+/// A search for the entries that tell of one request: its connection's, its own, those of the
+/// datagrams to and from its device until it was answered, its answer's, and those that the answer
 /// rests on. It looks at some entries at a time; meanwhile more may be added to the journal.
 #[derive(Drop)]
 pub struct Search {
@@ -71,8 +72,8 @@ pub struct Search {
 }
 
 impl Search {
-    /// A search for the request that the entry with this number is or answers, or that was answered first
-    /// by it. It takes no memory later.
+    /// A search for the request that the entry with this number is, or answers, or that was
+    /// answered first by it. It allocates nothing later.
     pub fn new(alloc: Global, number: usize) -> Result<Search, AllocError> {
         Ok(Search {
             number,
@@ -82,14 +83,14 @@ impl Search {
         })
     }
 
-    /// The numbers of the entries that tell of the request; there are none where there is no request.
+    /// The numbers of the entries that tell of the request; none if there is no such request.
     pub fn chosen(&self) -> &[u32]
         ensures { length result.now ≤ 256 }
     {
         &self.chosen
     }
 
-    /// Goes on, over this journal. Whether it has ended.
+    /// Makes the next round over this journal. True once the search has ended.
     pub fn go_on<R: Relation>(&mut self, journal: &Journal<R>) -> bool {
         match self.stage {
             Stage::Answer(from) => self.find_answer(journal, from),
@@ -118,7 +119,8 @@ impl Search {
         };
     }
 
-    /// Looks for the entry of the connection, before this one, and chooses what stands before the request.
+    /// Looks for the connection's entry, before this one, and then chooses what stands before the
+    /// request.
     fn find_opened<R: Relation>(&mut self, journal: &Journal<R>, request: Request, before: usize) {
         let from = before.saturating_sub(MOST_SEEN);
         let opened = opened_in(journal, request.conn, from, before);
@@ -134,8 +136,8 @@ impl Search {
         self.stage = Stage::Choosing(request, request.ask.saturating_add(1));
     }
 
-    /// Chooses what goes between the gateway and the device, from this entry on until the request is
-    /// answered, and the answer.
+    /// Chooses the datagrams between the gateway and the device, from this entry on until the
+    /// request is answered; and then the answer.
     fn choose_between<R: Relation>(&mut self, journal: &Journal<R>, request: Request, from: usize) {
         let to = from.saturating_add(MOST_SEEN).min(request.end);
         let cause = cause_at(journal, request);
@@ -165,7 +167,7 @@ impl Search {
         }
     }
 
-    /// Chooses a datagram, where there is room for it and for the connection, the request and the answer.
+    /// Chooses a datagram, if that leaves room for the connection, the request and the answer.
     fn choose_datagram<R: Relation>(&mut self, journal: &Journal<R>, number: usize) {
         let Some(entry) = journal.get(number) else {
             return;
@@ -177,7 +179,7 @@ impl Search {
         }
     }
 
-    /// Chooses of what the answer rests on what stands between these numbers.
+    /// Chooses those entries between these numbers that the answer rests on.
     fn choose_grounds<R: Relation>(
         &mut self,
         journal: &Journal<R>,
@@ -204,7 +206,7 @@ impl Search {
         }
     }
 
-    /// Chooses what stands before the request: its connection, and what its answer rests on; and itself.
+    /// Chooses the connection, what the answer rests on before the request, and the request itself.
     fn choose_before<R: Relation>(&mut self, journal: &Journal<R>, request: Request) {
         let (opened, ask) = (request.opened, request.ask);
         self.choose_grounds(journal, request, 0, opened);
@@ -237,7 +239,8 @@ fn is_answer<R: Relation>(entry: &Entry<R>, start: Start, number: usize) -> bool
     }
 }
 
-/// Whether an answer rests on that entry, or names it as its cause. The numbers that it rests on rise.
+/// Whether an answer rests on that entry, or names it as its cause. The numbers it rests on are in
+/// ascending order.
 fn rests_on(grounds: &Grounds, number: usize) -> bool {
     let Ok(number) = u32::try_from(number) else {
         return false;
@@ -250,7 +253,7 @@ fn rests_on(grounds: &Grounds, number: usize) -> bool {
     }
 }
 
-/// The number of the answer that is looked for, where it is between these numbers.
+/// The number of the answer that is looked for, if it is between these numbers.
 fn answer_in<R: Relation>(
     journal: &Journal<R>,
     start: Start,
@@ -274,7 +277,8 @@ fn ask_of<R: Relation>(journal: &Journal<R>, answer: usize) -> Option<usize> {
     }
 }
 
-/// The request that is answered there, or that the entry with this number is, where it isn't answered.
+/// The request that is answered there; or, where there is no answer, the one that the entry with
+/// this number is.
 fn request_of<R: Relation>(
     journal: &Journal<R>,
     number: usize,
