@@ -20,7 +20,8 @@ source-same a b e =
     by a b (same_peer-same a.peer b.peer both.0) (eqb-true a.mid b.mid both.1)
   where
     by : (x y : Source) → x.peer ≡ y.peer → x.mid ≡ y.mid → x ≡ y
-    by x y p m = ap (λ (q : Peer). record { peer = q; mid = x.mid }) p ∙ ap (λ (i : ℕ). record { peer = y.peer; mid = i }) m
+    by x y p m = ap (λ (q : Peer). record { peer = q; mid = x.mid }) p
+        ∙ ap (λ (i : ℕ). record { peer = y.peer; mid = i }) m
 
 pub source-itself : (a : Source) → same_source a a ≡ true
 source-itself a = rw (same_peer-itself a.peer, eqb-itself a.mid) refl
@@ -30,8 +31,10 @@ symmetric a b = by (same_source a b) refl (same_source b a) refl
   where
     by : (c : Bool) → same_source a b ≡ c → (d : Bool) → same_source b a ≡ d → c ≡ d
     by true e true f = refl
-    by true e false f = sym (sym f ∙ ap (λ (x : Source). same_source b x) (source-same a b e) ∙ source-itself b)
-    by false e true f = sym e ∙ ap (λ (x : Source). same_source a x) (source-same b a f) ∙ source-itself a
+    by true e false f =
+        sym (sym f ∙ ap (λ (x : Source). same_source b x) (source-same a b e) ∙ source-itself b)
+    by false e true f = sym e ∙ ap (λ (x : Source). same_source a x) (source-same b a f)
+        ∙ source-itself a
     by false e false f = refl
 
 pub same_source-equiv : IsEquivalence same_source

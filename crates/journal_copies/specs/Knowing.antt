@@ -40,8 +40,8 @@ with_seen false n s x old = old
 abbrev pub AreBefore : ℕ → List Seen → Type 0
 AreBefore n xs = AllByRecursion (λ (x : Seen). x.number < n) xs
 
--- What was done at a moment, in the entry with this number, is seen too; and it is told whether that is
--- one message more.
+-- What the entry with this number did, at this moment, is among what was seen; and `more` says
+-- whether that is one more message.
 pub record Sees {S : Type 0} (n s : ℕ) (done : Option Done) (old : List Seen)
     (m : HashMap Source ℕ S) (more : Bool) : Type 0 where
   pub knows : Knows m (seen_by n s done old)

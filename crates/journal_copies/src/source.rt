@@ -4,8 +4,8 @@ use std::hash::{Hash, Hasher};
 use std::net::IpAddr;
 use uri_map::{Peer, is_same_peer};
 
-/// Where a message came from, and its message ID: two that have both in common within 247 seconds are
-/// one message (RFC 7252 section 4.5).
+/// Where a message came from, and its message ID. Two messages with the same source within 247
+/// seconds (EXCHANGE_LIFETIME) are copies of one (RFC 7252 section 4.5).
 #[derive(Clone, Copy)]
 pub struct Source {
     pub peer: Peer,
