@@ -23,7 +23,8 @@ SaysDatagram d text = text ≡ d.peer.now ++ 32 ∷ d.digits.now
 abbrev pub SaysGrounds : Grounds → List ℕ → Type 0
 SaysGrounds (Live numbers) text = text ≡ codes "live" ++ 32 ∷ numbers.now
 SaysGrounds (Kept numbers) text = text ≡ codes "kept" ++ 32 ∷ numbers.now
-SaysGrounds (Fault kind n) text = (digits : List ℕ) × (text ≡ codes "fault" ++ 32 ∷ (kind.now ++ 32 ∷ digits)) × IsNumber digits n
+SaysGrounds (Fault kind n) text = (digits : List ℕ)
+    × (text ≡ codes "fault" ++ 32 ∷ (kind.now ++ 32 ∷ digits)) × IsNumber digits n
 
 -- CONN ASK and the grounds
 pub record SaysAnswer (a : Answer) (text : List ℕ) : Type 0 where
@@ -45,7 +46,8 @@ pub record SaysRequest (connection : ℕ) (r : Request) (text : List ℕ) : Type
 
 -- CONN bad
 abbrev pub SaysBad : ℕ → List ℕ → Type 0
-SaysBad connection text = (digits : List ℕ) × (text ≡ digits ++ 32 ∷ codes "bad") × IsNumber digits connection
+SaysBad connection text = (digits : List ℕ) × (text ≡ digits ++ 32 ∷ codes "bad")
+    × IsNumber digits connection
 
 -- what follows the word asked
 abbrev pub SaysAsked : Event → List ℕ → Type 0
@@ -55,16 +57,20 @@ SaysAsked other text = ⊥
 
 -- the word and CONN
 abbrev pub SaysConnection : List ℕ → ℕ → List ℕ → Type 0
-SaysConnection word connection text = (digits : List ℕ) × (text ≡ word ++ 32 ∷ digits) × IsNumber digits connection
+SaysConnection word connection text = (digits : List ℕ) × (text ≡ word ++ 32 ∷ digits)
+    × IsNumber digits connection
 
 abbrev pub Says : Event → List ℕ → Type 0
 Says (Opened connection) text = SaysConnection (codes "opened") connection text
-Says (Asked connection r) text = (rest : List ℕ) × (text ≡ codes "asked" ++ 32 ∷ rest) × SaysRequest connection r rest
-Says (Bad connection) text = (rest : List ℕ) × (text ≡ codes "asked" ++ 32 ∷ rest) × SaysBad connection rest
+Says (Asked connection r) text = (rest : List ℕ) × (text ≡ codes "asked" ++ 32 ∷ rest)
+    × SaysRequest connection r rest
+Says (Bad connection) text = (rest : List ℕ) × (text ≡ codes "asked" ++ 32 ∷ rest)
+    × SaysBad connection rest
 Says (Sent d) text = (rest : List ℕ) × (text ≡ codes "sent" ++ 32 ∷ rest) × SaysDatagram d rest
 Says (Heard d) text = (rest : List ℕ) × (text ≡ codes "heard" ++ 32 ∷ rest) × SaysDatagram d rest
 Says Passed text = text ≡ codes "passed"
-Says (Answered a) text = (rest : List ℕ) × (text ≡ codes "answered" ++ 32 ∷ rest) × SaysAnswer a rest
+Says (Answered a) text = (rest : List ℕ) × (text ≡ codes "answered" ++ 32 ∷ rest)
+    × SaysAnswer a rest
 Says (Shut connection) text = SaysConnection (codes "shut") connection text
 Says Sealed text = text ≡ codes "sealed"
 

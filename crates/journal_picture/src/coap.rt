@@ -9,8 +9,8 @@ use media_map::media_of;
 use std::alloc::{AllocError, Global};
 use std::str::from_utf8;
 
-/// Writes what the message that these digits stand for says: its type, code and payload, its message ID
-/// and token, and its options.
+/// Writes what the message in these digits says: its type, code, payload, message ID, token and
+/// options.
 pub(crate) fn write_message(
     label: &mut Label<'_>,
     alloc: Global,
@@ -31,8 +31,8 @@ pub(crate) fn write_message(
     }
 }
 
-/// Writes what the message says. Of a copy the number of the first entry that has the same is told in
-/// place of its token and options.
+/// Writes what the message says. For a copy the number of the first equal entry stands in place of
+/// its token and options.
 fn write_decoded(
     label: &mut Label<'_>,
     alloc: Global,
@@ -205,8 +205,7 @@ fn write_block(page: &mut Page, value: &[u8]) -> Result<(), AllocError> {
     }
 }
 
-/// Writes a payload: a text itself, or where it is long its beginning, and of others how many bytes they
-/// have.
+/// Writes a payload: a text, or the beginning of a long one; for anything else the number of bytes.
 fn write_payload(page: &mut Page, payload: &[u8]) -> Result<(), AllocError> {
     match from_utf8(payload) {
         Ok(text) => write_quoted(page, text),

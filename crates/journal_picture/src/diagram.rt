@@ -1,4 +1,4 @@
-//! The page: what it is called, the lines of clients, gateway and devices, a row for each entry, and what
+//! The page: its title, the lines of clients, gateway and devices, a row for each entry, and what
 //! the arrows mean.
 
 ghost use Rattle.std.specs.Prelude.{◌≤◌, length};
@@ -29,8 +29,8 @@ pub fn draw(alloc: Global, bytes: &[u8]) -> Result<Page, PictureFault> {
     drawn(alloc, bytes, Extent::Whole)
 }
 
-/// Draws the part of a journal that these lines are: the numbers of its entries rise, each connection that it
-/// names is opened in it, and what an answer names may be left out.
+/// Draws these lines, which are a part of a journal. The numbers of its entries ascend, each
+/// connection that it names is opened in it, and entries that an answer names may be left out.
 pub fn draw_part(alloc: Global, bytes: &[u8]) -> Result<Page, PictureFault> {
     drawn(alloc, bytes, Extent::Part)
 }
@@ -56,7 +56,7 @@ fn line_at(bytes: &[u8], place: usize) -> u64
     (ends as u64).saturating_add(1)
 }
 
-/// Places the rows. Each answer takes the next response, where that went out on its connection at its
+/// Places the rows. Each answer takes the next response, if that went out on its connection at its
 /// moment.
 fn drawing_of(alloc: Global, journal: Journal<'_>) -> Result<Drawing<'_>, AllocError> {
     let (first, clients) = (journal.first(), journal.connections());

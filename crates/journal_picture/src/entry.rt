@@ -62,7 +62,7 @@ pub enum Event<'a> {
 }
 
 impl Event<'_> {
-    /// Whether it is told beside the devices.
+    /// Whether it is drawn on the devices' side.
     fn is_far(&self) -> bool {
         matches!(
             self,
@@ -104,8 +104,8 @@ pub struct Entry<'a> {
 }
 
 impl Entry<'_> {
-    /// Whether it is told beside the devices, and not beside the clients. The client of a copied request
-    /// was connected before.
+    /// Whether it is drawn on the devices' side and not on the clients'. The client of a copied
+    /// request was connected in an earlier journal.
     pub(crate) fn is_far(&self) -> bool {
         self.carried.is_some() || self.event.is_far()
     }
@@ -257,8 +257,8 @@ fn datagram_of(text: &str) -> Result<Datagram<'_>, LineFault>
     Ok(Datagram { peer, digits })
 }
 
-/// `bytes CONN HEX`, `datagram PEER HEX`, `closed CONN`, `turned`, `rotated COUNT` or `unrotated FAULT`, at
-/// that moment.
+/// One of `bytes CONN HEX`, `datagram PEER HEX`, `closed CONN`, `turned`, `rotated COUNT` and
+/// `unrotated FAULT`, at that moment.
 fn output_of(moment: u64, text: &str) -> Result<Told<'_>, LineFault> {
     if text == "turned" {
         return Ok(Told::Nothing);

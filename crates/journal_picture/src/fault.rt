@@ -15,7 +15,8 @@ pub enum LineFault {
     Peer,
     /// Bytes aren't pairs of hexadecimal digits in lower case.
     Hex,
-    /// It is an output after the entries, a copy after another entry, or the entry's number isn't the next one.
+    /// An output after the entries, a copy after another entry, or an entry that has not the next
+    /// number.
     Order,
     /// No connection of that number was opened, or its number isn't the next one.
     Connection,

@@ -14,7 +14,8 @@ use std::collections::BTreeMap;
 /// What is told of an entry beside its line.
 #[derive(Clone, Copy)]
 pub struct Mark {
-    /// Of a datagram: which of the devices it goes to or comes from, in the order in which they were met.
+    /// Of a datagram: the device that it goes to or comes from, counted from 0 in the order in
+    /// which they were met.
     pub device: u64,
     /// Of a datagram: how many equal ones went the same way before it.
     pub copies: u32,
@@ -32,8 +33,8 @@ pub struct Row<'a> {
 }
 
 impl Row<'_> {
-    /// Whether it is a confirmable message (the first byte's type is 0: RFC 7252, section 3) that went out
-    /// and got no answer in time.
+    /// Whether it is a confirmable message that went out and got no answer in time. Its type, in
+    /// the first byte, is 0 (RFC 7252 section 3).
     pub(crate) fn is_lost(&self) -> bool {
         match self.entry.event {
             Event::Sent(datagram) => self.mark.unanswered && datagram.digits.starts_with('4'),
@@ -269,7 +270,8 @@ impl<'a> Journal<'a> {
         }
     }
 
-    /// Of an answer that says that a request timed out: the last datagram with it got no answer either.
+    /// If the answer says that its request timed out, the last copy of its datagram got no answer
+    /// either.
     fn note_timeout(&mut self, answer: Answer<'a>)
         ensures { lines_in self.new ≡ lines_in self.old }
     {

@@ -146,8 +146,8 @@ fn write_links(page: &mut Page, words: &'static str, numbers: &str) -> Result<()
     Ok(())
 }
 
-/// Writes the status and the phrase of a response, which stand in its first line after the version, and
-/// its body where that is a short text.
+/// Writes the status and the phrase of a response, from its first line; and its body, if that is a
+/// short text.
 fn write_response(head: &mut Page, alloc: Global, digits: &str) -> Result<(), AllocError> {
     let bytes = bytes_of(alloc, digits)?;
     let end = bytes.iter().position(|b| *b == b'\r').unwrap_or(0);
@@ -208,8 +208,8 @@ pub(crate) fn write_beginning(page: &mut Page, text: &str) -> Result<(), AllocEr
     }
 }
 
-/// Where the beginning of a text ends: before the first byte past `SHOWN` that begins a character, or
-/// where the text ends.
+/// Where the beginning of a text ends: before the first character that starts after `SHOWN` bytes,
+/// or where the text ends.
 fn end_of_beginning(text: &[u8]) -> usize {
     'each: for (place, byte) in text.iter().enumerate() {
         if place >= SHOWN && byte & 0xc0 != 0x80 {

@@ -1,8 +1,9 @@
-//! A journal as a picture: the lines that `replay --journal` prints are read, and drawn as one page of
-//! HTML with a sequence diagram of clients, the gateway and devices.
+//! A journal as a picture: the lines that `replay --journal` prints are read, and drawn as one page
+//! of HTML with a sequence diagram of clients, the gateway and devices.
 //!
-//! Three contracts: what is read is the text's lines, each once and in their order; an entry is what its
-//! line says, word by word; and text that comes from the journal is escaped wherever the page has it.
+//! Three contracts: the lines that are read are the text's, each once and in order; an entry is
+//! what its line says, word by word; and text from the journal is escaped wherever it stands on the
+//! page.
 #![tactic(auto)]
 
 mod coap;

@@ -7,8 +7,8 @@ use std::alloc::{AllocError, Global};
 use std::fmt::Display;
 use std::marker::Model;
 
-/// A page that is being written, or a piece of one. Markup of the program's own goes in as it is, and all
-/// text escaped.
+/// A page that is being written, or a piece of one. Markup of the program's own is written as it
+/// is, and all text is escaped.
 #[derive(Drop)]
 pub struct Page {
     alloc: Global,
@@ -25,8 +25,8 @@ impl Model for Page {
     ghost view = { λ p. p.bytes.items };
 }
 
-/// Appends what stands on a page for a byte of text: itself, or what HTML has for it, or the sign for
-/// what has none.
+/// Appends a byte of text as it stands on a page: itself, its HTML entity, or a sign for a byte
+/// that cannot be shown.
 fn push_escape(bytes: &mut Vec<u8>, byte: u8) -> Result<(), AllocError>
     ensures { OnOk result (bytes.new.items ≡ bytes.old.items ++ escape byte) }
 {
@@ -121,7 +121,8 @@ impl Page {
         self.text(words.as_bytes())
     }
 
-    /// Writes markup in which each `{}` stands for the next of these numbers, which say where something is.
+    /// Writes markup in which each `{}` stands for the next of these numbers, which are positions
+    /// in pixels.
     pub(crate) fn drawn(
         &mut self,
         markup: &'static str,
@@ -150,7 +151,8 @@ impl Page {
         self.told(if count == 1 { "{} byte" } else { "{} bytes" }, &[count])
     }
 
-    /// Begins an element of a class. Its attributes begin with a space, and end with what ends the tag.
+    /// Begins an element of a class. Its attributes begin with a space, and end with the end of the
+    /// tag.
     pub(crate) fn element(
         &mut self,
         name: &'static str,

@@ -38,7 +38,7 @@ fn begin_row(page: &mut Page, layout: Layout, label: &Label<'_>) -> Result<(), A
     page.markup("</text>")
 }
 
-/// Writes the arrow of an entry, from a client or a device to the gateway or the other way, or a mark on
+/// Writes the arrow of an entry, between a client or a device and the gateway, or else a mark on
 /// the gateway's line. The arrow of a copy is faint.
 fn write_arrow(page: &mut Page, layout: Layout, row: &Row<'_>) -> Result<(), AllocError> {
     let gateway = layout.gateway();
@@ -119,8 +119,8 @@ fn write_label(page: &mut Page, layout: Layout, label: &Label<'_>) -> Result<(),
     )
 }
 
-/// Writes a curve on the gateway's line from each entry that an answer rests on, or from the one that
-/// shows the cause of an error, to the answer's own row.
+/// Writes a curve on the gateway's line, to the answer's row from each entry that the answer rests
+/// on, or from the one that shows the cause of an error.
 pub(crate) fn write_grounds(
     page: &mut Page,
     layout: Layout,
