@@ -74,7 +74,8 @@ or_else None other = other
 
 -- The page with this path and query. Of the journal alone the query is looked at.
 abbrev pub view_at : List ℕ → Option View
-view_at text = or_else (named_in views (without_query text)) (journal_at (without_query text) (query_in text))
+view_at text =
+    or_else (named_in views (without_query text)) (journal_at (without_query text) (query_in text))
 
 abbrev pub found : Option View → Result View Refusal
 found (Some v) = Ok v

@@ -214,9 +214,9 @@ fn add_own_fields(
     }
 }
 
-/// The answer to what came in, after which the connection is closed. One to a HEAD has no body, and the
-/// Content-Length of the one to a GET. What the journal has of what is asked for is handed in, where it has
-/// it.
+/// The answer to what came in; the connection is closed after it. An answer to a HEAD has no body,
+/// and the Content-Length of the answer to a GET. `excerpt` is what the journal has of what is
+/// asked for, if it has that.
 pub fn answer_of(
     alloc: Global,
     came: &Incoming,

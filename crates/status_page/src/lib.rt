@@ -1,9 +1,9 @@
-//! What is shown of a gateway that runs: a page for people, figures for programs that watch it, whether it
-//! takes requests, and its journal.
+//! What is shown of a running gateway: a page for people, figures for programs that watch it,
+//! whether it takes requests, and its journal.
 //!
-//! Three contracts: which page a request is for, all else being refused; by which status code it is
-//! answered, where a HEAD gets no body; and text that came from strangers is escaped, on the page and among
-//! the figures.
+//! Three contracts: which page a request is for, all others being refused; which status code it is
+//! answered with, where a HEAD gets no body; and text that came from strangers is escaped, on the
+//! page and among the figures.
 #![tactic(auto)]
 
 mod answer;

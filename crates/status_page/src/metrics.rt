@@ -1,4 +1,5 @@
-//! The figures, for programs that watch a gateway: in the text form that Prometheus reads (version 0.0.4).
+//! The figures, for programs that watch a gateway, in the text format of Prometheus (version
+//! 0.0.4).
 
 use crate::samples::{Kind, Text};
 use crate::status::{Device, Phase, Responses, Status};

@@ -37,7 +37,8 @@ pub struct Status {
 }
 
 impl Status {
-    /// What is told of a gateway at this moment where nothing is counted: whether it takes requests.
+    /// Whether a gateway takes requests at this moment (in seconds since the beginning of 1970),
+    /// without any figures.
     pub fn without_figures(alloc: Global, phase: Phase, at: u64) -> Status
         ensures { result.phase ≡ phase }
     {
