@@ -9,10 +9,10 @@ use uri_map::Peer;
 /// The field of an answer of the gateway's own.
 const CAUSE: &str = "HC-Cause";
 
-/// What comes before its value among the bytes of an answer.
+/// What stands before the value of that field among the bytes of an answer.
 const CAUSE_LINE: &[u8] = b"\r\nHC-Cause: ";
 
-/// How many bytes come before the status among those of an answer.
+/// How many bytes of an answer come before its status: `HTTP/1.1` and a space (RFC 9112 section 4).
 const BEFORE_STATUS: usize = 9;
 
 /// An answer that a client was given.
@@ -49,7 +49,7 @@ pub struct Heading<'a> {
     pub cause: Option<&'a [u8]>,
 }
 
-/// What the bytes of an answer's head say.
+/// What the bytes of an answer's head say: 0 for a status that is no three digits.
 pub fn heading_of(head: &[u8]) -> Heading<'_> {
     Heading {
         status: status_in(head),
@@ -77,7 +77,8 @@ fn line_of(bytes: &[u8]) -> &[u8] {
     bytes
 }
 
-/// The three digits of the status, as a number.
+/// The three digits of the status, as a number; 0 where the head is too short, and for what is no
+/// digit.
 fn status_in(head: &[u8]) -> u16 {
     match head.get(BEFORE_STATUS..BEFORE_STATUS + 3) {
         Some([a, b, c]) => digit(*a) * 100 + digit(*b) * 10 + digit(*c),

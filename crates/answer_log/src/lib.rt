@@ -1,7 +1,7 @@
-//! What clients were given: the line of each answer.
+//! The access log: one line for each answer that a client was given.
 //!
-//! Both forms of the server note their answers by it. One contract: of what strangers sent only what is
-//! seen of ASCII stands in a line, but for quotes and backslashes; all else is escaped.
+//! Both servers write it. One contract: bytes that came from a client stand in a line as they are
+//! only where they are printable ASCII other than a quote or a backslash; all others are escaped.
 #![tactic(auto)]
 
 mod given;

@@ -8,11 +8,11 @@ use journal_book::Grounds;
 use std::fmt;
 use std::net::SocketAddr;
 
-/// As how many characters a method is told at most.
+/// How many characters of a method a line has at most.
 const LONGEST_METHOD: u64 = 32;
 
-/// As how many characters a target is told at most: a line of up to 1,024 bytes is written in one piece,
-/// so that those of several threads stay apart.
+/// How many characters of a target a line has at most. A line of up to 1,024 bytes is written in
+/// one piece, so that lines of several threads do not mix.
 const LONGEST_TARGET: u64 = 750;
 
 /// The line of an answer.
@@ -20,7 +20,7 @@ const LONGEST_TARGET: u64 = 750;
 pub struct Line<'a> {
     pub client: SocketAddr,
     pub conn: u32,
-    /// for how many milliseconds the request was in hand
+    /// how long the request was in hand, in milliseconds
     pub time: u64,
     pub given: Given<'a>,
 }
@@ -60,8 +60,8 @@ fn write_request<W: fmt::Write>(f: &mut fmt::Formatter<W>, came: &Incoming) -> f
     }
 }
 
-/// Writes the bytes in at most so many characters, each byte that isn't plain as `\xHH`, and two dots in
-/// place of a rest.
+/// Writes the bytes in at most `most` characters: a byte that is not plain as `\xHH`, and `..`
+/// where some are left out.
 fn write_escaped<W: fmt::Write>(f: &mut fmt::Formatter<W>, bytes: &[u8], most: u64) -> fmt::Result {
     let mut left = most;
     'each: for byte in bytes {
@@ -79,7 +79,8 @@ fn write_escaped<W: fmt::Write>(f: &mut fmt::Formatter<W>, bytes: &[u8], most: u
     Ok(())
 }
 
-/// Whether a byte is told as it is: what is seen of ASCII, but for the quote and the backslash.
+/// Whether a byte is written as it is: printable ASCII other than the space, the quote and the
+/// backslash.
 fn is_plain(byte: u8) -> bool
     ensures { IsTrue result ↔ ((33 ≤ byte) × (byte ≤ 126) × (byte ≢ 34) × (byte ≢ 92)) }
 {
@@ -97,7 +98,8 @@ fn write_cause<W: fmt::Write>(f: &mut fmt::Formatter<W>, cause: Option<&[u8]>) -
     Ok(())
 }
 
-/// Where the answer comes from: a device that was asked for it, one that was asked before, or the gateway.
+/// Where the answer comes from: a device that was asked for it (`live`), a stored response
+/// (`kept`), or the gateway itself (`own`).
 fn origin_of(cause: Option<&[u8]>, grounds: &Grounds) -> &'static str {
     match grounds {
         Grounds::Live(_) if cause.is_none() => " live",
