@@ -19,7 +19,8 @@ pub enum Found {
     Turning,
 }
 
-/// The journal from this entry on. The number of the next entry has an empty excerpt, and later ones none.
+/// The journal from this entry on. The excerpt is empty for the number of the next entry; later
+/// numbers have none.
 pub fn found_from<W: Wait, G: Shown>(
     rt: &W,
     alloc: Global,
@@ -40,7 +41,7 @@ pub fn found_from<W: Wait, G: Shown>(
     Ok(Found::Lines(excerpt))
 }
 
-/// What became of the request that this entry is or answers, or that was answered by it.
+/// What became of the request that this entry is, or answers, or that was answered first by it.
 pub fn found_about<W: Wait, G: Shown>(
     rt: &W,
     alloc: Global,

@@ -1,9 +1,9 @@
-//! A second port of a server, where people and programs see how it does: what was answered, what there is of
-//! everything, and the journal.
+//! A second port of a server, where people and programs see how it does: what was answered, how
+//! much there is of everything, and the journal.
 //!
-//! Both forms of the server have it, and tell it what it asks by one trait (`Shown`). It changes nothing, and
-//! who looks slowly holds nobody up: what is copied of a gateway is copied at once, and all else is done in
-//! threads of its own.
+//! Both servers have it, and each tells it what it asks through one trait (`Shown`). It changes
+//! nothing, and a slow viewer holds up nobody: what is shown is copied from the gateway in one go,
+//! and everything else is done in threads of its own.
 #![tactic(auto)]
 
 mod excerpts;

@@ -23,7 +23,7 @@ pub trait Shown {
     /// How much there is of everything now.
     fn figures<W: Wait>(&self, rt: &W, alloc: Global) -> Result<Figures, AllocError>;
 
-    /// Entries of the journal that follow each other, from this number on. None while the journal is
+    /// Entries of the journal, one after the other, from this number on. None while the journal is
     /// turned over.
     fn entries_from<W: Wait>(
         &self,
@@ -32,8 +32,9 @@ pub trait Shown {
         from: usize,
     ) -> Result<Option<Extract<Profile>>, AllocError>;
 
-    /// The entries of the journal that tell of the request that this one is or answers, or that was
-    /// answered first by it; none where there is no such request. None while the journal is turned over.
+    /// The entries that tell of one request: the one that this entry is, or answers, or that was
+    /// answered first by it. An empty list where there is no such request. None while the journal
+    /// is turned over.
     fn entries_about<W: Wait>(
         &self,
         rt: &W,

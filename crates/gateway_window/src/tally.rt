@@ -10,11 +10,11 @@ use status_page::Classes;
 use std::alloc::{AllocError, Global};
 use uri_map::{Peer, is_same_peer};
 
-/// Of how many devices answers are counted. Where there are more, the one is left out that was answered
-/// for longest ago.
+/// For how many devices answers are counted. A further device takes the place of the one that was
+/// last answered for longest ago.
 pub const MOST_DEVICES: usize = 256;
 
-/// How many bytes of a request are kept.
+/// How many bytes of a request's method and target are kept.
 const LONGEST_REQUEST: usize = 160;
 
 /// The causes of answers of the gateway's own.
@@ -37,7 +37,7 @@ pub struct Excerpt {
     ghost within: { count ≤ 160 },
 }
 
-/// Writes as much of the text as there is room for, from that place on, and answers where it ends.
+/// Writes as much of the text as there is room for, from `at` on, and gives where it ends.
 fn put(bytes: &mut [u8], at: usize, text: &[u8]) -> usize
     requires { at ≤ length bytes.old }
     ensures { result ≤ length bytes.new }
@@ -48,7 +48,7 @@ fn put(bytes: &mut [u8], at: usize, text: &[u8]) -> usize
 }
 
 impl Excerpt {
-    /// The beginning of what is asked so.
+    /// The beginning of the method and the target, with a space between them.
     fn of(method: &[u8], target: &[u8]) -> Excerpt {
         let mut bytes = [0u8; LONGEST_REQUEST];
         let count = put(&mut bytes, 0, method);
@@ -68,15 +68,15 @@ impl Excerpt {
 pub struct Row {
     pub peer: Peer,
     pub answers: u64,
-    /// those of them that tell that it didn't reply in time
+    /// how many of them say that it did not reply in time
     pub timeouts: u64,
     /// the status of the last one
     pub status: u16,
-    /// when that was given, in milliseconds of the clock that never goes back
+    /// when that was given, in milliseconds of the monotonic clock
     pub at: u64,
     /// the request that it answers
     pub request: Excerpt,
-    /// the entry of that request, and how many journals were turned over before the one that has it
+    /// the entry of that request, and how many journals were turned over before the one it is in
     pub ask: u32,
     pub turned: u64,
 }
@@ -85,9 +85,9 @@ pub struct Row {
 #[derive(Drop)]
 pub struct Tally {
     pub classes: Classes,
-    /// those that give a response that was stored
+    /// how many gave a stored response
     pub kept: u64,
-    /// those of the gateway's own, in the order of `CAUSES`
+    /// how many were the gateway's own, in the order of `CAUSES`
     pub causes: [u64; 8],
     pub rows: Vec<Row>,
 }
@@ -120,8 +120,8 @@ fn place_of(cause: Cause) -> usize
     }
 }
 
-/// The cause of an answer of the gateway's own. Where a device replied, that is that its response can't be
-/// passed on.
+/// The cause of an answer of the gateway's own. If a device did reply, the cause is that its
+/// response cannot be passed on.
 fn cause_given(given: &Given<'_>) -> Option<Cause> {
     match given.grounds {
         Grounds::Fault(cause, _) => Some(*cause),
@@ -129,7 +129,7 @@ fn cause_given(given: &Given<'_>) -> Option<Cause> {
     }
 }
 
-/// Puts a row in the place of the one that was answered for longest ago.
+/// Puts a row in the place of the one that was last answered for longest ago.
 fn put_for_oldest(rows: &mut [Row], new: Row) {
     let mut least = u64::MAX;
     'each: for row in rows.iter() {
@@ -164,8 +164,8 @@ impl Tally {
         })
     }
 
-    /// Counts the answer to the request with this entry, which is given at this moment, after so many
-    /// journals were turned over.
+    /// Counts the answer to the request of entry `ask`, given at the moment `now` (in milliseconds)
+    /// after `turned` journals were turned over.
     pub fn count(&mut self, given: &Given<'_>, ask: u32, now: u64, turned: u64) {
         count_class(&mut self.classes, given.status);
         let cause = cause_given(given);
@@ -207,7 +207,7 @@ impl Tally {
         }
     }
 
-    /// What was answered so far. The rows come into this list, in place of what is there.
+    /// A copy of what was counted so far. Its rows are put into this list, whose room is used.
     pub fn copy(&self, rows: Vec<Row>) -> Result<Tally, AllocError> {
         let mut rows = rows;
         rows.clear();

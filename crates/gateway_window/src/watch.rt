@@ -16,7 +16,8 @@ use uri_map::is_same_peer;
 /// What is counted since the gateway started.
 #[derive(Drop)]
 pub struct Watch {
-    /// when that was, in seconds since 1970 began, and in milliseconds of the clock that never goes back
+    /// when that was: in seconds since the beginning of 1970, and in milliseconds of the monotonic
+    /// clock
     started: u64,
     begin: u64,
     tally: Mutex<Tally>,
@@ -29,7 +30,7 @@ pub struct Watch {
     viewers: AtomicU64,
 }
 
-/// The moment of the clock that never goes back, in milliseconds. None where it can't be read.
+/// The time of the monotonic clock, in milliseconds. None where it cannot be read.
 pub fn moment<W: Clock>(rt: &W) -> Option<u64> {
     let gone = rt.monotonic().ok()?;
     Some(u64::try_from(gone.as_millis()).unwrap_or(u64::MAX))
@@ -91,13 +92,13 @@ impl Watch {
         self.viewers.fetch_sub(1, Ordering::SeqCst);
     }
 
-    /// A moment of the clock that never goes back, in seconds since 1970 began.
+    /// A moment of the monotonic clock, as seconds since the beginning of 1970.
     fn seconds(&self, at: u64) -> u64 {
         let gone = at.saturating_sub(self.begin) / 1000;
         self.started.saturating_add(gone)
     }
 
-    /// This moment, in seconds since 1970 began.
+    /// Now, as seconds since the beginning of 1970.
     fn now<W: Clock>(&self, rt: &W) -> u64 {
         self.seconds(moment(rt).unwrap_or(self.begin))
     }
@@ -108,7 +109,7 @@ impl Watch {
         self.tally.lock(rt).copy(rows)
     }
 
-    /// What there is of a device that was answered for.
+    /// What is known of a device for which something was answered.
     fn device_of(&self, alloc: Global, row: &Row) -> Result<Device, AllocError> {
         Ok(Device {
             peer: row.peer,
@@ -125,7 +126,8 @@ impl Watch {
         })
     }
 
-    /// What there is of each device that was answered for or with which an exchange is open.
+    /// What is known of each device for which something was answered, or with which an exchange is
+    /// open.
     fn devices(
         &self,
         alloc: Global,
@@ -187,7 +189,7 @@ fn responses_of(alloc: Global, tally: &Tally) -> Result<Responses, AllocError> {
     })
 }
 
-/// What is told of a gateway where no figures are: it isn't asked for any.
+/// How the gateway does, without figures: it is not asked for any.
 pub fn brief_status_of<W: Wait + Clock, G: Shown>(
     rt: &W,
     alloc: Global,
@@ -197,7 +199,7 @@ pub fn brief_status_of<W: Wait + Clock, G: Shown>(
     Status::without_figures(alloc, gateway.phase(rt), watch.now(rt))
 }
 
-/// How the gateway does now. What it is told from is copied first, and the rest is done after.
+/// How the gateway does now. What this is made from is copied first.
 pub fn status_of<W: Wait + Clock, G: Shown>(
     rt: &W,
     alloc: Global,

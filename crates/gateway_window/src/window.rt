@@ -1,5 +1,5 @@
-//! The window: a second port, where people and programs see how the gateway does. It changes nothing, and who
-//! looks slowly holds nobody up.
+//! The window: a second port, where people and programs see how the gateway does. It changes
+//! nothing, and a slow viewer holds up nobody.
 
 ghost use Rattle.std.specs.Prelude.{◌≤◌, length, IfSome};
 
@@ -16,20 +16,21 @@ use std::sync::{Arc, Wait};
 use std::thread::{self, Threads};
 use std::time::Duration;
 
-/// How many look at a time. Others wait in the socket.
+/// How many viewers are served at a time. Others wait in the socket.
 const MOST_VIEWERS: u64 = 4;
 
-/// How long one looks at most, from when it was taken until it has read its answer, in milliseconds.
+/// How long a viewer is served at most, from when its connection was taken until it has read its
+/// answer, in milliseconds.
 const LONGEST_VIEW: u64 = 5_000;
 
-/// How long it is waited until it is seen whether one looks no more, and after a connection couldn't be
-/// taken, in milliseconds.
+/// How long to wait, in milliseconds, before looking again whether a viewer is gone, and after a
+/// connection could not be taken.
 const PAUSE: u64 = 10;
 
 /// As many bytes as an edge has room for.
 const ROOM: usize = 8192;
 
-/// Takes those who look, each in a thread of its own, until the gateway stops.
+/// Takes viewers, each in a thread of its own, until the gateway stops.
 pub fn show_all<
     W: Threads + Wait + Clock + Copy + Drop + Send + Sync + 'static,
     G: Shown + Drop + Send + Sync + 'static,
@@ -59,7 +60,7 @@ fn await_place<W: Wait + Clock>(rt: &W, watch: &Watch) {
     }
 }
 
-/// Starts a thread for one who looks. Where it can't be started, the connection is closed.
+/// Starts a thread for a viewer. If that fails, the connection is closed.
 fn show<
     W: Threads + Wait + Clock + Copy + Drop + Send + Sync + 'static,
     G: Shown + Drop + Send + Sync + 'static,
@@ -92,8 +93,8 @@ fn serve_view<W: Wait + Clock, G: Shown>(rt: &W, alloc: Global, stream: &TcpStre
     watch.remove_viewer();
 }
 
-/// The bytes of the answer to what came in. Nothing is counted for one that shows no figures, so that it
-/// waits for nobody.
+/// The bytes of the answer to what came in. Figures are gathered only where they are shown, so that
+/// everything else waits for nobody.
 fn answer<W: Wait + Clock, G: Shown>(
     rt: &W,
     alloc: Global,
@@ -132,7 +133,7 @@ fn bytes_of(
     answer_bytes(alloc, &answer)
 }
 
-/// One who looks, since that moment in milliseconds.
+/// A viewer, whose connection was taken at the moment `begin` (in milliseconds).
 #[derive(Drop)]
 struct Viewer<'a, W: Clock> {
     rt: &'a W,
@@ -141,7 +142,7 @@ struct Viewer<'a, W: Clock> {
 }
 
 impl<W: Clock> Viewer<'_, W> {
-    /// How long it may look yet.
+    /// How long it may still be served.
     fn left(&self) -> Option<Duration> {
         let gone = moment(self.rt)?.saturating_sub(self.begin);
         if gone < LONGEST_VIEW {
@@ -151,7 +152,7 @@ impl<W: Clock> Viewer<'_, W> {
         }
     }
 
-    /// What comes next, in time: how many bytes of the buffer it fills. None at the end.
+    /// How many bytes come next into the buffer. None at the end, or where none come in time.
     fn receive(&self, buffer: &mut [u8]) -> Option<usize>
         ensures { IfSome result (λ n. n ≤ length buffer.new) }
     {
@@ -178,7 +179,7 @@ impl<W: Clock> Viewer<'_, W> {
         None
     }
 
-    /// Writes its answer, as far as it reads that in time.
+    /// Writes its answer, as much of it as the viewer reads in time.
     fn write(&self, bytes: &[u8]) {
         let mut rest = bytes;
         'each: for _ in 0..bytes.len() {
@@ -190,7 +191,7 @@ impl<W: Clock> Viewer<'_, W> {
         }
     }
 
-    /// Writes some of these bytes, in time, and answers how many.
+    /// Writes some of these bytes, in time, and gives how many.
     fn send(&self, bytes: &[u8]) -> Option<usize>
         ensures { IfSome result (λ n. n ≤ length bytes.now) }
     {
@@ -202,7 +203,7 @@ impl<W: Clock> Viewer<'_, W> {
         }
     }
 
-    /// Ends the connection, once it has read what was written (RFC 9112, section 9.6).
+    /// Ends the connection once the viewer has read what was written (RFC 9112 section 9.6).
     fn end(&self) {
         if self.stream.shutdown(Shutdown::Write).is_err() {
             return;
