@@ -18,11 +18,11 @@ use std::time::{Duration, Instant};
 /// How long a client has to read its last answer, in milliseconds.
 const FAREWELL: u64 = 1000;
 
-/// How long an answer may be on its way where clients aren't waited for any longer, in milliseconds.
+/// How long a write of an answer may take, in milliseconds, when clients are no longer waited for.
 const LONGEST_WRITE: u64 = 10_000;
 
-/// How long a client that was answered, or has just connected, has to send a request before its
-/// connection counts as one on which nothing is asked, in milliseconds.
+/// How long a client that has just connected or was just answered has to send a request, in
+/// milliseconds, before its connection counts as idle.
 const GRACE: u64 = 100;
 
 /// The session does something else than read.
@@ -37,21 +37,20 @@ const READING: u64 = 2;
 /// It writes.
 const WRITING: u64 = 3;
 
-/// A connection over TCP that was taken, which its session shares with the one who closes it where
-/// nothing is in hand.
+/// A TCP connection, shared by its session and the thread that closes it when it is idle.
 #[derive(Drop)]
 pub struct Line {
     stream: TcpStream,
     /// what the session does
     phase: AtomicU64,
-    /// when it was taken, its request began, or its last answer began to be written or was, in
-    /// milliseconds of the clock
+    /// in milliseconds of the monotonic clock: when it was taken, when its request began, or when
+    /// its last answer began to be written or was written
     since: AtomicU64,
-    /// it is being closed from here
+    /// it is being closed by this side
     ends: AtomicBool,
 }
 
-/// The moment of the clock that never goes back, in milliseconds. None where it can't be read.
+/// The time of the monotonic clock, in milliseconds. None where it cannot be read.
 pub fn moment<W: Clock>(rt: &W) -> Option<u64> {
     let gone = rt.monotonic().ok()?;
     Some(u64::try_from(gone.as_millis()).unwrap_or(u64::MAX))
@@ -74,16 +73,15 @@ impl Line {
         self.stream.peer_addr()
     }
 
-    /// Something was done on it.
+    /// Notes that something was done on it.
     fn touch<W: Clock>(&self, rt: &W) {
         if let Some(now) = moment(rt) {
             self.since.store(now, Ordering::SeqCst);
         }
     }
 
-    /// For how many milliseconds nothing was asked on it, at this moment, where its session waits
-    /// for the next request; or else for how many a request has been coming, where it waits for the
-    /// rest of one.
+    /// How many milliseconds its session has waited, at this moment: for the rest of a request if
+    /// `rest`, otherwise for the next request. None where it does not wait for that.
     pub fn waits(&self, now: u64, rest: bool) -> Option<u64> {
         let phase = if rest { READING } else { IDLE };
         if self.phase.load(Ordering::SeqCst) != phase {
@@ -92,8 +90,8 @@ impl Line {
         Some(now.saturating_sub(self.since.load(Ordering::SeqCst)))
     }
 
-    /// Lets the client go that left while its session did something else than read: true where it
-    /// closed its end or is gone, and wasn't let go before.
+    /// Lets the client go if it left while its session was not reading: true where it closed its
+    /// end or is gone, and was not let go before.
     pub fn lets_go(&self) -> bool {
         if self.phase.load(Ordering::SeqCst) != BUSY || self.ends.load(Ordering::SeqCst) {
             return false;
@@ -106,10 +104,9 @@ impl Line {
         poll(&mut asked, 0) > 0 && !self.ends.swap(true, Ordering::SeqCst)
     }
 
-    /// Ends what comes in where the session has waited for the next request for a while, at this
-    /// moment; or, where none is waited for any longer, for the next one or the rest of one. What
-    /// came before that is still read. Where none is waited for any longer, an answer is cut off
-    /// too that has been on its way for long.
+    /// Stops reading if the session has waited for the next request for a while. With `longer`
+    /// false it stops whatever the session waits for, and an answer that has been on its way for
+    /// long is cut off. What came before is still read. `now` is in milliseconds.
     pub fn end_reading(&self, longer: bool, now: u64) {
         let time = now.saturating_sub(self.since.load(Ordering::SeqCst));
         match self.phase.load(Ordering::SeqCst) {
@@ -120,13 +117,13 @@ impl Line {
         }
     }
 
-    /// Ends what comes in. What came before that is still read.
+    /// Stops reading. What came before is still read.
     pub fn end(&self) {
         self.ends.store(true, Ordering::SeqCst);
         let _ = self.stream.shutdown(Shutdown::Read);
     }
 
-    /// Ends what comes in and what goes out, so that a write that waits fails.
+    /// Stops reading and writing, so that a write that waits fails.
     fn cut_off(&self) {
         self.ends.store(true, Ordering::SeqCst);
         let _ = self.stream.shutdown(Shutdown::Both);
@@ -138,18 +135,19 @@ impl Line {
 pub struct Client<'a, W: Clock> {
     rt: &'a W,
     line: Arc<Line>,
-    /// how long a request that has begun may stand still, and an answer may be on its way
+    /// how long a request that has begun may stand still, and how long a write of an answer may
+    /// take
     patience: Duration,
-    /// reads end after that time
+    /// reads are limited to that time
     hurries: bool,
-    /// a read or a write ended so
+    /// a read or a write took too long
     gave_up: bool,
     faults: u64,
 }
 
 impl<'a, W: Clock> Client<'a, W> {
-    /// The session's end of a connection, where a request that has begun may stand still for so
-    /// long, and a client may take as long for an answer.
+    /// The session's end of a connection. A request that has begun may stand still for `patience`,
+    /// and a client may take as long for an answer.
     pub fn new(rt: &'a W, line: Arc<Line>, patience: Duration) -> Client<'a, W> {
         let _ = line.stream.set_write_timeout(Some(patience));
         Client {
@@ -162,8 +160,8 @@ impl<'a, W: Clock> Client<'a, W> {
         }
     }
 
-    /// Whether the client was given up, since it stood still in a request, or took too long for an
-    /// answer.
+    /// Whether the client was given up, because it stood still in a request or took too long to
+    /// read an answer.
     pub fn gave_up(&self) -> bool {
         self.gave_up
     }
@@ -184,8 +182,8 @@ impl<'a, W: Clock> Client<'a, W> {
         Arc::try_clone(&self.line)
     }
 
-    /// What a read of the socket tells: how many bytes came, which are none at the end, or that it
-    /// failed, which is counted.
+    /// What a read of the socket gave: how many bytes came (0 at the end), or that it failed, which
+    /// is counted.
     fn told(&mut self, read: io::Result<usize>) -> Result<usize, Failed>
         ensures told { IfOk read (λ n. result ≡ Ok n) }
         ensures came { IfOk result (λ n. read ≡ Ok n) }
@@ -202,15 +200,16 @@ impl<'a, W: Clock> Client<'a, W> {
         }
     }
 
-    /// What is left of the client's time for an answer that began to be written at this moment.
+    /// What is left of the client's time for an answer that began to be written at this moment, in
+    /// milliseconds; None where nothing is.
     fn left(&self, begin: u64) -> Option<Duration> {
         let gone = moment(self.rt)?.saturating_sub(begin);
         let left = self.patience.checked_sub(Duration::from_millis(gone))?;
         (!left.is_zero()).then_some(left)
     }
 
-    /// Writes the bytes, for which the client has its time in all. The system waits for so long in
-    /// one call, which then may have written a part.
+    /// Writes the bytes within the client's time. One call of the system waits for that time at
+    /// most, and may then have written only a part.
     fn write_in_time(&self, bytes: &[u8]) -> io::Result<()> {
         let begin = moment(self.rt).unwrap_or(0);
         self.line.since.store(begin, Ordering::SeqCst);
@@ -223,8 +222,8 @@ impl<'a, W: Clock> Client<'a, W> {
         written
     }
 
-    /// Writes the rest of an answer that began to be written at this moment. In the next call the
-    /// system would wait as long again, so each call has what is left of the time.
+    /// Writes the rest of an answer that began to be written at this moment. Each call of the
+    /// system would wait the whole time again, so it is given only what is left.
     fn write_rest(&self, bytes: &[u8], begin: u64) -> io::Result<()> {
         let mut rest = bytes;
         'each: for _ in 0..u64::MAX {
@@ -240,8 +239,8 @@ impl<'a, W: Clock> Client<'a, W> {
         Err(io::Error::from(ErrorKind::TimedOut))
     }
 
-    /// Ends the connection so that the client still reads what was written: what it sends meanwhile
-    /// is read and dropped (RFC 9112, section 9.6). It takes two seconds at most.
+    /// Ends the connection so that the client can still read what was written: what it sends
+    /// meanwhile is read and dropped (RFC 9112 section 9.6). This takes two seconds at most.
     pub fn end(&mut self) {
         let rt = self.rt;
         let time = Duration::from_millis(FAREWELL);
@@ -265,7 +264,7 @@ impl<'a, W: Clock> Client<'a, W> {
     }
 }
 
-/// Writes as much as the system takes, and answers what is left.
+/// Writes as much as the system takes, and gives what is left.
 fn write_some<'a>(mut stream: &TcpStream, bytes: &'a [u8]) -> io::Result<&'a [u8]> {
     match stream.write(bytes) {
         Ok(0) if !bytes.is_empty() => Err(io::Error::from(ErrorKind::WriteZero)),
@@ -275,7 +274,7 @@ fn write_some<'a>(mut stream: &TcpStream, bytes: &'a [u8]) -> io::Result<&'a [u8
     }
 }
 
-/// Whether a read or a write ended since nothing went on for too long.
+/// Whether a read or a write failed because it took too long.
 fn is_late(kind: ErrorKind) -> bool {
     matches!(kind, ErrorKind::WouldBlock | ErrorKind::TimedOut)
 }
