@@ -9,7 +9,7 @@ use std::rt::Clock;
 use std::sync::Wait;
 use std::time::Instant;
 
-/// Lets a session go on at each point, and notes and counts each of its answers, where that is wanted.
+/// Lets a session go on at every point, and logs and counts its answers where that is wanted.
 #[derive(Drop)]
 pub struct Access<'a, W: Wait + Log + Clock> {
     rt: &'a W,
@@ -25,7 +25,7 @@ pub struct Access<'a, W: Wait + Log + Clock> {
 }
 
 impl<'a, W: Wait + Log + Clock> Access<'a, W> {
-    /// Notes the answers on this connection, where a client is named, and counts them, where there is a
+    /// Logs the answers on this connection if `client` is named, and counts them if there is a
     /// watch.
     pub fn new(
         rt: &'a W,

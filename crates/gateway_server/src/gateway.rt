@@ -31,8 +31,8 @@ const PAUSE: u64 = 50;
 /// How many asks and sessions the ledger of a shop has parts for.
 const PARTS: u64 = 4294967295;
 
-/// Runs the gateway at these ports, as the options say, until the clock or the UDP socket fails. It goes on in threads
-/// of its own, one for each connection; those are cut off when the program ends.
+/// Runs the gateway on these sockets, as the options say, until the clock or the UDP socket fails.
+/// Each connection has a thread of its own, which is cut off when the program ends.
 ///
 /// Each time that the journal is nearly full it is turned over and given to the archive, with the
 /// number of those before it and it; so is the last one as the gateway stops.
@@ -227,9 +227,9 @@ fn count_taken<W: Clock + RandomSource + Drop, L: Ledger>(shared: &Shared<W, L>,
     }
 }
 
-/// The pass of one more connection, where it may be opened. While the journal is turned over it waits
-/// for that, and where 256 are open, the one that has been idle longest is closed for it. Why it may not
-/// be opened is noted.
+/// The pass of one more connection, if it may be opened. While the journal is turned over this
+/// waits; where 256 connections are open, the one that has been idle longest is closed to make
+/// room. Why it may not be opened is logged.
 fn pass_for<W: Wait + Log + Clock + RandomSource + Drop, L: Ledger>(
     rt: &W,
     shared: &Shared<W, L>,

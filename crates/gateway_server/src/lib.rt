@@ -1,9 +1,9 @@
 //! The gateway on sockets of the system: connections over TCP, one UDP socket, a thread for each
 //! connection.
 //!
-//! What goes out is what the sessions write. Each time that the journal is nearly full it is turned over,
-//! between two requests of each connection. Where a window is wanted, a second port shows how the gateway
-//! does. The program `hcproxy` stands on it.
+//! What goes out is what the sessions write. Each time the journal is nearly full it is turned
+//! over, between two requests of each connection. If a window is wanted, a second port shows how
+//! the gateway does. The program `hcproxy` stands on it.
 #![tactic(auto)]
 
 mod access;

@@ -15,7 +15,7 @@ struct Seat {
     line: Arc<Line>,
 }
 
-/// The connections that are open, and the passes of the sessions that ended since the journal began.
+/// The open connections, and the passes of the sessions that ended since the journal began.
 #[derive(Drop)]
 pub struct Roll<L: Ledger> {
     alloc: Global,
@@ -50,7 +50,7 @@ impl<L: Ledger> Roll<L> {
         let _ = self.seats.push(Seat { conn, line });
     }
 
-    /// A connection that was counted is open no more, and its session left this pass, if it had one.
+    /// A counted connection is no longer open; its session, if it had one, left this pass.
     pub fn leave(&mut self, conn: Option<u32>, pass: Option<Pass<Profile, L>>) {
         self.open = self.open.saturating_sub(1);
         if let Some(conn) = conn {
@@ -61,23 +61,24 @@ impl<L: Ledger> Roll<L> {
         }
     }
 
-    /// Ends what comes in on connections whose session has waited for a request for a while, at this
-    /// moment, or, where none is waited for any longer, for one or for the rest of one.
+    /// Stops reading on connections whose session has waited for a request for a while. With
+    /// `longer` false, also on those that wait for the first or the rest of a request. `now` is a
+    /// moment of the monotonic clock, in milliseconds.
     pub fn end_reading(&self, longer: bool, now: u64) {
         for seat in &self.seats {
             seat.line.end_reading(longer, now);
         }
     }
 
-    /// Lets a client go that left while its session waits for an answer, and answers its connection.
+    /// Lets one client go that left while its session waits for an answer; gives its connection.
     pub fn let_one_go(&self) -> Option<u32> {
         let seat = self.seats.iter().find(|seat| seat.line.lets_go())?;
         Some(seat.conn)
     }
 
-    /// Ends what comes in on the connection that has waited longest for its next request, at least so
-    /// many milliseconds at this moment; where there is none, on the one whose request has been coming
-    /// longest. Answers which it is, and for how long.
+    /// Stops reading on the connection that has waited longest for its next request, if that is at
+    /// least `least` milliseconds; or else on the one whose request has been coming longest, if
+    /// that is. Gives the connection and how long it has waited, in milliseconds.
     pub fn end_longest(&self, now: u64, least: u64) -> Option<(u32, u64)> {
         let (seat, time) = match self.longest(now, least, false) {
             Some(found) => found,
@@ -87,8 +88,8 @@ impl<L: Ledger> Roll<L> {
         Some((seat.conn, time))
     }
 
-    /// The connection that has waited longest for its next request, or else for the rest of one, at
-    /// least so many milliseconds.
+    /// The connection that has waited longest, and at least `least` milliseconds: for the rest of a
+    /// request if `rest`, otherwise for its next request.
     fn longest(&self, now: u64, least: u64, rest: bool) -> Option<(&Seat, u64)> {
         let mut found: Option<(&Seat, u64)> = None;
         'each: for seat in &self.seats {

@@ -19,11 +19,10 @@ use std::thread;
 use std::time::Duration;
 use transformers::{Bank, Stored};
 
-/// How long it is waited until a connection that is closed for another one is looked at again, in
-/// milliseconds.
+/// How long to wait, in milliseconds, before looking again whether a connection is closed.
 const LOOK: u64 = 1;
 
-/// How often it is looked at.
+/// How often to look.
 const MOST_LOOKS: u64 = 100;
 
 /// What the threads of the gateway share.
@@ -36,7 +35,7 @@ pub struct Shared<W: Clock + RandomSource + Drop, L: Ledger> {
     pub watch: Option<Watch>,
     pub options: Options,
     roll: Mutex<Roll<L>>,
-    /// it was noted that the journal is sealed
+    /// it was logged that the journal is sealed
     noted: AtomicBool,
 }
 
@@ -71,8 +70,8 @@ impl<W: Clock + RandomSource + Drop, L: Ledger> Shared<W, L> {
         self.roll.lock(rt).leave(None, None);
     }
 
-    /// Whether no connection is open. Those are closed meanwhile that wait for the next request, or,
-    /// where none is waited for any longer, for the rest of one.
+    /// Whether no connection is open. Meanwhile those are closed that wait for their next request
+    /// and, if `longer` is false, those that wait for the rest of one.
     pub fn is_left<V: Wait + Clock>(&self, rt: &V, longer: bool) -> bool {
         let now = moment(rt).unwrap_or(u64::MAX);
         let roll = self.roll.lock(rt);
@@ -80,9 +79,9 @@ impl<W: Clock + RandomSource + Drop, L: Ledger> Shared<W, L> {
         roll.is_empty()
     }
 
-    /// Makes place for a connection where as many are open as may be: closes one whose client left, or
-    /// else the one that has been idle longest, and waits until it is closed. False where there is none
-    /// of the first kind, and none has been idle for long enough.
+    /// Makes room for one more connection where no more may be open: closes one whose client left,
+    /// or else the one that has been idle longest, and waits until it is closed. False where no
+    /// client left and no connection has been idle for long enough.
     pub fn make_place<V: Wait + Log + Clock>(&self, rt: &V) -> bool {
         let ended = match self.let_one_go(rt) {
             Some(conn) => Some(conn),
@@ -142,7 +141,7 @@ impl<W: Clock + RandomSource + Drop, L: Ledger> Shared<W, L> {
         self.noted.store(false, Ordering::SeqCst);
     }
 
-    /// Serves a connection until it ends, and notes how it ended.
+    /// Serves a connection until it ends, and logs how it ended.
     pub fn serve_client<V: Wait + Log + Clock>(
         &self,
         rt: &V,
@@ -158,8 +157,8 @@ impl<W: Clock + RandomSource + Drop, L: Ledger> Shared<W, L> {
         client.end();
     }
 
-    /// Serves a connection that may be closed while it waits for a request, and keeps the pass that its
-    /// session leaves.
+    /// Serves a connection, which may be closed while it waits for a request, and keeps the pass
+    /// that its session leaves.
     fn serve_seated<V: Wait + Log + Clock>(
         &self,
         rt: &V,
@@ -191,7 +190,7 @@ impl<W: Clock + RandomSource + Drop, L: Ledger> Shared<W, L> {
         }
     }
 
-    /// Notes how a session ended.
+    /// Logs how a session ended.
     fn note_end<V: Log>(&self, rt: &V, number: u32, end: End, gave_up: bool) {
         let why = if gave_up {
             ": its client stood still"
@@ -205,8 +204,8 @@ impl<W: Clock + RandomSource + Drop, L: Ledger> Shared<W, L> {
     }
 
     /// Serves a connection with the transformers that the routes of the settings ask for. Each
-    /// session has its own: a bank is seldom more than a few pairs of forms, and what it keeps is
-    /// known where it is made.
+    /// session makes its own bank, of a few pairs of forms at most, so what the bank keeps is known
+    /// where it is made.
     fn serve_with_bank<V: Wait + Log + Clock>(
         &self,
         rt: &V,
@@ -230,7 +229,7 @@ impl<W: Clock + RandomSource + Drop, L: Ledger> Shared<W, L> {
         Ok(serve(rt, &gateway, client, access, pass))
     }
 
-    /// Notes once for each journal that it is sealed.
+    /// Logs that the journal is sealed, once for each journal.
     fn note_sealed<V: Log>(&self, rt: &V) {
         if !self.noted.swap(true, Ordering::SeqCst) {
             warn!(

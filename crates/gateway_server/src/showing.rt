@@ -19,7 +19,7 @@ impl<W: Clock + RandomSource + Drop, L: Ledger> Shown for Shared<W, L> {
         self.options.payloads
     }
 
-    /// While the journal is turned over the desk may be held for long, so that it isn't locked then.
+    /// While the journal is turned over the desk may be locked for long, so it is not asked then.
     fn phase<V: Wait>(&self, rt: &V) -> Phase {
         if self.desk.is_closing() {
             Phase::Turning

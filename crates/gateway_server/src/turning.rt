@@ -24,10 +24,10 @@ const LONGEST_LOOKS: u64 = 2_000;
 /// How long it is waited until a turn that was refused is tried again, in milliseconds.
 const PAUSE: u64 = 100;
 
-/// Turns the journal over each time that it is nearly full, until the desk is shut: the sessions end,
-/// each with the answer to its next request; then the journal is brought to its seal, given to the
-/// archive, and the next one begins. What comes meanwhile waits in the sockets. It shuts the desk as it
-/// ends, and gives what there is to the archive.
+/// Turns the journal over each time it is nearly full, until the desk is shut. The sessions end,
+/// each with the answer to its next request; then the journal is filled up to its seal and given to
+/// the archive, and the next one begins. What comes meanwhile waits in the sockets. At its end this
+/// shuts the desk, and gives what is left to the archive.
 pub fn turn_journals<
     W: Wait + Log + Clock + RandomSource + Drop,
     L: Ledger,
@@ -141,7 +141,7 @@ fn is_final(why: TurnReason) -> bool {
     }
 }
 
-/// Notes that a journal was turned over, and how long nobody was served.
+/// Logs that a journal was turned over, and for how long nobody was served.
 fn note_turn<V: Log + Clock>(rt: &V, number: u64, begin: Option<Instant>, report: Report) {
     let time = match begin {
         Some(begin) => begin.elapsed(rt).ok(),
