@@ -1,6 +1,6 @@
--- What a session does on its connection: the requests that come in are answered one after the other,
--- each with the answer that was given for it; and the client of one that waits with its body for
--- 100 Continue is told so once before (RFC 9110 section 10.1.1, RFC 9112 section 9.3.2).
+-- What a session does on its connection. The requests that come in are answered one after the
+-- other, each with the answer that was given for it. A client that waits with its body for 100
+-- Continue is told so once, before the answer (RFC 9110 section 10.1.1, RFC 9112 section 9.3.2).
 use Rattle.std.specs.Prelude.{◌≡◌, ◌⊎◌, ⊤, ℕ, Bool, true, false, List, [], ◌∷◌, ◌++◌, map, take, Option}
 use Rattle.std.specs.List.{concat, flat_map}
 use Rattle.http_edge.specs.Edges.{Expects}
@@ -14,8 +14,8 @@ use Rattle.sessions.specs.Asking.{as_last, IsAskOf, IsReadOut, EndOnce, HaveEnde
 use Rattle.sessions.specs.Devices.{Grown}
 use Rattle.sessions.specs.Telling.{continue_text, continue_if, SaysAnswer, IsPartOf}
 
--- a request that is answered: what it brought, whether the session made it the last one, whether its
--- client was told to go on before, the receipt of its answer, and the bytes that tell it
+-- a request that is answered: what came, whether the session made it the last one, whether its
+-- client was told to go on before, the receipt of its answer, and the bytes of the answer
 pub record Turn : Type 0 where
   pub item : Item
   pub last : Bool
@@ -37,8 +37,8 @@ noted_in t = made t.slip.number ∷ got t.slip ∷ []
 abbrev pub items_of : List Turn → List Item
 items_of turns = map asked_in turns
 
--- what a session leaves undone: nothing; 100 Continue, of which the first bytes are written; an ask,
--- which has no answer; or an answer, of which these bytes are written
+-- what a session leaves undone: nothing; 100 Continue, of which the first bytes are written; an ask
+-- that has no answer; or an answer, of which these bytes are written
 pub data Undone : Type 0 where
   nothing : Undone
   continuing : (sent : ℕ) → Undone
@@ -104,9 +104,10 @@ module _ (holds : Form → Form → List ℕ → List ℕ → Type 0) (takes : F
       (i : Item) × (rest : List ℕ) × (last : Bool) × First text i rest
       × IsUndoneOf (as_last last i) u
 
-  -- From one moment to another a session that ends so has answered what its reads gave. What it notes
-  -- and writes are just the turns, in order, and at most one thing that is left undone.
-  pub record Serves (end : End) (old new : List Line) (gave_before gave_after : Option (List (List ℕ)))
+  -- Between two moments a session that ends so has answered what its reads gave. It notes and
+  -- writes just the turns, in order, and at most one thing that is left undone.
+  pub record Serves (end : End) (old new : List Line)
+      (gave_before gave_after : Option (List (List ℕ)))
       (before after : Option (List ℕ)) : Type 0 where
     pub reads : List (List ℕ)
     pub gave : Grown gave_before gave_after reads

@@ -1,4 +1,4 @@
--- What the steps of a session do: to the edge of its connection, to what its stream gave and what is
+-- What the steps of a session do to the edge of its connection, to what its stream gave and what is
 -- written to it, and to its notes.
 use Rattle.std.specs.Prelude.{◌≡◌, ℕ, Bool, true, false, List, [], ◌∷◌, ◌++◌, Option}
 use Rattle.http_edge.specs.declared.edge.Edge.{Edge}

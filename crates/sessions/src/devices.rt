@@ -25,9 +25,9 @@ pub trait Stream {
     fn faults(&self) -> u64
         ensures { result ≡ count self.now };
 
-    /// Puts what comes next into the buffer, and answers how many bytes that are: none at the end.
-    /// Between two requests, of which the later one hasn't begun, a stream may end of its own accord
-    /// (RFC 9112, section 9.3.1).
+    /// Puts what comes next into the buffer, and gives how many bytes that are: 0 at the end. With
+    /// `between`, the session waits between two requests, and the stream may end of its own accord
+    /// (RFC 9112 section 9.3.1).
     fn read(&mut self, buffer: &mut [u8], between: bool) -> Result<usize, Failed>
         requires room { 0 < length buffer.old }
         ensures fits { IfOk result (λ n. n ≤ length buffer.new) }

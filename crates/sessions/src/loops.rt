@@ -26,8 +26,8 @@ pub fn send_due<R: Relation, C: Clock, L: Ledger, N: Wire, W: Wait>(
     }
 }
 
-/// Hands in what is heard, in so many turns or until the wire fails. Each turn waits for a
-/// datagram, hands it in and sends what is then due. It shuts the desk as it ends.
+/// Hands in the datagrams that are heard, in so many turns or until the wire fails. Each turn waits
+/// for a datagram, hands it in, and sends what is then due. At its end it shuts the desk.
 pub fn udp_loop<R: Relation, C: Clock, L: Ledger, N: Wire, W: Wait>(
     rt: &W,
     alloc: Global,
@@ -67,9 +67,9 @@ fn hear_all<R: Relation, C: Clock, L: Ledger, N: Wire, W: Wait>(
     }
 }
 
-/// Lets time go on, in so many turns or until the clock fails. Each turn does what is due, and
-/// rests until something is due again; where it had no memory to do it, it rests for a pause. It
-/// shuts the desk as it ends.
+/// Lets time go on, in so many turns or until the clock fails. Each turn does what is due and rests
+/// until something is due again; if it had no memory for it, it rests for a pause. At its end it
+/// shuts the desk.
 pub fn tick_loop<R: Relation, C: Clock, L: Ledger, N: Wire, W: Wait + std::rt::Clock>(
     rt: &W,
     wire: &N,

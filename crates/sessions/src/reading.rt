@@ -32,8 +32,8 @@ impl Reading {
         })
     }
 
-    /// Reads as much of the connection as the edge has room for, between two requests or within one.
-    /// False at its end.
+    /// Reads as much of the connection as the edge has room for, between two requests or within
+    /// one. False at the connection's end.
     pub fn more<S: Stream>(&mut self, stream: &mut S, between: bool) -> Result<bool, Failed>
         requires room { unread_len self.old.edge < 8192 }
         ensures same { Grown (S.written stream.old) (S.written stream.new) [] }

@@ -29,14 +29,14 @@ use transformers::{Bank, Relation};
 /// Why a session ended.
 #[derive(Clone, Copy, Debug, PartialEq, Eq)]
 pub enum End {
-    /// The client closed the connection, or its last request was answered: the last one by its own
-    /// word, or since the journal is nearly full.
+    /// The client closed the connection, or its last request was answered: the last by its own
+    /// word, or because the journal is nearly full.
     Finished,
     /// A read failed.
     ReadFault,
     /// A write failed: a part of an answer may have gone out.
     WriteFault,
-    /// The journal takes no more, so an ask wasn't taken.
+    /// The journal takes no more entries, so an ask was not taken.
     Sealed,
     /// Memory ran out.
     Memory,
@@ -60,7 +60,7 @@ impl fmt::Display for End {
     }
 }
 
-/// What is left of a session, whose connection is closed at the desk.
+/// What is left of a session once its connection is closed at the desk.
 #[derive(Drop)]
 pub struct Done<R: Relation, L: Ledger> {
     pub pass: ClosedPass<R, L>,
@@ -74,16 +74,16 @@ pub struct Gateway<'a, R: Relation, C: Clock, L: Ledger, N: Wire> {
     /// where datagrams go out
     pub wire: &'a N,
     pub desk: &'a LockedDesk<R, C, L>,
-    /// by which requests are mapped
+    /// the rules by which requests are mapped
     pub settings: &'a Arc<Settings>,
-    /// the transformers of the routes there
+    /// the transformers of the routes in the settings
     pub bank: &'a Bank<R>,
 }
 
-/// Serves a connection until it ends: reads requests, asks each of them as soon as the one before
-/// is answered, and writes the answers. What an ask sends goes out at once. While the desk's journal
-/// is nearly full, the next answer is the last one, and says that the connection is closed. A session
-/// that is finished has asked all that came before that.
+/// Serves a connection until it ends: reads requests, asks each one as soon as the one before it is
+/// answered, and writes the answers. What an ask sends goes out at once. While the desk's journal
+/// is nearly full, the next answer is the last, and says that the connection is closed. A session
+/// that finished has asked everything that came before its end.
 pub fn serve<R: Relation, C: Clock, L: Ledger, S: Stream, N: Wire, G: Gate, W: Wait>(
     rt: &W,
     gateway: &Gateway<'_, R, C, L, N>,
@@ -227,10 +227,12 @@ fn turn<R: Relation, C: Clock, L: Ledger, S: Stream, N: Wire, G: Gate, W: Wait>(
         gateway.now.bank.now }
     ensures answered { result ≡ None
         → TakesTurn R.holds R.takes (rules_of (arc_value gateway.now.settings.now))
-        (item incoming) pass.old.lines pass.new.lines (S.written stream.old) (S.written stream.new) }
+        (item incoming) pass.old.lines pass.new.lines
+        (S.written stream.old) (S.written stream.new) }
     ensures cut { IfSome result (λ end.
         CutsTurn R.holds R.takes (rules_of (arc_value gateway.now.settings.now)) end
-        (item incoming) pass.old.lines pass.new.lines (S.written stream.old) (S.written stream.new)) }
+        (item incoming) pass.old.lines pass.new.lines
+        (S.written stream.old) (S.written stream.new)) }
     ensures write_fault { result ≡ Some End.WriteFault
         → Rises (S.count stream.old) (S.count stream.new) }
     ensures held { result ≡ Some End.Held → Rises (G.nays gate.old) (G.nays gate.new) }

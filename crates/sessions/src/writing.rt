@@ -57,7 +57,8 @@ pub fn write_reply<R: Relation, L: Ledger, S: Stream, G: Gate>(
     reply: &Reply,
 ) -> Result<(), Failed>
     ensures quiet { Grown (S.gave stream.old) (S.gave stream.new) [] }
-    ensures ok { OnOk result (Grown (S.written stream.old) (S.written stream.new) reply.now.bytes.items
+    ensures ok { OnOk result (
+        Grown (S.written stream.old) (S.written stream.new) reply.now.bytes.items
         × (S.count stream.new ≡ S.count stream.old)) }
     ensures err { OnErr result (
         GrownPartly (S.written stream.old) (S.written stream.new) reply.now.bytes.items
@@ -82,7 +83,8 @@ pub fn write_continue<S: Stream>(stream: &mut S) -> Result<(), Failed>
     ensures quiet { Grown (S.gave stream.old) (S.gave stream.new) [] }
     ensures ok { OnOk result (Grown (S.written stream.old) (S.written stream.new) continue_text
         × (S.count stream.new ≡ S.count stream.old)) }
-    ensures err { OnErr result (GrownPartly (S.written stream.old) (S.written stream.new) continue_text
+    ensures err { OnErr result (
+        GrownPartly (S.written stream.old) (S.written stream.new) continue_text
         × Rises (S.count stream.old) (S.count stream.new)) }
 {
     stream.write(CONTINUE.as_bytes())
