@@ -10,25 +10,25 @@ use uri_map::{Peer, peer_at};
 pub enum Command<'a> {
     Help,
     Version,
-    /// A run of a script, under the settings of a file or else under those of a demonstration.
+    /// A run of a script, with the settings of a file, or else with those of a demonstration.
     Replay {
         journal: bool,
         settings: Option<&'a str>,
     },
-    /// A picture of the journal on standard input.
+    /// A picture of the journal that is on standard input.
     Draw,
-    /// A story, told of a file or else of standard input.
+    /// A story, from a file or else from standard input.
     Story {
         file: Option<&'a str>,
     },
-    /// The gateway, and a device to try it with, under settings of their own. Connections are taken at
-    /// the address, where one is named.
+    /// The gateway, and a device to try it with, both with settings of their own. Connections are
+    /// taken at `listen`, if it is named.
     Demo {
         listen: Option<Peer>,
     },
     /// The gateway.
     Serve(Serving<'a>),
-    /// The demonstration device, under the settings of a file or else under those on standard input.
+    /// The demonstration device, with the settings of a file, or else with those on standard input.
     Origin {
         settings: Option<&'a str>,
     },

@@ -9,8 +9,8 @@ pub const WEB_PORT: u16 = 8080;
 /// Where it shows how it does, if it can.
 pub const WINDOW_PORT: u16 = 9090;
 
-/// Where its device takes messages, if it can: the port that CoAP has where a URL names none (RFC 7252,
-/// section 6.1).
+/// The port where the device of a demonstration takes messages, if it is free: the one that a
+/// `coap` URI without a port means (RFC 7252 section 6.1).
 pub const COAP_PORT: u16 = 5683;
 
 /// The settings of its gateway. Which ports it takes is found out when it starts.
@@ -43,8 +43,8 @@ pub fn loopback(port: u16) -> SocketAddr {
     SocketAddr::new(IpAddr::V4(Ipv4Addr::new(127, 0, 0, 1)), port)
 }
 
-/// Where the gateway of a demonstration takes connections and shows how it does, and where its device takes
-/// messages. Its text says so, and what to try.
+/// Where a demonstration's gateway takes connections and shows how it does, and where its device
+/// takes messages. Its text says so, and what to try.
 #[derive(Clone, Copy)]
 pub struct Demonstration {
     pub web: SocketAddr,

@@ -27,7 +27,7 @@ impl fmt::Display for ReplayFault {
     }
 }
 
-/// What more can be said of a fault.
+/// What else can be said of a fault.
 #[derive(Clone, Copy, PartialEq, Eq)]
 pub enum Reason {
     /// The line is no input.

@@ -28,7 +28,7 @@ pub enum Failure {
 }
 
 impl Failure {
-    /// The exit status that tells of it.
+    /// The exit status that tells of the failure.
     pub fn status(self) -> u8
         ensures { result ≡ exit_status self }
     {
@@ -92,7 +92,7 @@ impl fmt::Display for Failure {
     }
 }
 
-/// What more can be said of a failure.
+/// What else can be said of a failure.
 #[derive(Clone, Copy)]
 pub enum Hint<'a> {
     SeeHelp,
@@ -231,7 +231,7 @@ impl<'a> Report<'a> {
     }
 }
 
-/// A line for the failure and one for what more can be said of it. A file that isn't there needs but one.
+/// A line for the failure, and one for what else can be said of it. A missing file needs only one.
 impl fmt::Display for Report<'_> {
     fn fmt<W: fmt::Write>(&self, f: &mut fmt::Formatter<W>) -> fmt::Result {
         match self.hint {

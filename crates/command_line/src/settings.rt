@@ -60,7 +60,8 @@ pub fn followed(alloc: Global, serve: &Serve) -> Result<Settings, AllocError>
 
 /// Where the devices are.
 fn directory_of(alloc: Global, origins: &[Origin], literals: bool) -> Result<Directory, AllocError>
-    ensures { IfOk result (λ d. d ≡ record { lines = map line_of origins.now; literals = literals }) }
+    ensures { IfOk result (λ d.
+        d ≡ record { lines = map line_of origins.now; literals = literals }) }
 {
     let mut directory = Directory::new(alloc, literals);
     'each: for origin in origins {
