@@ -49,7 +49,11 @@ impl Marks {
     }
 
     /// The next entry is marked where it is remembered, or isn't.
-    pub fn push<R: Relation>(&mut self, entry: &Entry<R>, kept: bool) -> Result<(), AllocError>
+    pub(crate) fn push<R: Relation>(
+        &mut self,
+        entry: &Entry<R>,
+        kept: bool,
+    ) -> Result<(), AllocError>
         ensures marks { OnOk result
             (self.new.marks.items ≡ self.old.marks.items ++ past_if kept ∷ []) }
         ensures count { OnOk result (self.new.count ≡ more_if kept 1 self.old.count) }
