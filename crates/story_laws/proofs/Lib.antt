@@ -1,4 +1,5 @@
 pub mod Sending
+pub mod Pacing
 pub mod Calling
 pub mod Executing
 pub mod Forgetting

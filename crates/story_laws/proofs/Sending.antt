@@ -151,7 +151,7 @@ first-moment l s t o q i p r m n f g =
     ap (λ (v : Noted). v.written.moment) (at-same l i _ _ f.stands g.stands)
 
 -- what a first sending spells, and how long its token is
-first-spelled : (l : List Noted) (s o i : ℕ) (p : Peer) (m : Content) → Legal l → (f : IsFirst l s o i p m)
+pub first-spelled : (l : List Noted) (s o i : ℕ) (p : Peer) (m : Content) → Legal l → (f : IsFirst l s o i p m)
     → Spells m f.bytes × (length m.token ≡ 8)
 first-spelled l s o i p m legal f =
     let may = follows-at l i _ legal f.stands in

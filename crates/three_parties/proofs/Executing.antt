@@ -23,17 +23,20 @@ use Rattle.story_laws.specs.Lateness.{ArePunctual}
 use Rattle.story_laws.specs.Networks.{IsDelivered, IsBrought, Networks, AreGiven}
 use Rattle.story_laws.specs.Orders.{IsOrdered}
 use Rattle.story_laws.specs.Posts.{IsDoneOnce, PostsOnce as Law}
+use Rattle.story_laws.proofs.Pacing.{AreTimely}
 use Rattle.story_laws.proofs.Posting.{noted-at}
 use Rattle.gateway_model.specs.Emissions.{Emission}
 use Rattle.three_parties.specs.Flights.{Going, device_at, proxy_at}
 use Rattle.three_parties.specs.Promises.{KeepsJournal, IsOf, IsExecutedOnce, PostsOnce, PostsOnceInTime}
 use Rattle.three_parties.specs.Scenes.{Scene}
 use Rattle.three_parties.specs.Stories.{IsStory, opening}
+use Rattle.three_parties.specs.Ticks.{LooksInTime}
 use Rattle.three_parties.specs.declared.story.Execution.{Execution}
 use Rattle.three_parties.specs.declared.turn.Turn.{Turn}
 use Rattle.three_parties.proofs.Calls.{is-given}
 use Rattle.three_parties.proofs.Knowing.{Known, known-none}
 use Rattle.three_parties.proofs.Lists.{all-from, got-below, got-in}
+use Rattle.three_parties.proofs.Looking.{in-time, punctual-in}
 use Rattle.three_parties.proofs.Orders.{IsGivenBefore, IsSentBefore, Order}
 use Rattle.three_parties.proofs.Tales.{IsDone, IsDoneBy, Tale}
 use Rattle.three_parties.proofs.Telling.{turns-told}
@@ -189,27 +192,30 @@ module _ (holds : Form → Form → List ℕ → List ℕ → Type 0) (takes : F
   known-then =
       turns-told holds takes R (fresh block resources) turns (opening rules (fresh block resources)) at_end keeps story.is (known-none R rules (fresh block resources))
 
-  posts-then : Law R → (stands : Stands story.world.core.state.entries) → ArePunctual stands.reading
-      → PostsOnce story.world.core.state.entries flights taken
-  posts-then law stands punctual n t c k js answered rests post to class =
+  pub timely-then : LooksInTime turns → AreTimely story.world.core.state.entries
+  timely-then looks = in-time holds takes R (fresh block resources) turns rules at_end keeps story.is looks
+
+  posts-then : Law R → (stands : Stands story.world.core.state.entries) → LooksInTime turns → PostsOnce story.world.core.state.entries flights taken
+  posts-then law stands looks n t c k js answered rests post to class =
+      let punctual = punctual-in story.world.core.state.entries stands (timely-then looks) in
       (done-at R (fresh block resources) at_end known-then stands punctual rests.opening rests.request
       (law story.world.core.state.entries device_at proxy_at block resources known-then.tale.calls n t c k js stands
       (networks R (fresh block resources) at_end known-then stands punctual) (given R (fresh block resources) at_end known-then stands punctual) answered rests post to
       class)).0
 
-  pub posts-once : Law R → (stands : Stands h) → ArePunctual stands.reading → PostsOnce h flights taken
+  pub posts-once : Law R → Stands h → LooksInTime turns → PostsOnce h flights taken
   posts-once law =
-      subst (λ (w : List Written). (stands : Stands w) → ArePunctual stands.reading → PostsOnce w flights taken) (sym story.journal) (posts-then law)
+      subst (λ (w : List Written). Stands w → LooksInTime turns → PostsOnce w flights taken) (sym story.journal) (posts-then law)
 
 -- what follows of what is answered
-pub if-ok : {S E : Type 0} (P Q : S → Type 0) → ((s : S) → P s → Q s) → (r : Result S E) → IfOk r P → IfOk r Q
-if-ok P Q f (Ok s) h = f s h
-if-ok P Q f (Err e) h = h
+pub if-ok : {S E : Type 0} (P U Q : S → Type 0) → ((s : S) → P s → U s → Q s) → (r : Result S E) → IfOk r P → IfOk r U → IfOk r Q
+if-ok P U Q f (Ok s) h k = f s h k
+if-ok P U Q f (Err e) h k = h
 
 pub posts-of : (R : Relation) → Law R → (holds : Form → Form → List ℕ → List ℕ → Type 0) (takes : Form → Form → List ℕ → Type 0)
     (rules : Rules) (first : Device) (turns : List Turn) (out : List Emission) (flights : List Going) (h : List Written) (last : Device)
-    (taken : List Execution) → IsStory holds takes R rules first turns out flights h last taken
+    (taken : List Execution) → IsStory holds takes R rules first turns out flights h last taken → Stands h
     → (block : ℕ) (resources : List Held) → first ≡ fresh block resources → PostsOnceInTime turns h flights taken
-posts-of R law holds takes rules first turns out flights h last taken story block resources e keeps =
+posts-of R law holds takes rules first turns out flights h last taken story stands block resources e keeps looks =
     posts-once holds takes R rules block resources turns out flights h last taken
-    (subst (λ (d : Device). IsStory holds takes R rules d turns out flights h last taken) e story) keeps law
+    (subst (λ (d : Device). IsStory holds takes R rules d turns out flights h last taken) e story) keeps law stands looks

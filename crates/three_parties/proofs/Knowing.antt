@@ -74,7 +74,7 @@ known-called R first s t n e d told le top k c =
     }
 
 -- The moment of an input is that of its turn.
-now-is : (m w t : ℕ) → m ≤ t → w ≤ t → t ≤ LAST_MOMENT → now m (counted w t) ≡ t
+pub now-is : (m w t : ℕ) → m ≤ t → w ≤ t → t ≤ LAST_MOMENT → now m (counted w t) ≡ t
 now-is m w t a b top = omega (arith, a, b, top)
 
 counted-is : (w t : ℕ) → w ≤ t → t ≤ LAST_MOMENT → counted w t ≡ t

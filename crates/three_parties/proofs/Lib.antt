@@ -4,12 +4,15 @@ pub mod Tales
 pub mod Giving
 pub mod Calling
 pub mod Moments
+pub mod Pacing
 pub mod Stamping
+pub mod Ticking
 pub mod Orders
 pub mod Ordering
 pub mod Knowing
 pub mod Telling
 pub mod Mapped
+pub mod Looking
 pub mod Executing
 pub mod Reading
 pub mod Sending

@@ -36,9 +36,10 @@ use Rattle.three_parties.specs.Scenes.{Scene}
 use Rattle.three_parties.specs.Stories.{IsStory}
 use Rattle.three_parties.specs.declared.story.Execution.{Execution}
 use Rattle.three_parties.specs.declared.turn.Turn.{Turn}
-use Rattle.three_parties.proofs.Executing.{at_end, calls_before, done-at, known-then, networks, ordered}
+use Rattle.three_parties.proofs.Executing.{at_end, calls_before, done-at, known-then, networks, ordered, timely-then}
 use Rattle.three_parties.proofs.Knowing.{Known}
 use Rattle.three_parties.proofs.Lists.{take-front}
+use Rattle.three_parties.proofs.Looking.{punctual-in}
 use Rattle.three_parties.proofs.Mapped.{all-at, none-observed}
 use Rattle.three_parties.proofs.Ordering.{told-both}
 use Rattle.three_parties.proofs.Orders.{taken_of}
@@ -314,21 +315,23 @@ module _ (R : Relation) (law : Law R) (block : ℕ) (resources : List Held) (s :
 -- a story of a device that is a new one
 pub reads-of : (R : Relation) → Law R → (holds : Form → Form → List ℕ → List ℕ → Type 0) (takes : Form → Form → List ℕ → Type 0)
     (rules : Rules) (first : Device) (turns : List Turn) (out : List Emission) (flights : List Going) (h : List Written) (last : Device)
-    (taken : List Execution) → IsStory holds takes R rules first turns out flights h last taken
+    (taken : List Execution) → IsStory holds takes R rules first turns out flights h last taken → Stands h
     → (block : ℕ) (resources : List Held) → first ≡ fresh block resources → ObservesNothing rules
     → GetsShowInTime turns resources h flights taken
-reads-of R law holds takes rules first turns out flights h last taken story block resources e nothing keeps =
-    subst (λ (w : List Written). (stands : Stands w) → ArePunctual stands.reading → GetsShow resources w flights taken × KeptShow resources w flights taken × NoneCarried w)
-    (sym new.journal) shown
+reads-of R law holds takes rules first turns out flights h last taken story stands block resources e nothing keeps looks =
+    subst (λ (w : List Written). Stands w → GetsShow resources w flights taken × KeptShow resources w flights taken × NoneCarried w)
+    (sym new.journal) shown stands
   where
     new : IsStory holds takes R rules (fresh block resources) turns out flights h last taken
     new = subst (λ (d : Device). IsStory holds takes R rules d turns out flights h last taken) e story
 
-    shown : (stands : Stands new.world.core.state.entries) → ArePunctual stands.reading
+    shown : Stands new.world.core.state.entries
         → GetsShow resources new.world.core.state.entries flights taken × KeptShow resources new.world.core.state.entries flights taken
         × NoneCarried new.world.core.state.entries
-    shown stands punctual =
+    shown stands =
         all-show R law block resources (at_end holds takes R rules block resources turns out flights h last taken new keeps)
-        (known-then holds takes R rules block resources turns out flights h last taken new keeps) stands punctual
+        (known-then holds takes R rules block resources turns out flights h last taken new keeps) stands
+        (punctual-in new.world.core.state.entries stands
+        (timely-then holds takes R rules block resources turns out flights h last taken new keeps looks))
         (none-observed holds takes R rules (fresh block resources) turns
         (at_end holds takes R rules block resources turns out flights h last taken new keeps) new.is nothing)

@@ -81,7 +81,7 @@ asks-stamp t word c a old new h =
     stamps-so t old.state _ new.state (ap (λ (v : CoreValue). v.state) h.is) (asks-add t c a h.numbers old.state) (asks-count t c a h.numbers old.state)
 
 -- The moment that counts is the same after an act.
-still-now : (t m : ℕ) (S S1 : State) → t ≡ now S.moment m → Counts t S S1 → now S1.moment m ≡ t
+pub still-now : (t m : ℕ) (S S1 : State) → t ≡ now S.moment m → Counts t S S1 → now S1.moment m ≡ t
 still-now t m S S1 is (inl e) = ap (λ (k : ℕ). now k m) e ∙ sym is
 still-now t m S S1 is (inr e) = ap (λ (k : ℕ). now k m) e ∙ (ap (λ (k : ℕ). now k m) is ∙ (again ∙ sym is))
   where

@@ -43,10 +43,10 @@ hush i a b x is none s =
 
 -- ---- turns
 
-counted-later : (last m : ℕ) → last ≤ counted last m
+pub counted-later : (last m : ℕ) → last ≤ counted last m
 counted-later last m = omega arith
 
-counted-last : (last m : ℕ) → last ≤ LAST_MOMENT → counted last m ≤ LAST_MOMENT
+pub counted-last : (last m : ℕ) → last ≤ LAST_MOMENT → counted last m ≤ LAST_MOMENT
 counted-last last m top = omega (arith, top)
 
 looked-not : (t u : ℕ) (p : Peer) (b : List ℕ) (k : Option Taken) → looked t ≡ heard u p b k → ⊥
@@ -217,7 +217,7 @@ module _ (holds : Form → Form → List ℕ → List ℕ → Type 0) (takes : F
       subst (Known R first) (sym e.is) (known-heard R first old t n bytes e.device e.told le top h to e.hears)
   delivery t word n Nowhere old new le top to e h = subst (Known R first) (sym e) (known-later R first old t le top h)
 
-  turn : (x : Turn) (old new : Scene) → KeepsJournal x → TakesTurn holds takes R x old new → Known R first old → Known R first new
+  pub turn : (x : Turn) (old new : Scene) → KeepsJournal x → TakesTurn holds takes R x old new → Known R first old → Known R first new
   turn (T.Proxy i) old new keeps e h =
       input (counted old.moment i.moment) i old new (counted-later old.moment i.moment) (counted-last old.moment i.moment h.timely.last) i.happening refl keeps e h
   turn (T.Device m) old new keeps e h =

@@ -5,11 +5,10 @@ use Rattle.coap_codec.specs.Spelling.{Content, Spells}
 use Rattle.coap_codec.specs.declared.block.Block.{Block}
 use Rattle.ask_model.specs.Requests.{CoapRequest}
 use Rattle.journal_book.specs.Entries.{Live, Answers, Written}
-use Rattle.history_laws.specs.Justified.{Stands}
 use Rattle.history_claims.specs.Headline.{IsEntry, IsSentFor, RestsOn}
 use Rattle.gateway_model.specs.declared.input.Happening.TheVariants as H
-use Rattle.story_laws.specs.Lateness.{ArePunctual}
 use Rattle.three_parties.specs.Flights.{Going, ByProxy, device_at}
+use Rattle.three_parties.specs.Ticks.{LooksInTime}
 use Rattle.three_parties.specs.declared.story.Execution.{Execution}
 use Rattle.three_parties.specs.declared.turn.Turn.{Turn}
 use Rattle.three_parties.specs.declared.turn.Turn.TheVariants as T
@@ -50,9 +49,7 @@ PostsOnce h flights taken =
     → r.request.method ≡ 2 → r.request.peer ≡ device_at → r.response.code / 32 ≡ 2
     → IsExecutedOnce h r.opening r.request flights taken
 
--- So it is where one journal has all entries, and copies go out a second after they are due at the
--- latest.
+-- So it is where one journal has all entries, and the proxy looks at its timers each second.
 abbrev pub PostsOnceInTime : List Turn → List Written → List Going → List Execution → Type 0
 PostsOnceInTime turns h flights taken =
-    AllByRecursion KeepsJournal turns → (s : Stands h) → ArePunctual s.reading
-    → PostsOnce h flights taken
+    AllByRecursion KeepsJournal turns → LooksInTime turns → PostsOnce h flights taken

@@ -7,15 +7,14 @@ use Rattle.coap_codec.specs.declared.block.Block.{Block}
 use Rattle.ask_model.specs.Requests.{CoapRequest}
 use Rattle.ask_model.specs.Views.{Rules}
 use Rattle.journal_book.specs.Entries.{Live, Kept, Answers, Written}
-use Rattle.history_laws.specs.Justified.{Stands}
 use Rattle.history_claims.specs.Headline.{IsEntry, IsSentFor, IsServed, RestsOn}
 use Rattle.history_claims.specs.Carried.{IsServedCarried}
 use Rattle.demo_origin.specs.Done.{left_with}
 use Rattle.demo_origin.specs.Requests.{IsAt}
 use Rattle.demo_origin.specs.declared.state.Held.{Held}
-use Rattle.story_laws.specs.Lateness.{ArePunctual}
 use Rattle.three_parties.specs.Flights.{Going, device_at}
 use Rattle.three_parties.specs.Promises.{IsExecutedOnce, KeepsJournal}
+use Rattle.three_parties.specs.Ticks.{LooksInTime}
 use Rattle.three_parties.specs.declared.story.Execution.{Execution}
 use Rattle.three_parties.specs.declared.turn.Turn.{Turn}
 
@@ -78,10 +77,9 @@ NoneCarried h = (t c k : ℕ) (js : List ℕ) → IsServedCarried h t c k js →
 abbrev pub ObservesNothing : Rules → Type 0
 ObservesNothing rules = rules.observed ≡ []
 
--- So it is where one journal has all entries, and copies go out a second after they are due at the
--- latest.
+-- So it is where one journal has all entries, and the proxy looks at its timers each second.
 abbrev pub GetsShowInTime
     : List Turn → List Held → List Written → List Going → List Execution → Type 0
 GetsShowInTime turns resources h flights taken =
-    AllByRecursion KeepsJournal turns → (s : Stands h) → ArePunctual s.reading
+    AllByRecursion KeepsJournal turns → LooksInTime turns
     → GetsShow resources h flights taken × KeptShow resources h flights taken × NoneCarried h

@@ -2,6 +2,7 @@
 
 ghost use Rattle.std.specs.Prelude.{◌≡◌, ℕ, List, map, Err, IfOk, OnOk};
 ghost use Rattle.ask_model.specs.Views.{rules_of};
+ghost use Rattle.history_laws.specs.Justified.{Stands};
 ghost use Rattle.demo_origin.specs.Origins.{Sound, device, fresh};
 ghost use Rattle.demo_origin.specs.declared.state.Held.{Held};
 ghost use Rattle.gateway_model.specs.Emissions.{emissions};
@@ -25,10 +26,11 @@ use transformers::{Bank, Relation};
 /// Takes all turns, one after another, and answers the first refusal of an input. The device is at
 /// 192.0.2.1:5683, and sees the proxy at 198.51.100.1:5683.
 ///
-/// The story is that of all its turns (`is`). Where the device is a new one, each POST to it that
-/// was answered by success was executed exactly once (`posts`), and, where the settings observe
-/// nothing, each answer to a GET that rests on one reply shows a state that the resource held, and
-/// no less than what was confirmed before it was asked for (`reads`).
+/// The story is that of all its turns (`is`). Where the device is a new one, and the proxy looks at
+/// its timers each second, each POST to it that was answered by success was executed exactly once
+/// (`posts`), and, where the settings observe nothing, each answer to a GET that rests on one reply
+/// shows a state that the resource held, and no less than what was confirmed before it was asked for
+/// (`reads`).
 pub fn three_run<R: Relation, H: Behaviour>(
     alloc: Global,
     settings: Settings,
@@ -39,6 +41,7 @@ pub fn three_run<R: Relation, H: Behaviour>(
     requires suits { Suits R.holds R.takes (rules_of settings).routes bank }
     requires sound { Sound H.relation origin }
     ensures sound { IfOk result (λ s. Sound H.relation s.origin) }
+    ensures stands { IfOk result (λ s. Stands s.journal.entries) }
     ensures is { IfOk result (λ s. IsStory R.holds R.takes H.relation (rules_of settings)
         (device origin) turns.now (emissions s.outputs.items) (map going s.flights.items)
         s.journal.entries (device s.origin) s.taken.items) }
@@ -69,6 +72,7 @@ fn play<R: Relation, H: Behaviour>(
     requires suits { Suits R.holds R.takes (rules_of settings).routes bank }
     requires sound { Sound H.relation origin }
     ensures sound { IfOk result (λ s. Sound H.relation s.origin) }
+    ensures stands { IfOk result (λ s. Stands s.journal.entries) }
     ensures is { IfOk result (λ s. IsStory R.holds R.takes H.relation (rules_of settings)
         (device origin) turns.now (emissions s.outputs.items) (map going s.flights.items)
         s.journal.entries (device s.origin) s.taken.items) }

@@ -1,6 +1,7 @@
 -- What the story says of POSTs and of GETs.
 use Rattle.std.proofs.Common.{◌≡◌, ℕ, List, map}
 use Rattle.ask_model.specs.Views.{rules_of}
+use Rattle.history_laws.specs.Justified.{Stands}
 use Rattle.demo_origin.specs.Origins.{device, fresh}
 use Rattle.demo_origin.specs.declared.state.Held.{Held}
 use Rattle.gateway_model.specs.Emissions.{emissions}
@@ -16,18 +17,20 @@ pub returns-clause-posts : goal.returns-clause-posts
 returns-clause-posts g c =
     if-ok (λ s. IsStory g.R.Relation.holds g.R.Relation.takes g.H.Behaviour.relation (rules_of c.args.settings) (device c.args.origin)
     c.args.turns.now (emissions s.outputs.items) (map going s.flights.items) s.journal.entries (device s.origin) s.taken.items)
+    (λ s. Stands s.journal.entries)
     (λ s. (block : ℕ) (resources : List Held) → device c.args.origin ≡ fresh block resources
     → PostsOnceInTime c.args.turns.now s.journal.entries (map going s.flights.items) s.taken.items)
-    (λ s is. posts-of g.H.Behaviour.relation c.posts_once.ensures g.R.Relation.holds g.R.Relation.takes (rules_of c.args.settings) (device c.args.origin)
-    c.args.turns.now (emissions s.outputs.items) (map going s.flights.items) s.journal.entries (device s.origin) s.taken.items is)
-    c.play.result c.play.ensures.is
+    (λ s is stands. posts-of g.H.Behaviour.relation c.posts_once.ensures g.R.Relation.holds g.R.Relation.takes (rules_of c.args.settings) (device c.args.origin)
+    c.args.turns.now (emissions s.outputs.items) (map going s.flights.items) s.journal.entries (device s.origin) s.taken.items is stands)
+    c.play.result c.play.ensures.is c.play.ensures.stands
 
 pub returns-clause-reads : goal.returns-clause-reads
 returns-clause-reads g c =
     if-ok (λ s. IsStory g.R.Relation.holds g.R.Relation.takes g.H.Behaviour.relation (rules_of c.args.settings) (device c.args.origin)
     c.args.turns.now (emissions s.outputs.items) (map going s.flights.items) s.journal.entries (device s.origin) s.taken.items)
+    (λ s. Stands s.journal.entries)
     (λ s. (block : ℕ) (resources : List Held) → device c.args.origin ≡ fresh block resources → ObservesNothing (rules_of c.args.settings)
     → GetsShowInTime c.args.turns.now resources s.journal.entries (map going s.flights.items) s.taken.items)
-    (λ s is. reads-of g.H.Behaviour.relation c.writes_show.ensures g.R.Relation.holds g.R.Relation.takes (rules_of c.args.settings) (device c.args.origin)
-    c.args.turns.now (emissions s.outputs.items) (map going s.flights.items) s.journal.entries (device s.origin) s.taken.items is)
-    c.play.result c.play.ensures.is
+    (λ s is stands. reads-of g.H.Behaviour.relation c.writes_show.ensures g.R.Relation.holds g.R.Relation.takes (rules_of c.args.settings) (device c.args.origin)
+    c.args.turns.now (emissions s.outputs.items) (map going s.flights.items) s.journal.entries (device s.origin) s.taken.items is stands)
+    c.play.result c.play.ensures.is c.play.ensures.stands
