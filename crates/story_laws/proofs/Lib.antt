@@ -7,5 +7,7 @@ pub mod Originating
 pub mod Replying
 pub mod Posting
 pub mod Showing
+pub mod Pieces
+pub mod Wholes
 pub mod Ordering
 pub mod Quiet

@@ -18,10 +18,10 @@ use Rattle.history_claims.specs.Headline.{IsHeardFor}
 use Rattle.demo_origin.specs.Answers.{with_observe, shown_part, Describes}
 use Rattle.demo_origin.specs.Arrivals.{is_request}
 use Rattle.demo_origin.specs.Asked.{IsAskedFor}
-use Rattle.demo_origin.specs.Blocks.{IsBlockOption}
+use Rattle.demo_origin.specs.Blocks.{IsBlockOption, named_by, part_of}
 use Rattle.demo_origin.specs.Calls.{Call, Follow, left_by}
 use Rattle.demo_origin.specs.Done.{HoldsLeft, left_with, told_in}
-use Rattle.demo_origin.specs.Made.{Says, ShowsState, ShowsValid, ShowsReply, WantsMore, Declined, Resets, Responds, Announces, Makes, IsMade}
+use Rattle.demo_origin.specs.Made.{Says, ShowsState, ShowsValid, ShowsReply, WantsMore, Declined, Resets, Responds, Announces, Makes, IsMade, as_part}
 use Rattle.demo_origin.specs.Observing.{wish_of}
 use Rattle.demo_origin.specs.Once.{Event, heard}
 use Rattle.demo_origin.specs.Origins.{fresh}
@@ -45,7 +45,7 @@ use Rattle.story_laws.proofs.Posting.{code-of, first-sent, noted-at}
 
 -- ---- what the resource held
 
-same-place : (path : List (List ℕ)) (rs : List Held) (i j : ℕ) (a b : Held) → IsAt path rs i a → IsAt path rs j b → a ≡ b
+pub same-place : (path : List (List ℕ)) (rs : List Held) (i j : ℕ) (a b : Held) → IsAt path rs i a → IsAt path rs j b → a ≡ b
 same-place path rs i j a b x y =
     let place : i ≡ j = some-is i j (sym x.first ∙ y.first) in
     some-is a b (sym x.stands ∙ (ap (slice_get rs) place ∙ y.stands))
@@ -67,7 +67,7 @@ held-left R cs s a c path number i held first f e now before =
 
 -- ---- what the device says
 
-abbrev shown_options : List ℕ → Bool → List ℕ → List ℕ → List ℕ → List Entry → List Entry
+abbrev pub shown_options : List ℕ → Bool → List ℕ → List ℕ → List ℕ → List Entry → List Entry
 shown_options version observed observe format max_age block =
     record { number = 4; value = version } ∷ with_observe observed observe (record { number = 12; value = format } ∷ record { number = 14; value = max_age } ∷ block)
 
@@ -90,28 +90,54 @@ not-get M.Post e = absurd (omega (arith, e))
 not-get M.Put e = absurd (omega (arith, e))
 not-get M.Delete e = absurd (omega (arith, e))
 
--- what it says of a GET, if that is a 2.05 that names no block
-pub record SaysHeld (before : Device) (m : Content) (payload : List ℕ) : Type 0 where
+-- what it says of a GET, if that is a 2.05: the state, or a piece of it
+record SaysPart (before : Device) (m : Content) (options : List Entry) (payload : List ℕ) : Type 0 where
+  number : ℕ
+  held : Held
+  there : IsAt (values 11 m.options) before.resources number held
+  observed : Bool
+  part : Option Block
+  chosen : part_of (named_by (values 23 m.options)) before.block (length held.state) ≡ as_part part
+  describes : Describes held observed part options
+  shown : payload ≡ shown_part part held.state
+
+said-part : (R : Relation) (before : Device) (m : Content) (taken : Option Taken) (code : ℕ) (options : List Entry) (payload : List ℕ)
+    → m.code ≡ 1 → code ≡ 69 → Says R before m taken code options payload → SaysPart before m options payload
+said-part R before m taken code options payload get content (inl s) = record {
+  number = s.place;
+  held = s.held;
+  there = s.stands;
+  observed = s.observed;
+  part = s.part;
+  chosen = s.chosen;
+  describes = s.describes;
+  shown = s.shown;
+}
+said-part R before m taken code options payload get content (inr (inl s)) = let valid = s.valid in absurd (omega (arith, content, valid))
+said-part R before m taken code options payload get content (inr (inr (inl s))) = absurd (not-get s.method (s.method_is ∙ get))
+said-part R before m taken code options payload get content (inr (inr (inr (inl s)))) = let more = s.continue in absurd (omega (arith, content, more))
+said-part R before m taken code options payload get content (inr (inr (inr (inr s)))) =
+    elim s.class [ inl w ↦ absurd (omega (arith, content, w)) | inr w ↦ absurd (omega (arith, content, w)) ]
+
+-- the answer shows that, as it stood when the device heard the message
+pub record ShowsPart (since : ℕ) (proxy : Peer) (cs : List Call) (m answer : Content) : Type 0 where
+  pub place : ℕ
+  pub call : Call
+  pub stands : slice_get cs place ≡ Some call
+  pub moment : ℕ
+  pub datagram : List ℕ
+  pub taken : Option Taken
+  pub comes : call.event ≡ heard moment proxy datagram taken
+  pub spelled : Spells m datagram
+  pub not_before : since ≤ moment
   pub number : ℕ
   pub held : Held
-  pub there : IsAt (values 11 m.options) before.resources number held
-  pub shown : payload ≡ held.state
-
-said-held : (R : Relation) (before : Device) (m : Content) (taken : Option Taken) (code : ℕ) (options : List Entry) (payload : List ℕ)
-    → m.code ≡ 1 → code ≡ 69 → values 23 options ≡ [] → Says R before m taken code options payload → SaysHeld before m payload
-said-held R before m taken code options payload get content whole (inl s) =
-    let none = described-whole s.held s.observed s.part options s.describes whole in
-    record {
-      number = s.place;
-      held = s.held;
-      there = s.stands;
-      shown = s.shown ∙ ap (λ (b : Option Block). shown_part b s.held.state) none;
-    }
-said-held R before m taken code options payload get content whole (inr (inl s)) = let valid = s.valid in absurd (omega (arith, content, valid))
-said-held R before m taken code options payload get content whole (inr (inr (inl s))) = absurd (not-get s.method (s.method_is ∙ get))
-said-held R before m taken code options payload get content whole (inr (inr (inr (inl s)))) = let more = s.continue in absurd (omega (arith, content, more))
-said-held R before m taken code options payload get content whole (inr (inr (inr (inr s)))) =
-    elim s.class [ inl w ↦ absurd (omega (arith, content, w)) | inr w ↦ absurd (omega (arith, content, w)) ]
+  pub there : IsAt (values 11 m.options) call.before.resources number held
+  pub observed : Bool
+  pub part : Option Block
+  pub chosen : part_of (named_by (values 23 m.options)) call.before.block (length held.state) ≡ as_part part
+  pub describes : Describes held observed part answer.options
+  pub shown : answer.payload ≡ shown_part part held.state
 
 no-wish : (vs : List (List ℕ)) → vs ≡ [] → wish_of vs ≡ W.Register → ⊥
 no-wish [] e f = cc
@@ -121,11 +147,11 @@ by-making : (R : Relation) (l : List Noted) (device proxy : Peer) (block : ℕ) 
     (p : Peer) (m answer : Content) (c : Call) (d : Datagram)
     → Networks R l device proxy (fresh block resources) cs → IsFirst l t o i p m → m.code ≡ 1 → values 6 m.options ≡ []
     → slice_get (take count cs) a ≡ Some c → d.peer ≡ proxy → Spells answer d.bytes → answer.token ≡ m.token
-    → answer.code ≡ 69 → values 23 answer.options ≡ [] → Makes R c d → ShowsHeld t proxy (fresh block resources) cs m answer.payload
-by-making R l device proxy block resources cs count t o i a p m answer c d n f get quiet e to spelled token content whole (inl r) =
+    → answer.code ≡ 69 → Makes R c d → ShowsPart t proxy cs m answer
+by-making R l device proxy block resources cs count t o i a p m answer c d n f get quiet e to spelled token content (inl r) =
     let none = rst-code answer r.mid (subst (λ (b : List ℕ). Spells answer b) r.is spelled) in
     absurd (omega (arith, none, content))
-by-making R l device proxy block resources cs count t o i a p m answer c d n f get quiet e to spelled token content whole (inr (inl r)) =
+by-making R l device proxy block resources cs count t o i a p m answer c d n f get quiet e to spelled token content (inr (inl r)) =
     let e' = at-take cs count a c e in
     let first = fresh block resources in
     let comes : c.event ≡ heard r.moment proxy r.datagram r.taken = r.comes ∙ ap (λ (q : Peer). heard r.moment q r.datagram r.taken) to in
@@ -136,10 +162,7 @@ by-making R l device proxy block resources cs count t o i a p m answer c d n f g
     let payload : answer.payload ≡ r.payload = ap (λ (c : Content). c.payload) said_so in
     let it = heard-it l device proxy cs a t o i r.moment p m r.message c r.datagram r.taken n.legal n.brought f e' comes r.reads r.request (sym its ∙ token) in
     let gets : r.message.code ≡ 1 = ap (λ (c : Content). c.code) it.0 ∙ get in
-    let says = said-held R c.before r.message r.taken r.code r.options r.payload gets (sym code ∙ content)
-    (subst (λ (os : List Entry). values 23 os ≡ []) options whole) r.says in
-    let there = subst (λ (k : Content). IsAt (values 11 k.options) c.before.resources says.number says.held) it.0 says.there in
-    record {
+    let says = said-part R c.before r.message r.taken r.code r.options r.payload gets (sym code ∙ content) r.says in record {
       place = a;
       call = c;
       stands = e';
@@ -151,12 +174,14 @@ by-making R l device proxy block resources cs count t o i a p m answer c d n f g
       not_before = (arrives R l device proxy p first cs t o i a r.moment m c r.datagram r.taken n f e' comes it.1).0;
       number = says.number;
       held = says.held;
-      there = there;
+      there = subst (λ (k : Content). IsAt (values 11 k.options) c.before.resources says.number says.held) it.0 says.there;
+      observed = says.observed;
+      part = says.part;
+      chosen = subst (λ (k : Content). part_of (named_by (values 23 k.options)) c.before.block (length says.held.state) ≡ as_part says.part) it.0 says.chosen;
+      describes = subst (λ (os : List Entry). Describes says.held says.observed says.part os) (sym options) says.describes;
       shown = payload ∙ says.shown;
-      left = λ i first_held before. (payload ∙ says.shown)
-          ∙ held-left R cs first a c (values 11 m.options) says.number i says.held first_held n.follow e' there before;
     }
-by-making R l device proxy block resources cs count t o i a p m answer c d n f get quiet e to spelled token content whole (inr (inr r)) =
+by-making R l device proxy block resources cs count t o i a p m answer c d n f get quiet e to spelled token content (inr (inr r)) =
     let first = fresh block resources in
     let asked = all-of (IsAskedFor (take a (take count cs))) c.before.observers r.observer
     (registrations_are_asked R block resources (take count cs) a c (follow-take R cs first count n.follow) e) r.registered in
@@ -171,14 +196,14 @@ by-making R l device proxy block resources cs count t o i a p m answer c d n f g
     (sym by.token ∙ (sym its ∙ token)) in
     absurd (no-wish (values 6 by.message.options) (subst (λ (k : Content). values 6 k.options ≡ []) (sym it.0) quiet) by.wish)
 
-pub replies-show : (R : Relation) (h : List Written) (device proxy : Peer) (block : ℕ) (resources : List Held) (cs : List Call)
+-- The reply to a GET shows the state of the resource, or a piece of it.
+pub replies-part : (R : Relation) (h : List Written) (device proxy : Peer) (block : ℕ) (resources : List Held) (cs : List Call)
     (k : ℕ) (q : CoapRequest) (b : Option Block) (j : ℕ) (m : Content) (s : Stands h)
     → Networks R s.reading device proxy (fresh block resources) cs
     → AreGiven s.reading device proxy (fresh block resources) cs
     → (x : IsHeardFor h k q b j m) → q.method ≡ 1 → q.peer ≡ device
-    → m.code ≡ 69 → values 23 m.options ≡ [] → values 6 x.sent.options ≡ []
-    → ShowsHeld x.sent_for.moment proxy (fresh block resources) cs x.sent m.payload
-replies-show R h device proxy block resources cs k q b j m s net given x get to content whole quiet =
+    → m.code ≡ 69 → values 6 x.sent.options ≡ [] → ShowsPart x.sent_for.moment proxy cs x.sent m
+replies-part R h device proxy block resources cs k q b j m s net given x get to content quiet =
     let l = s.reading in
     let for_it = x.sent_for in
     let first = first-sent l h x.sending for_it.moment q.peer x.sent s.legal s.entries_are for_it.first in
@@ -192,4 +217,39 @@ replies-show R h device proxy block resources cs k q b j m s net given x get to 
     (answers_are_made R block resources (take g.count cs) (follow-take R cs start g.count net.follow)) g.given in
     let place = at-contained (take g.count cs) made.call made.among in
     by-making R l device proxy block resources cs g.count for_it.moment first.0 x.sending place.0 q.peer x.sent m made.call g.datagram net first.1 code quiet place.1 g.to
-    (subst (λ (b : List ℕ). Spells m b) (sym g.has) heard.spelled) x.response.token content whole made.makes
+    (subst (λ (b : List ℕ). Spells m b) (sym g.has) heard.spelled) x.response.token content made.makes
+
+-- What is shown is what the resource held, and what the executions before left it with.
+pub held-shown : (R : Relation) (proxy : Peer) (block : ℕ) (resources : List Held) (cs : List Call) (since : ℕ) (m answer : Content) (state : List ℕ)
+    → Follow R (fresh block resources) cs → (p : ShowsPart since proxy cs m answer) → state ≡ p.held.state
+    → ShowsHeld since proxy (fresh block resources) cs m state
+held-shown R proxy block resources cs since m answer state follow p shown = record {
+  place = p.place;
+  call = p.call;
+  stands = p.stands;
+  moment = p.moment;
+  datagram = p.datagram;
+  taken = p.taken;
+  comes = p.comes;
+  spelled = p.spelled;
+  not_before = p.not_before;
+  number = p.number;
+  held = p.held;
+  there = p.there;
+  shown = shown;
+  left = λ i first before.
+      shown ∙ held-left R cs (fresh block resources) p.place p.call (values 11 m.options) p.number i p.held first follow p.stands p.there before;
+}
+
+pub replies-show : (R : Relation) (h : List Written) (device proxy : Peer) (block : ℕ) (resources : List Held) (cs : List Call)
+    (k : ℕ) (q : CoapRequest) (b : Option Block) (j : ℕ) (m : Content) (s : Stands h)
+    → Networks R s.reading device proxy (fresh block resources) cs
+    → AreGiven s.reading device proxy (fresh block resources) cs
+    → (x : IsHeardFor h k q b j m) → q.method ≡ 1 → q.peer ≡ device
+    → m.code ≡ 69 → values 23 m.options ≡ [] → values 6 x.sent.options ≡ []
+    → ShowsHeld x.sent_for.moment proxy (fresh block resources) cs x.sent m.payload
+replies-show R h device proxy block resources cs k q b j m s net given x get to content whole quiet =
+    let p = replies-part R h device proxy block resources cs k q b j m s net given x get to content quiet in
+    let none = described-whole p.held p.observed p.part m.options p.describes whole in
+    held-shown R proxy block resources cs x.sent_for.moment x.sent m m.payload net.follow p
+    (p.shown ∙ ap (λ (b : Option Block). shown_part b p.held.state) none)

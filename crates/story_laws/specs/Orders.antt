@@ -9,7 +9,9 @@ use Rattle.ask_model.specs.Requests.{CoapRequest}
 use Rattle.journal_book.specs.Entries.{Hears, Live, Answers, Written}
 use Rattle.history_laws.specs.Justified.{Stands}
 use Rattle.history_laws.specs.Readings.{Noted, Note, noted, at}
-use Rattle.history_claims.specs.Headline.{IsEntry, IsHeardFor, RestsOn}
+use Rattle.history_laws.specs.Progress.{first_point}
+use Rattle.history_laws.specs.Responses.{Response, whole_of}
+use Rattle.history_claims.specs.Headline.{AreHeardFor, IsEntry, IsHeardFor, RestsOn}
 use Rattle.demo_origin.specs.Calls.{Call}
 use Rattle.demo_origin.specs.Once.{heard}
 use Rattle.demo_origin.specs.Origins.{fresh}
@@ -18,7 +20,7 @@ use Rattle.demo_origin.specs.declared.execution.Taken.{Taken}
 use Rattle.demo_origin.specs.declared.state.Held.{Held}
 use Rattle.story_laws.specs.Networks.{IsDelivered, IsGiven, Networks}
 use Rattle.story_laws.specs.Posts.{IsDoneOnce}
-use Rattle.story_laws.specs.Reads.{ShowsHeld}
+use Rattle.story_laws.specs.Reads.{AreNew, AskQuietly, ShowsHeld, ShowsWhole}
 
 -- In which order the proxy's entries were made and the device was called: of each entry it is told
 -- how many calls there were before it, and never fewer than before an older one. What the device
@@ -54,3 +56,17 @@ WritesShow R =
     → m.code ≡ 69 → values 23 m.options ≡ [] → values 6 x.sent.options ≡ []
     → (shown : ShowsHeld x.sent_for.moment proxy (fresh block resources) cs x.sent m.payload)
     × AreDoneBefore h device proxy cs k shown.place
+
+-- Replies to a GET that are one whole 2.05, in one piece or in several, show one state that the
+-- resource of a new device held, after all these.
+abbrev pub WholesShow : Relation → Type 0
+WholesShow R =
+    (h : List Written) (device proxy : Peer) (block : ℕ) (resources : List Held) (cs : List Call)
+    (calls_before : ℕ → ℕ)
+    (k : ℕ) (q : CoapRequest) (js : List ℕ) (ms : List Content) (w : Response) (s : Stands h)
+    → Networks R s.reading device proxy (fresh block resources) cs
+    → IsOrdered s.reading device proxy (fresh block resources) cs calls_before → AreNew resources
+    → AreHeardFor h k q (first_point q) js ms → whole_of q ms ≡ Some w → q.method ≡ 1
+    → q.peer ≡ device → w.code ≡ 69 → AskQuietly h q
+    → (shown : ShowsWhole h k q proxy (fresh block resources) cs w.body)
+    × AreDoneBefore h device proxy cs k shown.shown.place

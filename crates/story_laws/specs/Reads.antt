@@ -1,5 +1,6 @@
 -- What a reply to a GET shows of the device, whatever the network does.
 use Rattle.std.specs.Prelude.{◌≡◌, ℕ, ◌≤◌, List, [], take, slice_get, Option, Some}
+use Rattle.std.specs.List.{AllByRecursion}
 use Rattle.coap_codec.specs.Spelling.{Content, Spells}
 use Rattle.coap_codec.specs.Values.{values}
 use Rattle.coap_codec.specs.declared.block.Block.{Block}
@@ -7,7 +8,7 @@ use Rattle.uri_map.specs.declared.peer.Peer.{Peer}
 use Rattle.ask_model.specs.Requests.{CoapRequest}
 use Rattle.journal_book.specs.Entries.{Written}
 use Rattle.history_laws.specs.Justified.{Stands}
-use Rattle.history_claims.specs.Headline.{IsHeardFor}
+use Rattle.history_claims.specs.Headline.{IsHeardFor, IsSentFor}
 use Rattle.demo_origin.specs.Calls.{Call}
 use Rattle.demo_origin.specs.Done.{left_with, told_in}
 use Rattle.demo_origin.specs.Once.{heard}
@@ -49,3 +50,24 @@ RepliesShow R =
     → (x : IsHeardFor h k q b j m) → q.method ≡ 1 → q.peer ≡ device
     → m.code ≡ 69 → values 23 m.options ≡ [] → values 6 x.sent.options ≡ []
     → ShowsHeld x.sent_for.moment proxy (fresh block resources) cs x.sent m.payload
+
+-- ---- a state that comes in several pieces (RFC 7959)
+
+-- The resources are those of a new device: nothing changed them.
+abbrev pub AreNew : List Held → Type 0
+AreNew resources = AllByRecursion (λ (h : Held). h.version ≡ 0) resources
+
+-- Whatever is sent for q asks for no notifications (6, RFC 7641).
+abbrev pub AskQuietly : List Written → CoapRequest → Type 0
+AskQuietly h q =
+    (k i : ℕ) (b : Option Block) (m : Content) → IsSentFor h k q b i m → values 6 m.options ≡ []
+
+-- The resource held this state when the device heard a message that was sent for q, after the entry
+-- k.
+pub record ShowsWhole (h : List Written) (k : ℕ) (q : CoapRequest) (proxy : Peer) (s : Device)
+    (cs : List Call) (state : List ℕ) : Type 0 where
+  pub block : Option Block
+  pub sending : ℕ
+  pub message : Content
+  pub sent : IsSentFor h k q block sending message
+  pub shown : ShowsHeld sent.moment proxy s cs message state

@@ -3,10 +3,11 @@
 ghost use Rattle.story_laws.specs.Arriving.{ArrivesWithin, ForgottenBefore};
 ghost use Rattle.story_laws.specs.Executions.{MessagesOnce};
 ghost use Rattle.story_laws.specs.Lateness.{SentWithin};
-ghost use Rattle.story_laws.specs.Orders.{WritesShow};
+ghost use Rattle.story_laws.specs.Orders.{WholesShow, WritesShow};
 ghost use Rattle.story_laws.specs.Posts.{PostsOnce};
 ghost use Rattle.story_laws.specs.Reads.{RepliesShow};
 
+use blockwise::downloads_join;
 use demo_origin::Behaviour;
 
 /// Copies of a message go out within 49 seconds of its first sending.
@@ -47,3 +48,11 @@ pub fn replies_show<H: Behaviour>()
 pub fn writes_show<H: Behaviour>()
     ensures { WritesShow H.relation }
 {}
+
+/// So do replies that are one whole state of a new device, in one piece or in several.
+pub fn wholes_show<H: Behaviour>()
+    ensures { WholesShow H.relation }
+{
+    // Its contract says that they are pieces of one representation, and what these join to.
+    downloads_join();
+}

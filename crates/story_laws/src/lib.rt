@@ -11,7 +11,7 @@ mod laws;
 
 pub use laws::{
     arrives_within, forgotten_before, messages_once, posts_once, replies_show, sent_within,
-    writes_show,
+    wholes_show, writes_show,
 };
 
 /// How late a copy goes out at most after it is due, in milliseconds.

@@ -15,5 +15,6 @@ pub mod Mapped
 pub mod Looking
 pub mod Executing
 pub mod Reading
+pub mod Wholes
 pub mod Sending
 pub mod Running

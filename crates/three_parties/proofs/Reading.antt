@@ -16,7 +16,7 @@ use Rattle.history_laws.specs.Readings.{carries}
 use Rattle.history_laws.specs.Justified.{Stands}
 use Rattle.history_laws.specs.Progress.{Point, block_for, first_point}
 use Rattle.history_laws.proofs.CallerLemmas.{none-some, some-is}
-use Rattle.history_claims.specs.Headline.{AreHeardFor, AreNotified, IsEntry, IsHeardFor, IsWriteAnswer, RestsOn}
+use Rattle.history_claims.specs.Headline.{AreHeardFor, IsEntry, IsHeardFor, IsSentFor, IsServed, IsWriteAnswer, RestsOn}
 use Rattle.demo_origin.specs.Calls.{Call}
 use Rattle.demo_origin.specs.Done.{left_with, told_by, told_in}
 use Rattle.demo_origin.specs.Once.{Event, heard}
@@ -143,8 +143,8 @@ told-before cs a ys e =
 
 -- ---- a reply
 
-module _ (R : Relation) (law : Law R) (block : ℕ) (resources : List Held) (s : Scene) (known : Known R (fresh block resources) s)
-    (stands : Stands s.world.core.state.entries) (punctual : ArePunctual stands.reading) (none : NoneObserved s.world.core.state.entries) where
+module _ (R : Relation) (block : ℕ) (resources : List Held) (s : Scene) (known : Known R (fresh block resources) s)
+    (stands : Stands s.world.core.state.entries) (punctual : ArePunctual stands.reading) where
   abbrev h : List Written
   h = s.world.core.state.entries
 
@@ -202,33 +202,30 @@ module _ (R : Relation) (law : Law R) (block : ℕ) (resources : List Held) (s :
     }
 
   -- Which writes were answered before the ask is given by how far back what was sent for it goes.
-  abbrev GoBack : ℕ → ℕ → CoapRequest → Type 0
+  abbrev pub GoBack : ℕ → ℕ → CoapRequest → Type 0
   GoBack k o q =
       (n t c w : ℕ) (js : List ℕ) → IsEntry h n t (Answers c w (Live js)) → (y : RestsOn h n c w js)
       → y.request.method ≢ 1 → y.request.peer ≡ q.peer → y.request.target.path ≡ q.target.path → n < k → n ≤ o
 
-  pub shows : (k o : ℕ) (q r : CoapRequest) (b : Option Block) (j : ℕ) (m : Content) → (x : IsHeardFor h o r b j m) → r.method ≡ 1
-      → r.peer ≡ device_at → q.peer ≡ device_at → m.code ≡ 69 → values 23 m.options ≡ [] → GoBack k o q
-      → ShowsHeld h k o q r resources s.flights s.taken m.payload
-  shows k o q r b j m x get to of content whole back = record {
+  -- what the device showed by a message, and which writes it had done
+  abbrev pub ShownBy : (o since : ℕ) (m : Content) (state : List ℕ) → Type 0
+  ShownBy o since m state =
+      (shown : ShowsSo since proxy_at (fresh block resources) calls m state) × AreDoneBefore h device_at proxy_at calls o shown.place
+
+  pub shows-so : (k o : ℕ) (q r : CoapRequest) (b : Option Block) (i : ℕ) (m : Content) (state : List ℕ) → (x : IsSentFor h o r b i m)
+      → ShownBy o x.moment m state → q.peer ≡ device_at → GoBack k o q → ShowsHeld h k o q r resources s.flights s.taken state
+  shows-so k o q r b i m state x it of back = record {
     block = b;
-    sending = x.sending;
-    message = x.sent;
-    sent = x.sent_for;
+    sending = i;
+    message = m;
+    sent = x;
     moment = it.0.moment;
     not_before = it.0.not_before;
     count = count it.0.place;
-    held = held-at x.sent_for.moment x.sent m.payload it.0;
+    held = held-at x.moment m state it.0;
     written = done;
   }
     where
-      it : (shown : ShowsSo x.sent_for.moment proxy_at (fresh block resources) calls x.sent m.payload)
-          × AreDoneBefore h device_at proxy_at calls o shown.place
-      it =
-          law h device_at proxy_at block resources calls (calls_before R (fresh block resources) s known stands punctual) o r b j m stands
-          (networks R (fresh block resources) s known stands punctual) (ordered R (fresh block resources) s known stands punctual) x get to content whole
-          (sent-quietly h none stands o r b x.sending x.sent x.sent_for)
-
       done : AreDone h s.flights s.taken k q (count it.0.place)
       done n t c w js answered y changes peer path class lt =
           let call = it.1 n t c w js answered y changes (peer ∙ of) class (back n t c w js answered y changes peer path lt) in
@@ -236,6 +233,15 @@ module _ (R : Relation) (law : Law R) (block : ℕ) (resources : List Held) (s :
           let rank = known.order.ranks own.0.place call.0.place own.1 in
           let more = more-told calls call.0.place it.0.place call.0.call call.0.executes.taken call.1 call.0.stands (ap told_by call.0.executes.comes) in
           (own.0, omega (arith, rank, more))
+
+  shows : Law R → NoneObserved h → (k o : ℕ) (q r : CoapRequest) (b : Option Block) (j : ℕ) (m : Content) → (x : IsHeardFor h o r b j m) → r.method ≡ 1
+      → r.peer ≡ device_at → q.peer ≡ device_at → m.code ≡ 69 → values 23 m.options ≡ [] → GoBack k o q
+      → ShowsHeld h k o q r resources s.flights s.taken m.payload
+  shows law none k o q r b j m x get to of content whole back =
+      shows-so k o q r b x.sending x.sent m.payload x.sent_for
+      (law h device_at proxy_at block resources calls (calls_before R (fresh block resources) s known stands punctual) o r b j m stands
+      (networks R (fresh block resources) s known stands punctual) (ordered R (fresh block resources) s known stands punctual) x get to content whole
+      (sent-quietly h none stands o r b x.sending x.sent x.sent_for)) of back
 
 -- ---- an answer
 
@@ -270,39 +276,51 @@ write-answer h q n t c w js answered y changes peer path = record {
     not-fault : Live js ≡ Fault C.Busy w → ⊥
     not-fault e = cc
 
+-- What a live answer rests on was sent after each write that was answered before its ask.
+pub live-back : (R : Relation) (block : ℕ) (resources : List Held) (s : Scene) (known : Known R (fresh block resources) s)
+    (stands : Stands s.world.core.state.entries) (punctual : ArePunctual stands.reading) (n c k : ℕ) (js : List ℕ)
+    → (r : RestsOn s.world.core.state.entries n c k js) → GoBack R block resources s known stands punctual k r.opening r.request
+live-back R block resources s known stands punctual n c k js r m t d w is answered y changes peer path lt =
+    elim (r.shared.shares) [
+      | inl own ↦ let same = own.0 in omega (arith, same, lt)
+      | inr joined ↦
+          let before = joined.0.fresh m (write-answer s.world.core.state.entries r.request m t d w is answered y changes peer path) lt in
+          omega (arith, before)
+    ]
+
+-- So was what a kept one rests on.
+pub kept-back : (R : Relation) (block : ℕ) (resources : List Held) (s : Scene) (known : Known R (fresh block resources) s)
+    (stands : Stands s.world.core.state.entries) (punctual : ArePunctual stands.reading) (t c k : ℕ) (js : List ℕ)
+    → (r : IsServed s.world.core.state.entries t c k js) → GoBack R block resources s known stands punctual k r.opening r.request
+kept-back R block resources s known stands punctual t c k js r n u d w is answered y changes peer path lt =
+    let before = r.current n (write-answer s.world.core.state.entries r.request n u d w is answered y changes peer path) lt in
+    omega (arith, before)
+
+-- It was heard as a reply, where nothing is notified.
+pub heard-kept : (h : List Written) → NoneObserved h → (t c k : ℕ) (js : List ℕ) → (r : IsServed h t c k js)
+    → AreHeardFor h r.opening r.other (first_point r.other) js r.messages
+heard-kept h none t c k js r =
+    elim r.heard [ inl x ↦ x | inr x ↦ absurd (none-notified h none r.opening r.other js r.messages x) ]
+
+-- What it was heard for is a GET too.
+pub other-gets : (h : List Written) (t c k : ℕ) (js : List ℕ) → (r : IsServed h t c k js) → r.other.method ≡ 1
+other-gets h t c k js r = sym (ap (λ (m : Content). m.code) (r.same.2 false 0 [])) ∙ r.same.0
+
 module _ (R : Relation) (law : Law R) (block : ℕ) (resources : List Held) (s : Scene) (known : Known R (fresh block resources) s)
     (stands : Stands s.world.core.state.entries) (punctual : ArePunctual stands.reading) (none : NoneObserved s.world.core.state.entries) where
   gets-show : GetsShow resources s.world.core.state.entries s.flights s.taken
   gets-show n t c k js m answered r one get to content whole =
       let h = s.world.core.state.entries in
       let x = one-heard h r.opening r.request (first_point r.request) js r.messages m one r.heard in
-      shows R law block resources s known stands punctual none k r.opening r.request r.request (block_for (first_point r.request)) x.0 m x.1 get to to content whole back
-    where
-      back : (n t c w : ℕ) (js : List ℕ) → IsEntry s.world.core.state.entries n t (Answers c w (Live js)) → (y : RestsOn s.world.core.state.entries n c w js)
-          → y.request.method ≢ 1 → y.request.peer ≡ r.request.peer → y.request.target.path ≡ r.request.target.path → n < k → n ≤ r.opening
-      back n t c w js answered y changes peer path lt =
-          elim (r.shared.shares) [
-            | inl own ↦ let same = own.0 in omega (arith, same, lt)
-            | inr joined ↦
-                let before = joined.0.fresh n (write-answer s.world.core.state.entries r.request n t c w js answered y changes peer path) lt in
-                omega (arith, before)
-          ]
+      shows R block resources s known stands punctual law none k r.opening r.request r.request (block_for (first_point r.request)) x.0 m x.1 get to to content whole
+      (live-back R block resources s known stands punctual n c k js r)
 
   kept-show : KeptShow resources s.world.core.state.entries s.flights s.taken
   kept-show n t c k js m answered r one to content whole =
       let h = s.world.core.state.entries in
-      let x = one-heard h r.opening r.other (first_point r.other) js r.messages m one (replied r.heard) in
-      shows R law block resources s known stands punctual none k r.opening r.request r.other (block_for (first_point r.other)) x.0 m x.1
-      (sym (ap (λ (m : Content). m.code) (r.same.2 false 0 [])) ∙ r.same.0) (sym r.same.1 ∙ to) to content whole
-      (λ n t c w js answered y changes peer path lt.
-      let before = r.current n (write-answer h r.request n t c w js answered y changes peer path) lt in omega (arith, before))
-    where
-      -- It was heard as a reply: nothing is notified.
-      replied : AreHeardFor s.world.core.state.entries r.opening r.other (first_point r.other) js r.messages
-          ⊎ AreNotified s.world.core.state.entries r.opening r.other js r.messages
-          → AreHeardFor s.world.core.state.entries r.opening r.other (first_point r.other) js r.messages
-      replied (inl x) = x
-      replied (inr x) = absurd (none-notified s.world.core.state.entries none r.opening r.other js r.messages x)
+      let x = one-heard h r.opening r.other (first_point r.other) js r.messages m one (heard-kept h none t c k js r) in
+      shows R block resources s known stands punctual law none k r.opening r.request r.other (block_for (first_point r.other)) x.0 m x.1
+      (other-gets h t c k js r) (sym r.same.1 ∙ to) to content whole (kept-back R block resources s known stands punctual t c k js r)
 
   -- The journal has no copies.
   none-carried : NoneCarried s.world.core.state.entries

@@ -83,3 +83,27 @@ abbrev pub GetsShowInTime
 GetsShowInTime turns resources h flights taken =
     AllByRecursion KeepsJournal turns → LooksInTime turns
     → GetsShow resources h flights taken × KeptShow resources h flights taken × NoneCarried h
+
+-- ---- a state in one piece or in several (RFC 7959)
+
+-- Each answer to a GET that rests on one whole 2.05 shows such a state: an answer to replies that
+-- came after the ask,
+abbrev pub GetsShowWhole : List Held → List Written → List Going → List Execution → Type 0
+GetsShowWhole resources h flights taken =
+    (n t c k : ℕ) (js : List ℕ) → IsEntry h n t (Answers c k (Live js)) → (r : RestsOn h n c k js)
+    → r.request.method ≡ 1 → r.request.peer ≡ device_at → r.response.code ≡ 69
+    → ShowsHeld h k r.opening r.request r.request resources flights taken r.response.body
+
+-- and one of a response that was stored.
+abbrev pub KeptShowWhole : List Held → List Written → List Going → List Execution → Type 0
+KeptShowWhole resources h flights taken =
+    (n t c k : ℕ) (js : List ℕ) → IsEntry h n t (Answers c k (Kept js)) → (s : IsServed h t c k js)
+    → s.request.peer ≡ device_at
+    → ShowsHeld h k s.opening s.request s.other resources flights taken s.response.body
+
+-- So it is where one journal has all entries, and the proxy looks at its timers each second.
+abbrev pub WholesShowInTime
+    : List Turn → List Held → List Written → List Going → List Execution → Type 0
+WholesShowInTime turns resources h flights taken =
+    AllByRecursion KeepsJournal turns → LooksInTime turns
+    → GetsShowWhole resources h flights taken × KeptShowWhole resources h flights taken

@@ -6,10 +6,11 @@ ghost use Rattle.history_laws.specs.Justified.{Stands};
 ghost use Rattle.demo_origin.specs.Origins.{Sound, device, fresh};
 ghost use Rattle.demo_origin.specs.declared.state.Held.{Held};
 ghost use Rattle.gateway_model.specs.Emissions.{emissions};
+ghost use Rattle.story_laws.specs.Reads.{AreNew};
 ghost use Rattle.transformers.specs.Suits.{Suits};
 ghost use Rattle.three_parties.specs.Flights.{going};
 ghost use Rattle.three_parties.specs.Promises.{PostsOnceInTime};
-ghost use Rattle.three_parties.specs.Reads.{GetsShowInTime, ObservesNothing};
+ghost use Rattle.three_parties.specs.Reads.{GetsShowInTime, ObservesNothing, WholesShowInTime};
 ghost use Rattle.three_parties.specs.Scenes.{TakesTurns};
 ghost use Rattle.three_parties.specs.Stories.{IsRefused, IsStory, opening, scene};
 
@@ -20,7 +21,7 @@ use ask_model::Settings;
 use demo_origin::{Behaviour, Origin};
 use gateway_world::WorldFault;
 use std::alloc::Global;
-use story_laws::{posts_once, writes_show};
+use story_laws::{posts_once, wholes_show, writes_show};
 use transformers::{Bank, Relation};
 
 /// Takes all turns, one after another, and answers the first refusal of an input. The device is at
@@ -29,8 +30,8 @@ use transformers::{Bank, Relation};
 /// The story is that of all its turns (`is`). Where the device is a new one, and the proxy looks at
 /// its timers each second, each POST to it that was answered by success was executed exactly once
 /// (`posts`), and, where the settings observe nothing, each answer to a GET that rests on one reply
-/// shows a state that the resource held, and no less than what was confirmed before it was asked for
-/// (`reads`).
+/// (`reads`), or on several (`wholes`), shows a state that the resource held, and no less than what
+/// was confirmed before it was asked for.
 pub fn three_run<R: Relation, H: Behaviour>(
     alloc: Global,
     settings: Settings,
@@ -54,10 +55,15 @@ pub fn three_run<R: Relation, H: Behaviour>(
         → device origin ≡ fresh block resources → ObservesNothing (rules_of settings)
         → GetsShowInTime turns.now resources s.journal.entries (map going s.flights.items)
         s.taken.items) }
+    ensures wholes { IfOk result (λ s. (block : ℕ) (resources : List Held)
+        → device origin ≡ fresh block resources → AreNew resources
+        → ObservesNothing (rules_of settings) → WholesShowInTime turns.now resources
+        s.journal.entries (map going s.flights.items) s.taken.items) }
 {
     // Their contracts say what answers mean for a device, whatever a network does.
     posts_once::<H>();
     writes_show::<H>();
+    wholes_show::<H>();
     play(alloc, settings, bank, origin, turns)
 }
 

@@ -4,13 +4,15 @@ use Rattle.ask_model.specs.Views.{rules_of}
 use Rattle.history_laws.specs.Justified.{Stands}
 use Rattle.demo_origin.specs.Origins.{device, fresh}
 use Rattle.demo_origin.specs.declared.state.Held.{Held}
+use Rattle.story_laws.specs.Reads.{AreNew}
 use Rattle.gateway_model.specs.Emissions.{emissions}
 use Rattle.three_parties.specs.Flights.{going}
 use Rattle.three_parties.specs.Promises.{PostsOnceInTime}
-use Rattle.three_parties.specs.Reads.{GetsShowInTime, ObservesNothing}
+use Rattle.three_parties.specs.Reads.{GetsShowInTime, ObservesNothing, WholesShowInTime}
 use Rattle.three_parties.specs.Stories.{IsStory}
 use Rattle.three_parties.proofs.Executing.{if-ok, posts-of}
 use Rattle.three_parties.proofs.Reading.{reads-of}
+use Rattle.three_parties.proofs.Wholes.{wholes-of}
 use Rattle.three_parties.proofs.run.three_run.Goals as goal
 
 pub returns-clause-posts : goal.returns-clause-posts
@@ -32,5 +34,16 @@ returns-clause-reads g c =
     (λ s. (block : ℕ) (resources : List Held) → device c.args.origin ≡ fresh block resources → ObservesNothing (rules_of c.args.settings)
     → GetsShowInTime c.args.turns.now resources s.journal.entries (map going s.flights.items) s.taken.items)
     (λ s is stands. reads-of g.H.Behaviour.relation c.writes_show.ensures g.R.Relation.holds g.R.Relation.takes (rules_of c.args.settings) (device c.args.origin)
+    c.args.turns.now (emissions s.outputs.items) (map going s.flights.items) s.journal.entries (device s.origin) s.taken.items is stands)
+    c.play.result c.play.ensures.is c.play.ensures.stands
+
+pub returns-clause-wholes : goal.returns-clause-wholes
+returns-clause-wholes g c =
+    if-ok (λ s. IsStory g.R.Relation.holds g.R.Relation.takes g.H.Behaviour.relation (rules_of c.args.settings) (device c.args.origin)
+    c.args.turns.now (emissions s.outputs.items) (map going s.flights.items) s.journal.entries (device s.origin) s.taken.items)
+    (λ s. Stands s.journal.entries)
+    (λ s. (block : ℕ) (resources : List Held) → device c.args.origin ≡ fresh block resources → AreNew resources → ObservesNothing (rules_of c.args.settings)
+    → WholesShowInTime c.args.turns.now resources s.journal.entries (map going s.flights.items) s.taken.items)
+    (λ s is stands. wholes-of g.H.Behaviour.relation c.wholes_show.ensures g.R.Relation.holds g.R.Relation.takes (rules_of c.args.settings) (device c.args.origin)
     c.args.turns.now (emissions s.outputs.items) (map going s.flights.items) s.journal.entries (device s.origin) s.taken.items is stands)
     c.play.result c.play.ensures.is c.play.ensures.stands

@@ -1,0 +1,225 @@
+-- A state that comes in pieces is one that the resource held.
+use Rattle.std.proofs.Common.{◌≡◌, ℕ, zero, suc, ◌+◌, ◌<◌, ◌≤◌, ◌^◌, Bool, true, false, cond, eqb, ◌&&◌, inl, inr, List, [], ◌∷◌, ◌++◌, append-nil, length, Option, Some, None, is_some, option_map, refl, sym, ap, subst, ◌∙◌, arith}
+use Rattle.std.specs.Prelude.{slice_get, ⊤}
+use Rattle.std.specs.Int.{w64, to_be_bytes}
+use Rattle.std.specs.List.{AllByRecursion, list_all}
+use Rattle.std.proofs.lemmas.Bool.{and_parts, false≢true}
+use Rattle.std.proofs.lemmas.Bool.Decides.{eqb_tells, leb_tells}
+use Rattle.coap_codec.specs.Spelling.{Content, Entry}
+use Rattle.coap_codec.specs.Recognition.{is_forwardable, value_of}
+use Rattle.coap_codec.specs.Values.{values}
+use Rattle.coap_codec.specs.declared.block.Block.{Block}
+use Rattle.uri_map.specs.Limits.{host_options, option_with}
+use Rattle.uri_map.specs.declared.peer.Peer.{Peer}
+use Rattle.blockwise.specs.Downloads.{given as given_by_pieces, last_szx, nothing}
+use Rattle.blockwise.specs.Reading.{block_in}
+use Rattle.blockwise.specs.Uploads.{begun}
+use Rattle.blockwise.specs.Joins.{AreFollowing, AreWhole, DownloadsJoin}
+use Rattle.blockwise.specs.Representations.{representation_of, tag_by}
+use Rattle.blockwise.specs.declared.representation.EntityTag.{EntityTag}
+use Rattle.blockwise.specs.declared.representation.Representation.{Representation}
+use Rattle.ask_model.specs.Requests.{CoapRequest, asking, block_option, block_value, request_options, uint_bytes}
+use Rattle.journal_book.specs.Entries.{Written}
+use Rattle.history_laws.specs.Justified.{Stands}
+use Rattle.history_laws.specs.Progress.{Point, block_for, first_point, point_after}
+use Rattle.history_laws.specs.Responses.{Response, is_tellable, joined, last_of, whole_fetched, whole_given, whole_of}
+use Rattle.history_laws.proofs.CallerLemmas.{none-some, some-is}
+use Rattle.history_claims.specs.Headline.{AreHeardFor, IsHeardFor}
+use Rattle.demo_origin.specs.Answers.{shown_part}
+use Rattle.demo_origin.specs.Calls.{Call}
+use Rattle.demo_origin.specs.Origins.{fresh}
+use Rattle.demo_origin.specs.Requests.{IsAt}
+use Rattle.demo_origin.specs.Values.{Device, Relation}
+use Rattle.demo_origin.specs.Versions.{IsLater}
+use Rattle.demo_origin.specs.declared.state.Held.{Held}
+use Rattle.demo_origin.proofs.Stating.{states_are_told}
+use Rattle.demo_origin.proofs.Versioning.{as_many, same_version, versions_tell}
+use Rattle.story_laws.specs.Networks.{AreGiven, Networks}
+use Rattle.story_laws.specs.Reads.{AreNew, AskQuietly, ShowsWhole}
+use Rattle.story_laws.proofs.Calling.{HearsAt, runs-to}
+use Rattle.story_laws.proofs.Pacing.{got-all, got-below}
+use Rattle.story_laws.proofs.Pieces.{ArePartsOf, EndsBy, block-named, part-ends, parts-join, tag-named}
+use Rattle.story_laws.proofs.Showing.{ShowsPart, held-shown, replies-part, same-place}
+
+-- ---- all messages for a request ask for one path
+
+values-both : (n : ℕ) (xs ys : List Entry) → values n (xs ++ ys) ≡ values n xs ++ values n ys
+values-both n [] ys = refl
+values-both n (x ∷ xs) ys = by (eqb x.number n) (values-both n xs ys)
+  where
+    by : (b : Bool) → values n (xs ++ ys) ≡ values n xs ++ values n ys
+        → cond b (x.value ∷ values n (xs ++ ys)) (values n (xs ++ ys)) ≡ cond b (x.value ∷ values n xs) (values n xs) ++ values n ys
+    by true e = ap (λ (vs : List (List ℕ)). x.value ∷ vs) e
+    by false e = e
+
+path-of : (f : Bool) (q : CoapRequest) (b : Option Block) (mid : ℕ) (token : List ℕ)
+    → values 11 (asking f q b mid token).options ≡ values 11 (request_options q)
+path-of true q None mid token = values-both 11 (host_options q.target.host) _ ∙ sym (values-both 11 (host_options q.target.host) _)
+path-of false q None mid token = refl
+path-of f q (Some b) mid token =
+    values-both 11 (request_options q) _
+    ∙ (ap (λ (vs : List (List ℕ)). values 11 (request_options q) ++ vs) (by (eqb q.method 1)) ∙ append-nil (values 11 (request_options q)))
+  where
+    by : (x : Bool) → values 11 (option_with (cond x 23 27) (uint_bytes (block_value b)) ∷ []) ≡ []
+    by true = refl
+    by false = refl
+
+-- ---- what the pieces have in common
+
+-- the message tells a 2.05 with this ETag
+record IsAlike (tag : List ℕ) (m : Content) : Type 0 where
+  content : m.code ≡ 69
+  forwarded : is_forwardable m.options ≡ true
+  tagged : value_of 4 m ≡ Some tag
+
+same-tag : (v : Option (List ℕ)) (tag : List ℕ) → option_map tag_by v ≡ Some (tag_by tag) → v ≡ Some tag
+same-tag None tag e = absurd (none-some _ e)
+same-tag (Some v) tag e = ap (λ (t : EntityTag). Some t.bytes) (some-is (tag_by v) (tag_by tag) e)
+
+last-is : (of : Representation) (m : Content) (ms : List Content) (at szx : ℕ) → AreFollowing of at szx (m ∷ ms)
+    → representation_of (last_of m ms) ≡ of
+last-is of m [] at szx f = f.0.representation
+last-is of m (n ∷ ms) at szx f = last-is of n ms (at + length m.payload) (last_szx (block_in 23 m) szx) f.2
+
+one-alike : (of : Representation) (tag : List ℕ) (m : Content) → representation_of m ≡ of → is_tellable m ≡ true → of.code ≡ 69
+    → of.etag ≡ Some (tag_by tag) → IsAlike tag m
+one-alike of tag m is tell code etag = record {
+  content = ap (λ (r : Representation). r.code) is ∙ code;
+  forwarded = (and_parts (is_forwardable m.options) _ tell).0;
+  tagged = same-tag (value_of 4 m) tag (ap (λ (r : Representation). r.etag) is ∙ etag);
+}
+
+all-alike : (of : Representation) (tag : List ℕ) (at szx : ℕ) (m : Content) (ms : List Content) → AreFollowing of at szx (m ∷ ms)
+    → list_all is_tellable (m ∷ ms) ≡ true → of.code ≡ 69 → of.etag ≡ Some (tag_by tag) → AllByRecursion (IsAlike tag) (m ∷ ms)
+all-alike of tag at szx m [] f tell code etag = (one-alike of tag m f.0.representation (and_parts (is_tellable m) true tell).0 code etag, tt)
+all-alike of tag at szx m (n ∷ ms) f tell code etag =
+    let told = and_parts (is_tellable m) (list_all is_tellable (n ∷ ms)) tell in (
+      one-alike of tag m f.0.representation told.0 code etag,
+      all-alike of tag (at + length m.payload) (last_szx (block_in 23 m) szx) n ms f.2 told.1 code etag,
+    )
+
+got-in : {X : Type 0} (xs : List X) (n : ℕ) → n < length xs → (y : X) × (slice_get xs n ≡ Some y)
+got-in [] n lt = absurd (omega (arith, lt))
+got-in (x ∷ xs) zero lt = (x, refl)
+got-in (x ∷ xs) (suc n) lt = got-in xs n (omega (arith, lt))
+
+-- ---- all pieces show one state
+
+module _ (R : Relation) (h : List Written) (device proxy : Peer) (block : ℕ) (resources : List Held) (cs : List Call)
+    (s : Stands h) (net : Networks R s.reading device proxy (fresh block resources) cs)
+    (given : AreGiven s.reading device proxy (fresh block resources) cs) (new : AreNew resources)
+    (q : CoapRequest) (get : q.method ≡ 1) (to : q.peer ≡ device) (quiet : AskQuietly h q) where
+  abbrev first : Device
+  first = fresh block resources
+
+  -- an ETag of eight bytes can say each version
+  small : (since : ℕ) (m answer : Content) (p : ShowsPart since proxy cs m answer) → p.held.version < 2 ^ 64
+  small since m answer p =
+      let at : HearsAt p.moment p.call = record { peer = proxy; datagram = p.datagram; taken = p.taken; comes = p.comes } in
+      let ran = runs-to R cs first 0 p.moment p.place p.call net.follow net.timed p.stands at in
+      let many = as_many R ran.events first p.call.before ran.runs in
+      let below = got-below p.call.before.resources p.number p.held p.there.stands in
+      let old = got-in resources p.number (omega (arith, many, below)) in
+      let zero-version = got-all (λ (x : Held). x.version ≡ 0) resources p.number old.0 new old.1 in
+      let later = versions_tell R ran.events first p.call.before p.number old.0 ran.runs old.1 in
+      subst (λ (x : Held). x.version < 2 ^ 64) (some-is later.held p.held (sym later.stands ∙ p.there.stands))
+      (later.later.eight_bytes (omega (arith, zero-version)))
+
+  -- of two with one ETag
+  state-later : (t u : ℕ) (m n answer other : Content) (a : ShowsPart t proxy cs m answer) (b : ShowsPart u proxy cs n other)
+      → values 11 m.options ≡ values 11 n.options → to_be_bytes w64 a.held.version ≡ to_be_bytes w64 b.held.version
+      → a.place ≤ b.place → b.held.state ≡ a.held.state
+  state-later t u m n answer other a b path tag le =
+      let it = states_are_told R (fresh block resources) cs a.place b.place a.call b.call (values 11 m.options) a.number a.held net.follow a.stands b.stands le a.there in
+      let there = subst (λ (vs : List (List ℕ)). IsAt vs b.call.before.resources b.number b.held) (sym path) b.there in
+      let same = same-place (values 11 m.options) b.call.before.resources a.number b.number it.held b.held it.stands there in
+      let later : IsLater a.held b.held = subst (λ (x : Held). IsLater a.held x) same it.later in
+      later.state (same_version b.held.version a.held.version (small u n other b) (small t m answer a) (sym tag))
+
+  same-state : (t u : ℕ) (m n answer other : Content) (a : ShowsPart t proxy cs m answer) (b : ShowsPart u proxy cs n other)
+      → values 11 m.options ≡ values 11 n.options → to_be_bytes w64 a.held.version ≡ to_be_bytes w64 b.held.version
+      → b.held.state ≡ a.held.state
+  same-state t u m n answer other a b path tag =
+      elim (leb_tells a.place b.place) [
+        | inl w ↦ state-later t u m n answer other a b path tag w.1
+        | inr w ↦ let lt = w.1 in sym (state-later u t n m other answer b a (sym path) (sym tag) (omega (arith, lt)))
+      ]
+
+  asks-path : (k j : ℕ) (b : Option Block) (m : Content) (x : IsHeardFor h k q b j m) → values 11 x.sent.options ≡ values 11 (request_options q)
+  asks-path k j b m x =
+      ap (λ (c : Content). values 11 c.options) x.sent_for.asks.1 ∙ path-of x.sent_for.asks.0 q b x.sent.mid x.sent.token
+
+  part-at : (k j : ℕ) (b : Option Block) (m : Content) (x : IsHeardFor h k q b j m) → m.code ≡ 69 → ShowsPart x.sent_for.moment proxy cs x.sent m
+  part-at k j b m x content =
+      replies-part R h device proxy block resources cs k q b j m s net given x get to content (quiet k x.sending b x.sent x.sent_for)
+
+  module _ (t : ℕ) (n other : Content) (a : ShowsPart t proxy cs n other) (path : values 11 n.options ≡ values 11 (request_options q)) where
+    all-parts : (k : ℕ) (point : Point) (js : List ℕ) (ms : List Content) → AreHeardFor h k q point js ms
+        → AllByRecursion (IsAlike (to_be_bytes w64 a.held.version)) ms → ArePartsOf a.held.state ms
+    all-parts k point [] [] heard alike = tt
+    all-parts k point [] (m ∷ ms) heard alike = absurd heard
+    all-parts k point (j ∷ js) [] heard alike = absurd heard
+    all-parts k point (j ∷ js) (m ∷ ms) heard alike =
+        let x = heard.0 in
+        let p = part-at k j (block_for point) m x alike.0.content in
+        let tag : to_be_bytes w64 a.held.version ≡ to_be_bytes w64 p.held.version =
+        some-is _ _ (sym alike.0.tagged ∙ tag-named p.held p.observed p.part m p.describes) in
+        let same : p.held.state ≡ a.held.state =
+        same-state t x.sent_for.moment n x.sent other m a p (path ∙ sym (asks-path k j (block_for point) m x)) tag in (
+          record {
+            part = p.part;
+            named = block-named p.held p.observed p.part m p.describes alike.0.forwarded;
+            shown = p.shown ∙ ap (shown_part p.part) same;
+            ends = subst (λ (state : List ℕ). EndsBy (length state) p.part) same
+                (part-ends (values 23 x.sent.options) p.call.before.block (length p.held.state) p.part p.chosen);
+          },
+          all-parts j (point_after point m) js ms heard.1 alike.1,
+        )
+
+  -- ---- the whole
+
+  pub whole-shown : DownloadsJoin → (k : ℕ) (js : List ℕ) (ms : List Content) (w : Response) → AreHeardFor h k q (first_point q) js ms
+      → whole_of q ms ≡ Some w → w.code ≡ 69 → ShowsWhole h k q proxy (fresh block resources) cs w.body
+  whole-shown join k js [] w heard whole content = absurd (none-some w whole)
+  whole-shown join k [] (m ∷ ms) w heard whole content = absurd heard
+  whole-shown join k (j ∷ js) (m ∷ ms) w heard whole content = by ((list_all is_tellable (m ∷ ms)) && (is_some (given_by_pieces nothing (m ∷ ms)))) refl (fetched (eqb q.method 1) refl whole)
+    where
+      fetched : (b : Bool) → eqb q.method 1 ≡ b → cond b (whole_fetched m ms) (whole_given (begun (length q.body) 6) (m ∷ ms)) ≡ Some w → whole_fetched m ms ≡ Some w
+      fetched true e f = f
+      fetched false e f = elim (eqb_tells q.method 1) [
+        | inl v ↦ absurd (false≢true (sym e ∙ v.0))
+        | inr v ↦ absurd (v.1 get)
+      ]
+
+      joins : (o : Option (List ℕ)) → given_by_pieces nothing (m ∷ ms) ≡ o → is_some o ≡ true → (body : List ℕ) × AreWhole m ms body
+      joins None e f = absurd (false≢true f)
+      joins (Some body) e f = (body, (join m ms body).0 e)
+
+      shows : list_all is_tellable (m ∷ ms) ≡ true → AreFollowing (representation_of m) 0 6 (m ∷ ms) → joined m ms ≡ w
+          → ShowsWhole h k q proxy (fresh block resources) cs w.body
+      shows tell following is =
+          let x = heard.0 in
+          let of = representation_of m in
+          let code : of.code ≡ 69 =
+          ap (λ (r : Representation). r.code) (sym (last-is of m ms 0 6 following)) ∙ (ap (λ (v : Response). v.code) is ∙ content) in
+          let p = part-at k j (block_for (first_point q)) m x code in
+          let tag = tag-named p.held p.observed p.part m p.describes in
+          let alike = all-alike of (to_be_bytes w64 p.held.version) 0 6 m ms following tell code (ap (option_map tag_by) tag) in
+          let parts = all-parts x.sent_for.moment x.sent m p (asks-path k j (block_for (first_point q)) m x) k (first_point q) (j ∷ js) (m ∷ ms) heard alike in
+          let body : w.body ≡ p.held.state =
+          ap (λ (v : Response). v.body) (sym is) ∙ parts-join p.held.state of 0 6 m ms following parts in
+          record {
+            block = block_for (first_point q);
+            sending = x.sending;
+            message = x.sent;
+            sent = x.sent_for;
+            shown = held-shown R proxy block resources cs x.sent_for.moment x.sent m w.body net.follow p body;
+          }
+
+      by : (b : Bool) → ((list_all is_tellable (m ∷ ms)) && (is_some (given_by_pieces nothing (m ∷ ms)))) ≡ b
+          → cond b (Some (joined m ms)) None ≡ Some w → ShowsWhole h k q proxy (fresh block resources) cs w.body
+      by false e f = absurd (none-some w f)
+      by true e f =
+          let both = and_parts (list_all is_tellable (m ∷ ms)) (is_some (given_by_pieces nothing (m ∷ ms))) e in
+          let all = joins (given_by_pieces nothing (m ∷ ms)) refl both.1 in
+          shows both.0 all.1.following (some-is (joined m ms) w f)
