@@ -10,3 +10,5 @@ mod plays;
 mod sample;
 #[cfg(test)]
 mod stories;
+#[cfg(test)]
+mod turning;

@@ -3,7 +3,7 @@
 use crate::plays::{Outcome, Wanted, plays};
 use three_parties::{Happening, Input, Turn, When};
 
-fn at(moment: u64, happening: Happening<'static>) -> Turn<'static> {
+pub fn at(moment: u64, happening: Happening<'static>) -> Turn<'static> {
     Turn::Proxy(Input {
         moment,
         word: 0,
@@ -11,19 +11,19 @@ fn at(moment: u64, happening: Happening<'static>) -> Turn<'static> {
     })
 }
 
-fn deliver(moment: u64, number: usize) -> Turn<'static> {
+pub fn deliver(moment: u64, number: usize) -> Turn<'static> {
     Turn::Deliver(When { moment, word: 0 }, number)
 }
 
-const POST: &[u8] = b"POST /hc/coap://s.example.com/c HTTP/1.1\r\nHost: p\r\n\r\n";
+pub const POST: &[u8] = b"POST /hc/coap://s.example.com/c HTTP/1.1\r\nHost: p\r\n\r\n";
 
 const GET: &[u8] = b"GET /hc/coap://s.example.com/c HTTP/1.1\r\nHost: p\r\n\r\n";
 
 /// POST of c, as CON 0 with token 0.
-const POST_C: &[u8] = b"\x48\x02\x00\x00\0\0\0\0\0\0\0\0\x3d\x00s.example.com\x81c";
+pub const POST_C: &[u8] = b"\x48\x02\x00\x00\0\0\0\0\0\0\0\0\x3d\x00s.example.com\x81c";
 
 /// 2.04 with the new state.
-const COUNTED: &[u8] = b"\x68\x44\x00\x00\0\0\0\0\0\0\0\0\xff1";
+pub const COUNTED: &[u8] = b"\x68\x44\x00\x00\0\0\0\0\0\0\0\0\xff1";
 
 /// GET of c, as CON 1 with token 1.
 const GET_C: &[u8] = b"\x48\x01\x00\x01\0\0\0\x01\0\0\0\0\x3d\x00s.example.com\x81c";
