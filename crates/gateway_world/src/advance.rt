@@ -79,7 +79,8 @@ impl<R: Relation> World<R> {
             engine,
             moment,
         } = self;
-        let mut engine = engine;
+        let mut boxed = engine;
+        let engine: &mut Engine<R> = &mut *boxed;
         // Its contract says that the core keeps to its history, before the input and after it.
         engine.core.journal();
         outputs.clear();
@@ -97,7 +98,7 @@ impl<R: Relation> World<R> {
         Ok(Advanced {
             world: World {
                 settings,
-                engine,
+                engine: boxed,
                 moment,
             },
             opened,

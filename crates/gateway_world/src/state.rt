@@ -12,7 +12,8 @@ use transformers::Relation;
 #[derive(Drop)]
 pub struct World<R: Relation> {
     pub(crate) settings: Arc<Settings>,
-    pub(crate) engine: Engine<R>,
+    /// In a place of its own, so that who hands a world on moves little.
+    pub(crate) engine: Box<Engine<R>>,
     pub(crate) moment: u64,
 }
 
@@ -24,8 +25,8 @@ impl<R: Relation> Model for World<R> {
 
     ghost Value = { WorldValue };
 
-    ghost view = { λ w. world_of w.engine (rules_of (arc_value w.settings)) w.moment };
+    ghost view = { λ w. world_of w.engine.value (rules_of (arc_value w.settings)) w.moment };
 
     ghost invariant = { λ w.
-        IsKept R.holds R.takes (rules_of (arc_value w.settings)) w.moment w.engine };
+        IsKept R.holds R.takes (rules_of (arc_value w.settings)) w.moment w.engine.value };
 }

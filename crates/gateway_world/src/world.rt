@@ -15,7 +15,7 @@ use gateway_model::{Happening, Input, Output, When};
 use http_edge::Memory;
 use journal_book::Journal;
 use limits::LAST_MOMENT;
-use std::alloc::Global;
+use std::alloc::{AllocError, Global};
 use std::sync::Arc;
 use transformers::{Bank, Relation};
 
@@ -37,7 +37,7 @@ impl<R: Relation> World<R> {
         };
         Ok(World {
             settings,
-            engine,
+            engine: Box::new(alloc, engine).map_err(AllocError::from)?,
             moment: 0,
         })
     }
@@ -68,8 +68,6 @@ impl<R: Relation> World<R> {
             ↔ IsErrOf result WorldFault.Backlog }
         ensures rests { IsAtRest self.new }
     {
-        // Its contract says that the core keeps to its history, before the input and after it.
-        self.engine.core.journal();
         if self.is_too_much(input.happening) {
             return Err(WorldFault::Backlog);
         }
@@ -82,20 +80,20 @@ impl<R: Relation> World<R> {
             settings: &self.settings,
         };
         let before = self.engine.core.snapshot()?;
-        let mut outputs = Vec::new(self.engine.alloc);
-        match self
-            .engine
-            .step(context, bank, input.happening, &mut outputs)
-        {
+        let engine: &mut Engine<R> = &mut *self.engine;
+        // Its contract says that the core keeps to its history, before the input and after it.
+        engine.core.journal();
+        let mut outputs = Vec::new(engine.alloc);
+        match engine.step(context, bank, input.happening, &mut outputs) {
             Ok(_) => {
-                self.engine.core.journal();
-                self.engine.table.mark();
+                engine.core.journal();
+                engine.table.mark();
                 self.moment = moment;
                 Ok(outputs)
             }
             Err(Memory) => {
-                self.engine.core.restore(before);
-                self.engine.table.back();
+                engine.core.restore(before);
+                engine.table.back();
                 Err(WorldFault::Memory)
             }
         }
@@ -105,12 +103,13 @@ impl<R: Relation> World<R> {
     pub fn is_too_much(&self, happening: Happening<'_>) -> bool
         ensures { IsTrue result ↔ IsTooMuch happening.entry (served_in self.now) }
     {
+        let engine: &Engine<R> = &*self.engine;
         // Its contract says that the connections of the core are in order.
-        self.engine.core.journal();
+        engine.core.journal();
         match happening {
             Happening::Bytes(number, bytes) => {
-                let reads = self.engine.core.is_idle(number);
-                self.engine.table.passes_limit(number, reads, bytes.len())
+                let reads = engine.core.is_idle(number);
+                engine.table.passes_limit(number, reads, bytes.len())
             }
             _ => false,
         }

@@ -1,26 +1,37 @@
 -- An input that is taken leads by acts, of which the promises hold; one that is refused changes nothing.
-use Rattle.std.proofs.Common.{Bool, true, false, refl, sym, ap, ◌∙◌, subst, arith}
+use Rattle.std.proofs.Common.{◌≡◌, Bool, true, false, refl, sym, ap, ◌∙◌, subst, arith}
+use Rattle.std.specs.Arc.{arc_value}
 use Rattle.std.specs.Prelude.{⊤}
+use Rattle.ask_model.specs.Views.{rules_of}
+use Rattle.exchange_core.specs.Snapshots.{IsOf}
 use Rattle.gateway_model.specs.Emissions.{emissions}
-use Rattle.gateway_world.specs.Worlds.{WorldValue, IsTooMuch, served_in}
+use Rattle.gateway_world.specs.declared.engine.Engine.{Engine}
+use Rattle.gateway_world.specs.Keeping.{IsKept}
+use Rattle.gateway_world.specs.Worlds.{WorldValue, IsTooMuch, served_in, world_of}
 use Rattle.gateway_world.proofs.Advancing.{taken-stepped}
 use Rattle.gateway_world.proofs.Promises.{kept-back, kept-stepped, world-back}
 use Rattle.gateway_world.proofs.state.World.input.Goals as goal
 
 pub invariant_of-self : goal.invariant_of-self
 invariant_of-self g c =
-    kept-stepped g.R.Relation.holds g.R.Relation.takes _ _ _ _ c.max-moment.result c.self.inside.engine c.step.new.self _ _ _
-    c.in-Ok.ensures.steps c.self.invariant c.in-Ok.ensures.drained c.journal.ensures.kept c.journal-in-Ok.ensures.stands
+    let kept = subst (λ (e : Engine _). IsKept g.R.Relation.holds g.R.Relation.takes (rules_of (arc_value c.self.inside.settings)) c.self.inside.moment e)
+    (sym c.deref_mut-engine.ensures.value) c.self.invariant in
+    kept-stepped g.R.Relation.holds g.R.Relation.takes _ _ _ _ c.max-moment.result c.deref_mut-engine.result.now c.step.new.self _ _ _
+    c.in-Ok.ensures.steps kept c.in-Ok.ensures.drained c.journal.ensures.kept c.journal-in-Ok.ensures.stands
     refl c.mark.ensures.current c.mark.ensures.marked
     (let a = c.max-moment.ensures in let b = c.min.ensures in let d = c.self.invariant.2 in omega (arith, a, b, d))
 
 pub invariant_of-self-in-Err-1 : goal.invariant_of-self-in-Err-1
 invariant_of-self-in-Err-1 g c =
-    kept-back g.R.Relation.holds g.R.Relation.takes _ c.self.inside.moment c.self.inside.engine _
-    (c.restore.ensures c.self.inside.engine.core c.in_ok-before.ensures c.in-Err.ensures.back.grows)
-    (c.back.ensures.current ∙ (c.in-Err.ensures.back.marked ∙ c.self.invariant.0.marked))
+    let same = c.deref_mut-engine.ensures.value in
+    let kept = subst (λ (e : Engine _). IsKept g.R.Relation.holds g.R.Relation.takes (rules_of (arc_value c.self.inside.settings)) c.self.inside.moment e)
+    (sym same) c.self.invariant in
+    let taken = subst (λ (e : Engine _). IsOf c.in_ok-before.before e.core) (c.deref.ensures ∙ sym same) c.in_ok-before.ensures in
+    kept-back g.R.Relation.holds g.R.Relation.takes _ c.self.inside.moment c.deref_mut-engine.result.now _
+    (c.restore.ensures c.deref_mut-engine.result.now.core taken c.in-Err.ensures.back.grows)
+    (c.back.ensures.current ∙ (c.in-Err.ensures.back.marked ∙ kept.0.marked))
     (c.back.ensures.marked ∙ c.in-Err.ensures.back.marked)
-    c.self.invariant
+    kept
 
 abbrev IsOff : Bool → Type 0
 IsOff true = ⊥
@@ -28,25 +39,33 @@ IsOff false = ⊤
 
 pub returns-in-Ok-clause-takes : goal.returns-in-Ok-clause-takes
 returns-in-Ok-clause-takes g c =
-    let room = subst (λ (w : WorldValue). IsTooMuch c.args.input.happening (served_in w) → ⊥) (sym c.self.view_is)
+    let same = c.deref_mut-engine.ensures.value in
+    let kept = subst (λ (e : Engine _). IsKept g.R.Relation.holds g.R.Relation.takes (rules_of (arc_value c.self.inside.settings)) c.self.inside.moment e)
+    (sym same) c.self.invariant in
+    let view = ap (λ (e : Engine _). world_of e (rules_of (arc_value c.self.inside.settings)) c.self.inside.moment) same ∙ c.self.view_is in
+    let room = subst (λ (w : WorldValue). IsTooMuch c.args.input.happening (served_in w) → ⊥) (sym view)
     (λ full. subst IsOff (c.is_too_much.ensures.1 full) (subst IsOff (sym c.if-is_too_much.false) tt)) in
-    rw (← c.self.view_is)
-    (taken-stepped g.R.Relation.holds g.R.Relation.takes _ c.args.input _ c.max-moment.result c.self.inside.engine c.step.new.self _ _ _
+    rw (← view)
+    (taken-stepped g.R.Relation.holds g.R.Relation.takes _ c.args.input _ c.max-moment.result c.deref_mut-engine.result.now c.step.new.self _ _ _
     c.in-Ok.ensures.steps (ap emissions c.new-outputs.ensures.items)
     (let a = c.max-moment.ensures in let b = c.min.ensures in omega (arith, a, b)) refl c.mark.ensures.current
-    c.self.invariant c.in-Ok.ensures.drained c.journal.ensures.kept c.journal.ensures.stands c.journal-in-Ok.ensures.stands room (invariant_of-self g c))
+    kept c.in-Ok.ensures.drained c.journal.ensures.kept c.journal.ensures.stands c.journal-in-Ok.ensures.stands room (invariant_of-self g c))
 
 pub returns-in-Ok-clause-rests : goal.returns-in-Ok-clause-rests
 returns-in-Ok-clause-rests g c = let k = invariant_of-self g c in record { drained = k.1; rests = k.3 }
 
 pub returns-in-Err-clause-unchanged : goal.returns-in-Err-clause-unchanged
 returns-in-Err-clause-unchanged g c =
-    world-back c.self.inside.engine
+    let same = c.deref_mut-engine.ensures.value in
+    let ready = subst (λ (e : Engine _). e.table.marked ≡ e.table.current) (sym same) c.self.invariant.0.marked in
+    let taken = subst (λ (e : Engine _). IsOf c.in_ok-before.before e.core) (c.deref.ensures ∙ sym same) c.in_ok-before.ensures in
+    let view = ap (λ (e : Engine _). world_of e (rules_of (arc_value c.self.inside.settings)) c.self.inside.moment) same ∙ c.self.view_is in
+    world-back c.deref_mut-engine.result.now
     (record { alloc = c.step.new.self.alloc; core = c.restore.new.self; table = c.back.new.self })
     _ c.self.inside.moment
-    (c.restore.ensures c.self.inside.engine.core c.in_ok-before.ensures c.in-Err.ensures.back.grows)
-    (c.back.ensures.current ∙ (c.in-Err.ensures.back.marked ∙ c.self.invariant.0.marked))
-    ∙ c.self.view_is
+    (c.restore.ensures c.deref_mut-engine.result.now.core taken c.in-Err.ensures.back.grows)
+    (c.back.ensures.current ∙ (c.in-Err.ensures.back.marked ∙ ready))
+    ∙ view
 
 pub returns-in-Err-clause-rests : goal.returns-in-Err-clause-rests
 returns-in-Err-clause-rests g c = let k = invariant_of-self-in-Err-1 g c in record { drained = k.1; rests = k.3 }
