@@ -21,6 +21,7 @@ use Rattle.gateway_loop.specs.Delivery.{AreGiven, IsGiven, given_to}
 use Rattle.gateway_loop.specs.Places.{EachChanges, OnlyAt}
 use Rattle.gateway_loop.specs.Serving.{IsAfter, IsServed, IsServing, Past, brought_in, heard_at, said, then}
 use Rattle.gateway_loop.specs.Sockets.{Are, Grown}
+use Rattle.gateway_loop.specs.Telling.{NotesValue, Tells}
 use Rattle.gateway_loop.proofs.Changing.{each-as, each-from, each-then, each-with, same-or-not}
 use Rattle.gateway_loop.proofs.Served.{once, served-first, served-on, serving-on}
 
@@ -139,25 +140,25 @@ quiet-taken holds takes i out w v c opens (inr k) = absurd (open-or-rotate i.hap
 module _ (holds : Form → Form → List ℕ → List ℕ → Type 0) (takes : Form → Form → List ℕ → Type 0)
     {S W : Type 0} (written gave : S → Option (List ℕ)) (sent heard : W → Option (List Outgoing)) where
   pub serving-takes : (i : Input) (out : List Emission) (w v : WorldValue) (xs ys : List (Option (ClientValue S))) (m n : W)
-      → IsServing holds takes written gave sent heard w xs m → Takes holds takes i w out v
+      (n0 n1 : NotesValue) → IsServing holds takes written gave sent heard w xs m n0 → Takes holds takes i w out v
       → v.core.state.opened ≡ w.core.state.opened → EachChanges (Brings i out) xs ys
-      → Grown (sent m) (sent n) (goes_in out) → Grown (heard m) (heard n) (heard_at i)
-      → IsServing holds takes written gave sent heard v ys n
-  serving-takes i out w v xs ys m n h t same e goes came =
-      serving-on holds takes written gave sent heard i out w v xs ys m n h t (e.count ∙ (h.numbers ∙ sym same))
+      → Grown (sent m) (sent n) (goes_in out) → Grown (heard m) (heard n) (heard_at i) → Tells out n0 n1
+      → IsServing holds takes written gave sent heard v ys n n1
+  serving-takes i out w v xs ys m n n0 n1 h t same e goes came told =
+      serving-on holds takes written gave sent heard i out w v xs ys m n n0 n1 h t (e.count ∙ (h.numbers ∙ sym same))
       (λ past after each c y at. let x = each-from (Brings i out) xs ys c y e at in
-      served-on holds takes written gave c past i out x.0 y (each c x.0 x.1) x.2.stream x.2.left x.2.unfed x.2.leaving) goes came
+      served-on holds takes written gave c past i out x.0 y (each c x.0 x.1) x.2.stream x.2.left x.2.unfed x.2.leaving) goes came told
 
   pub serving-opens : (i : Input) (out : List Emission) (w v : WorldValue) (xs zs ys : List (Option (ClientValue S))) (m n : W) (s : S)
-      → IsServing holds takes written gave sent heard w xs m → Takes holds takes i w out v → i.happening ≡ H.Open
+      (n0 n1 : NotesValue) → IsServing holds takes written gave sent heard w xs m n0 → Takes holds takes i w out v → i.happening ≡ H.Open
       → v.core.state.opened ≡ w.core.state.opened + 1 → AreGiven out xs zs → ys ≡ zs ++ Some (unserved s) ∷ []
       → Are (written s) [] → Are (gave s) []
-      → Grown (sent m) (sent n) (goes_in out) → Grown (heard m) (heard n) (heard_at i)
-      → IsServing holds takes written gave sent heard v ys n
-  serving-opens i out w v xs zs ys m n s h t opens more g e wrote read goes came =
-      serving-on holds takes written gave sent heard i out w v xs ys m n h t
+      → Grown (sent m) (sent n) (goes_in out) → Grown (heard m) (heard n) (heard_at i) → Tells out n0 n1
+      → IsServing holds takes written gave sent heard v ys n n1
+  serving-opens i out w v xs zs ys m n s n0 n1 h t opens more g e wrote read goes came told =
+      serving-on holds takes written gave sent heard i out w v xs ys m n n0 n1 h t
       (ap length e ∙ (length-more zs ∙ (ap (λ (k : ℕ). k + 1) (g.count ∙ h.numbers) ∙ sym more)))
-      each goes came
+      each goes came told
     where
       none : (c : ℕ) → brought_in c i ≡ []
       none c = subst (λ (x : Happening). brought_by c x ≡ []) (sym opens) refl

@@ -8,3 +8,4 @@ pub mod Rotating
 pub mod Served
 pub mod Standing
 pub mod Taking
+pub mod Tellings

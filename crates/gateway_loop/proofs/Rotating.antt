@@ -21,11 +21,13 @@ use Rattle.gateway_loop.specs.Clients.{ClientValue}
 use Rattle.gateway_loop.specs.Delivery.{AreGiven, IsGiven, given_to}
 use Rattle.gateway_loop.specs.Serving.{IsAfter, IsServed, IsServing, Past, brought_in, heard_by, said, then}
 use Rattle.gateway_loop.specs.Sockets.{Grown}
+use Rattle.gateway_loop.specs.Telling.{NotesValue, Tells, tellings}
 use Rattle.gateway_loop.proofs.Bringing.{Brings, brings-none, counted-some, get-push}
 use Rattle.gateway_loop.proofs.Changing.{each-from, each-same}
 use Rattle.gateway_loop.proofs.Growing.{grown-none}
 use Rattle.gateway_loop.proofs.Served.{once, served-on, serving-on}
 use Rattle.gateway_loop.proofs.Taking.{IsBare, serving-passes}
+use Rattle.gateway_loop.proofs.Tellings.{tells-quiet}
 
 -- what a rotation tells
 
@@ -36,6 +38,10 @@ said-rotates t a b out c (inr r) = ap (said c) r.given
 goes-rotates : (t : ℕ) (a b : CoreValue) (out : List Emission) → Rotates t a out b → goes_in out ≡ []
 goes-rotates t a b out (inl r) = ap goes_in r.given
 goes-rotates t a b out (inr r) = ap goes_in r.given
+
+tells-rotates : (t : ℕ) (a b : CoreValue) (out : List Emission) (x : NotesValue) → Rotates t a out b → Tells out x x
+tells-rotates t a b out x (inl r) = tells-quiet out x (ap tellings r.given)
+tells-rotates t a b out x (inr r) = tells-quiet out x (ap tellings r.given)
 
 one-rotates : (t : ℕ) (a b : CoreValue) (out : List Emission) → Rotates t a out b → length out ≡ 1
 one-rotates t a b out (inl r) = ap length r.given
@@ -72,30 +78,32 @@ module _ (holds : Form → Form → List ℕ → List ℕ → Type 0) (takes : F
   module _ {S W : Type 0} (written gave : S → Option (List ℕ)) (sent heard : W → Option (List Outgoing)) where
     -- the journal is given out, or isn't
     pub serving-rotates : (i : Input) (o : Option ℕ) (out : List Emission) (w v : WorldValue)
-        (xs : List (Option (ClientValue S))) (m : W)
-        → IsServing holds takes written gave sent heard w xs m → Takes holds takes i w out v
+        (xs : List (Option (ClientValue S))) (m : W) (n0 : NotesValue)
+        → IsServing holds takes written gave sent heard w xs m n0 → Takes holds takes i w out v
         → IsCounted i.happening o w.core v.core → i.happening ≡ H.Rotate
-        → IsServing holds takes written gave sent heard v xs m
-    serving-rotates i o out w v xs m h t count wants =
+        → IsServing holds takes written gave sent heard v xs m n0
+    serving-rotates i o out w v xs m n0 h t count wants =
         let r = just-rotates i out w v wants t in
-        serving-passes holds takes written gave sent heard i o out w v xs xs m m h t count
+        serving-passes holds takes written gave sent heard i o out w v xs xs m m n0 n0 h t count
         (subst IsBare (sym wants) tt)
         (given-quiet out xs (λ c. said-rotates (at (when_in w i) (served_in w)) w.core v.core out c r))
         (subst (Grown (sent m) (sent m)) (sym (goes-rotates (at (when_in w i) (served_in w)) w.core v.core out r)) (grown-none (sent m)))
         (grown-none (heard m))
+        (tells-rotates (at (when_in w i) (served_in w)) w.core v.core out n0 r)
 
     -- a connection opens for nobody
     pub serving-pads : (i : Input) (o : Option ℕ) (k : ℕ) (out : List Emission) (w v : WorldValue)
-        (xs zs ys : List (Option (ClientValue S))) (m n : W)
-        → IsServing holds takes written gave sent heard w xs m → Takes holds takes i w out v
+        (xs zs ys : List (Option (ClientValue S))) (m n : W) (n0 n1 : NotesValue)
+        → IsServing holds takes written gave sent heard w xs m n0 → Takes holds takes i w out v
         → IsCounted i.happening o w.core v.core → i.happening ≡ H.Open → o ≡ Some k → AreGiven out xs zs
         → ys ≡ zs ++ None ∷ [] → Grown (sent m) (sent n) (goes_in out) → Grown (heard m) (heard n) []
-        → IsServing holds takes written gave sent heard v ys n
-    serving-pads i o k out w v xs zs ys m n h t count opens some g e goes quiet =
-        serving-on holds takes written gave sent heard i out w v xs ys m n h t
+        → Tells out n0 n1 → IsServing holds takes written gave sent heard v ys n n1
+    serving-pads i o k out w v xs zs ys m n n0 n1 h t count opens some g e goes quiet told =
+        serving-on holds takes written gave sent heard i out w v xs ys m n n0 n1 h t
         (ap length e ∙ (length-more zs ∙ (ap (λ (j : ℕ). j + 1) (g.count ∙ h.numbers)
         ∙ sym (counted-some i.happening o k w.core v.core some count))))
         each goes (subst (Grown (heard m) (heard n)) (subst (λ (x : Happening). [] ≡ heard_by x) (sym opens) refl) quiet)
+        told
       where
         none : (c : ℕ) → brought_in c i ≡ []
         none c = subst (λ (x : Happening). brought_by c x ≡ []) (sym opens) refl

@@ -19,7 +19,9 @@ use Rattle.gateway_loop.specs.Places.{EachChanges, IsEmptied}
 use Rattle.gateway_loop.proofs.Changing.{each-from, same-or-not}
 use Rattle.gateway_loop.specs.Serving.{IsAfter, IsServed, IsServing, Past, brought, brought_in, heard_at, heard_in, said, then}
 use Rattle.gateway_loop.specs.Sockets.{Are, Grown}
+use Rattle.gateway_loop.specs.Telling.{NotesValue, Tells}
 use Rattle.gateway_loop.proofs.Growing.{are-more, are-same}
+use Rattle.gateway_loop.proofs.Tellings.{last-on, last-same}
 
 concat-both : (xs ys : List (List ℕ)) → concat (xs ++ ys) ≡ concat xs ++ concat ys
 concat-both [] ys = refl
@@ -177,15 +179,15 @@ module _ (holds : Form → Form → List ℕ → List ℕ → Type 0) (takes : F
   module _ {S W : Type 0} (written gave : S → Option (List ℕ)) (sent heard : W → Option (List Outgoing)) where
     -- It is served on where each connection is.
     pub serving-on : (i : Input) (out : List Emission) (w v : WorldValue) (xs ys : List (Option (ClientValue S))) (m n : W)
-        → IsServing holds takes written gave sent heard w xs m → Takes holds takes i w out v
+        (n0 n1 : NotesValue) → IsServing holds takes written gave sent heard w xs m n0 → Takes holds takes i w out v
         → length ys ≡ v.core.state.opened
         → ((past : Past) → IsAfter holds takes past w
         → ((c : ℕ) (x : ClientValue S) → slice_get xs c ≡ Some (Some x) → IsServed holds takes written gave c past x)
         → (c : ℕ) (y : ClientValue S) → slice_get ys c ≡ Some (Some y)
         → IsServed holds takes written gave c (then past (once i out)) y)
-        → Grown (sent m) (sent n) (goes_in out) → Grown (heard m) (heard n) (heard_at i)
-        → IsServing holds takes written gave sent heard v ys n
-    serving-on i out w v xs ys m n h t numbers each goes came = record {
+        → Grown (sent m) (sent n) (goes_in out) → Grown (heard m) (heard n) (heard_at i) → Tells out n0 n1
+        → IsServing holds takes written gave sent heard v ys n n1
+    serving-on i out w v xs ys m n n0 n1 h t numbers each goes came told = record {
       past = then h.past (once i out);
       after = after-more h.past i out w v h.after t;
       numbers = numbers;
@@ -194,35 +196,38 @@ module _ (holds : Form → Form → List ℕ → List ℕ → Type 0) (takes : F
           (are-more (sent m) (sent n) (goes_in h.past.given) (goes_in out) h.goes goes);
       came = subst (Are (heard n)) (sym (heard-more h.past.inputs i))
           (are-more (heard m) (heard n) (heard_in h.past.inputs) (heard_at i) h.came came);
+      last = last-on h.past.given out n0 n1 h.last told;
     }
 
     -- Where nothing is an input, each connection may move bytes.
-    pub serving-moves : (w : WorldValue) (xs ys : List (Option (ClientValue S))) (m : W)
+    pub serving-moves : (w : WorldValue) (xs ys : List (Option (ClientValue S))) (m : W) (n0 n1 : NotesValue)
         → (P : ℕ → ClientValue S → ClientValue S → Type 0)
-        → IsServing holds takes written gave sent heard w xs m → EachChanges P xs ys
+        → IsServing holds takes written gave sent heard w xs m n0 → n1 ≡ n0 → EachChanges P xs ys
         → ((past : Past) (c : ℕ) (x y : ClientValue S) → P c x y → IsServed holds takes written gave c past x
         → IsServed holds takes written gave c past y)
-        → IsServing holds takes written gave sent heard w ys m
-    serving-moves w xs ys m P h e f = record {
+        → IsServing holds takes written gave sent heard w ys m n1
+    serving-moves w xs ys m n0 n1 P h same e f = record {
       past = h.past;
       after = h.after;
       numbers = e.count ∙ h.numbers;
       each = λ c y at. let x = each-from P xs ys c y e at in f h.past c x.0 y x.2 (h.each c x.0 x.1);
       goes = h.goes;
       came = h.came;
+      last = last-same h.past.given n0 n1 same h.last;
     }
 
     -- One may end.
-    pub serving-emptied : (w : WorldValue) (n : ℕ) (xs ys : List (Option (ClientValue S))) (m : W)
-        → IsServing holds takes written gave sent heard w xs m → IsEmptied n xs ys
-        → IsServing holds takes written gave sent heard w ys m
-    serving-emptied w n xs ys m h e = record {
+    pub serving-emptied : (w : WorldValue) (n : ℕ) (xs ys : List (Option (ClientValue S))) (m : W) (n0 n1 : NotesValue)
+        → IsServing holds takes written gave sent heard w xs m n0 → n1 ≡ n0 → IsEmptied n xs ys
+        → IsServing holds takes written gave sent heard w ys m n1
+    serving-emptied w n xs ys m n0 n1 h same e = record {
       past = h.past;
       after = h.after;
       numbers = e.count ∙ h.numbers;
       each = λ c y at. by c y at (same-or-not c n);
       goes = h.goes;
       came = h.came;
+      last = last-same h.past.given n0 n1 same h.last;
     }
       where
         by : (c : ℕ) (y : ClientValue S) → slice_get ys c ≡ Some (Some y) → (c ≡ n) ⊎ (c ≢ n)

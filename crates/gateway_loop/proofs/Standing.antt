@@ -10,18 +10,21 @@ use Rattle.gateway_loop.specs.declared.client.Flow.TheVariants as F
 use Rattle.gateway_loop.specs.Places.{ClientsValue, EachChanges, IsEmptied, OnlyAt, no_clients}
 use Rattle.gateway_loop.specs.Serving.{IsServed, IsServing, Past}
 use Rattle.gateway_loop.specs.Sockets.{Are}
+use Rattle.gateway_loop.specs.Telling.{NotesValue, Off, told_in}
 use Rattle.gateway_loop.proofs.Changing.{same-or-not}
 use Rattle.gateway_loop.proofs.Served.{served-leaves, served-reads, served-writes, serving-emptied, serving-moves}
+use Rattle.gateway_loop.proofs.Tellings.{last-none}
 
 module _ (holds : Form → Form → List ℕ → List ℕ → Type 0) (takes : Form → Form → List ℕ → Type 0)
     {S W : Type 0} (written gave : S → Option (List ℕ)) (sent heard : W → Option (List Outgoing)) where
-  serving-only : (w : WorldValue) (n : ℕ) (a b : List (Option (ClientValue S))) (m : W) (P : ClientValue S → ClientValue S → Type 0)
-      → IsServing holds takes written gave sent heard w a m → EachChanges (OnlyAt n P) a b
+  serving-only : (w : WorldValue) (n : ℕ) (a b : List (Option (ClientValue S))) (m : W) (n0 n1 : NotesValue)
+      (P : ClientValue S → ClientValue S → Type 0)
+      → IsServing holds takes written gave sent heard w a m n0 → n1 ≡ n0 → EachChanges (OnlyAt n P) a b
       → ((c : ℕ) (past : Past) (x y : ClientValue S) → P x y → IsServed holds takes written gave c past x
       → IsServed holds takes written gave c past y)
-      → IsServing holds takes written gave sent heard w b m
-  serving-only w n a b m P h e f =
-      serving-moves holds takes written gave sent heard w a b m (OnlyAt n P) h e
+      → IsServing holds takes written gave sent heard w b m n1
+  serving-only w n a b m n0 n1 P h same e f =
+      serving-moves holds takes written gave sent heard w a b m n0 n1 (OnlyAt n P) h same e
       (λ past c x y o s. by past c x y o s (same-or-not c n))
     where
       by : (past : Past) (c : ℕ) (x y : ClientValue S) → OnlyAt n P c x y → IsServed holds takes written gave c past x
@@ -29,30 +32,30 @@ module _ (holds : Form → Form → List ℕ → List ℕ → Type 0) (takes : F
       by past c x y o s (inl q) = f c past x y (o.changes q) s
       by past c x y o s (inr ne) = subst (IsServed holds takes written gave c past) (sym (o.same ne)) s
 
-  pub serving-writes : (w : WorldValue) (n : ℕ) (a b : List (Option (ClientValue S))) (m : W)
-      → IsServing holds takes written gave sent heard w a m → EachChanges (OnlyAt n (Writes written gave)) a b
-      → IsServing holds takes written gave sent heard w b m
-  serving-writes w n a b m h e =
-      serving-only w n a b m (Writes written gave) h e (λ c past x y. served-writes holds takes written gave c past x y)
+  pub serving-writes : (w : WorldValue) (n : ℕ) (a b : List (Option (ClientValue S))) (m : W) (n0 n1 : NotesValue)
+      → IsServing holds takes written gave sent heard w a m n0 → n1 ≡ n0 → EachChanges (OnlyAt n (Writes written gave)) a b
+      → IsServing holds takes written gave sent heard w b m n1
+  serving-writes w n a b m n0 n1 h same e =
+      serving-only w n a b m n0 n1 (Writes written gave) h same e (λ c past x y. served-writes holds takes written gave c past x y)
 
-  pub serving-reads : (w : WorldValue) (n : ℕ) (a b : List (Option (ClientValue S))) (m : W)
-      → IsServing holds takes written gave sent heard w a m → EachChanges (OnlyAt n (Reads written gave)) a b
-      → IsServing holds takes written gave sent heard w b m
-  serving-reads w n a b m h e =
-      serving-only w n a b m (Reads written gave) h e (λ c past x y. served-reads holds takes written gave c past x y)
+  pub serving-reads : (w : WorldValue) (n : ℕ) (a b : List (Option (ClientValue S))) (m : W) (n0 n1 : NotesValue)
+      → IsServing holds takes written gave sent heard w a m n0 → n1 ≡ n0 → EachChanges (OnlyAt n (Reads written gave)) a b
+      → IsServing holds takes written gave sent heard w b m n1
+  serving-reads w n a b m n0 n1 h same e =
+      serving-only w n a b m n0 n1 (Reads written gave) h same e (λ c past x y. served-reads holds takes written gave c past x y)
 
-  pub serving-leaves : (w : WorldValue) (n : ℕ) (a b : List (Option (ClientValue S))) (m : W)
-      → IsServing holds takes written gave sent heard w a m → EachChanges (OnlyAt n (Leaves written gave)) a b
-      → IsServing holds takes written gave sent heard w b m
-  serving-leaves w n a b m h e =
-      serving-only w n a b m (Leaves written gave) h e (λ c past x y. served-leaves holds takes written gave c past x y)
+  pub serving-leaves : (w : WorldValue) (n : ℕ) (a b : List (Option (ClientValue S))) (m : W) (n0 n1 : NotesValue)
+      → IsServing holds takes written gave sent heard w a m n0 → n1 ≡ n0 → EachChanges (OnlyAt n (Leaves written gave)) a b
+      → IsServing holds takes written gave sent heard w b m n1
+  serving-leaves w n a b m n0 n1 h same e =
+      serving-only w n a b m n0 n1 (Leaves written gave) h same e (λ c past x y. served-leaves holds takes written gave c past x y)
 
   -- nothing has happened yet
   pub serving-new : (rules : Rules) (w : WorldValue) (v : ClientsValue S) (m : W) → w ≡ new_world rules → v ≡ no_clients
-      → Are (sent m) [] → Are (heard m) [] → IsServing holds takes written gave sent heard w v.places m
+      → Are (sent m) [] → Are (heard m) [] → IsServing holds takes written gave sent heard w v.places m v.told
   serving-new rules w v m e none goes came =
-      subst (λ (u : WorldValue). IsServing holds takes written gave sent heard u v.places m) (sym e)
-      (subst (λ (u : ClientsValue S). IsServing holds takes written gave sent heard (new_world rules) u.places m) (sym none)
+      subst (λ (u : WorldValue). IsServing holds takes written gave sent heard u v.places m v.told) (sym e)
+      (subst (λ (u : ClientsValue S). IsServing holds takes written gave sent heard (new_world rules) u.places m u.told) (sym none)
       (record {
         past = record { inputs = []; given = [] };
         after = (refl, refl);
@@ -60,15 +63,29 @@ module _ (holds : Form → Form → List ℕ → List ℕ → Type 0) (takes : F
         each = λ c x at. absurd cc;
         goes = goes;
         came = came;
+        last = last-none [] Off refl;
       }))
 
   -- what was read is kept, or lost with its connection
-  pub serving-read : (f : Flow) (w : WorldValue) (n : ℕ) (a b : List (Option (ClientValue S))) (m : W)
-      → IsServing holds takes written gave sent heard w a m
+  pub serving-read : (f : Flow) (w : WorldValue) (n : ℕ) (a b : List (Option (ClientValue S))) (m : W) (n0 n1 : NotesValue)
+      → IsServing holds takes written gave sent heard w a m n0 → n1 ≡ n0
       → (f ≢ F.Lost → EachChanges (OnlyAt n (Reads written gave)) a b) → (f ≡ F.Lost → IsEmptied n a b)
-      → IsServing holds takes written gave sent heard w b m
-  serving-read F.On w n a b m h reads lost = serving-reads w n a b m h (reads (λ e. cc))
-  serving-read F.Later w n a b m h reads lost = serving-reads w n a b m h (reads (λ e. cc))
-  serving-read F.End w n a b m h reads lost = serving-reads w n a b m h (reads (λ e. cc))
-  serving-read F.Lost w n a b m h reads lost =
-      serving-emptied holds takes written gave sent heard w n a b m h (lost refl)
+      → IsServing holds takes written gave sent heard w b m n1
+  serving-read F.On w n a b m n0 n1 h same reads lost = serving-reads w n a b m n0 n1 h same (reads (λ e. cc))
+  serving-read F.Later w n a b m n0 n1 h same reads lost = serving-reads w n a b m n0 n1 h same (reads (λ e. cc))
+  serving-read F.End w n a b m n0 n1 h same reads lost = serving-reads w n a b m n0 n1 h same (reads (λ e. cc))
+  serving-read F.Lost w n a b m n0 n1 h same reads lost =
+      serving-emptied holds takes written gave sent heard w n a b m n0 n1 h same (lost refl)
+
+  -- what is told is looked at, and forgotten
+  pub serving-forgets : (w : WorldValue) (a : List (Option (ClientValue S))) (m : W) (n0 n1 : NotesValue)
+      → IsServing holds takes written gave sent heard w a m n0 → told_in n1 ≡ [] → IsServing holds takes written gave sent heard w a m n1
+  serving-forgets w a m n0 n1 h none = record {
+    past = h.past;
+    after = h.after;
+    numbers = h.numbers;
+    each = h.each;
+    goes = h.goes;
+    came = h.came;
+    last = last-none h.past.given n1 none;
+  }

@@ -17,9 +17,11 @@ use Rattle.gateway_loop.specs.Delivery.{AreGiven}
 use Rattle.gateway_loop.specs.Places.{EachChanges, HasUnfed, IsPiece, OnlyAt}
 use Rattle.gateway_loop.specs.Serving.{IsServing, heard_by, heard_in}
 use Rattle.gateway_loop.specs.Sockets.{Are, Grown}
+use Rattle.gateway_loop.specs.Telling.{NotesValue, Tells}
 use Rattle.gateway_loop.proofs.Bringing.{brings-none, brings-piece, counted-none, counted-other, counted-some, serving-opens, serving-takes}
 use Rattle.gateway_loop.proofs.Changing.{not-same}
 use Rattle.gateway_loop.proofs.Growing.{are-same, grown-then}
+use Rattle.gateway_loop.proofs.Tellings.{last-same}
 
 -- a piece of what isn't an input yet
 
@@ -153,86 +155,87 @@ module _ (holds : Form → Form → List ℕ → List ℕ → Type 0) (takes : F
     {S W : Type 0} (written gave : S → Option (List ℕ)) (sent heard : W → Option (List Outgoing)) where
   -- time goes on, or a connection closes
   pub serving-passes : (i : Input) (o : Option ℕ) (out : List Emission) (w v : WorldValue)
-      (xs ys : List (Option (ClientValue S))) (m n : W)
-      → IsServing holds takes written gave sent heard w xs m → Takes holds takes i w out v
+      (xs ys : List (Option (ClientValue S))) (m n : W) (n0 n1 : NotesValue)
+      → IsServing holds takes written gave sent heard w xs m n0 → Takes holds takes i w out v
       → IsCounted i.happening o w.core v.core → IsBare i.happening → AreGiven out xs ys
-      → Grown (sent m) (sent n) (goes_in out) → Grown (heard m) (heard n) []
-      → IsServing holds takes written gave sent heard v ys n
-  serving-passes i o out w v xs ys m n h t count bare g goes quiet =
-      serving-takes holds takes written gave sent heard i out w v xs ys m n h t
+      → Grown (sent m) (sent n) (goes_in out) → Grown (heard m) (heard n) [] → Tells out n0 n1
+      → IsServing holds takes written gave sent heard v ys n n1
+  serving-passes i o out w v xs ys m n n0 n1 h t count bare g goes quiet told =
+      serving-takes holds takes written gave sent heard i out w v xs ys m n n0 n1 h t
       (counted-other i.happening o w.core v.core (bare-other i.happening bare) count)
       (brings-none i out xs ys (λ c. bare-brings i.happening c bare) g) goes
-      (subst (Grown (heard m) (heard n)) (sym (bare-heard i.happening bare)) quiet)
+      (subst (Grown (heard m) (heard n)) (sym (bare-heard i.happening bare)) quiet) told
 
   -- a client that wants a connection is turned away
   pub serving-turned : (i : Input) (o : Option ℕ) (out : List Emission) (w v : WorldValue)
-      (xs ys : List (Option (ClientValue S))) (m n : W)
-      → IsServing holds takes written gave sent heard w xs m → Takes holds takes i w out v
+      (xs ys : List (Option (ClientValue S))) (m n : W) (n0 n1 : NotesValue)
+      → IsServing holds takes written gave sent heard w xs m n0 → Takes holds takes i w out v
       → IsCounted i.happening o w.core v.core → i.happening ≡ H.Open → o ≡ None → AreGiven out xs ys
-      → Grown (sent m) (sent n) (goes_in out) → Grown (heard m) (heard n) []
-      → IsServing holds takes written gave sent heard v ys n
-  serving-turned i o out w v xs ys m n h t count opens none g goes quiet =
-      serving-takes holds takes written gave sent heard i out w v xs ys m n h t
+      → Grown (sent m) (sent n) (goes_in out) → Grown (heard m) (heard n) [] → Tells out n0 n1
+      → IsServing holds takes written gave sent heard v ys n n1
+  serving-turned i o out w v xs ys m n n0 n1 h t count opens none g goes quiet told =
+      serving-takes holds takes written gave sent heard i out w v xs ys m n n0 n1 h t
       (counted-none i.happening o w.core v.core none count)
       (brings-none i out xs ys (λ c. subst (λ (x : Happening). brought_by c x ≡ []) (sym opens) refl) g) goes
-      (subst (Grown (heard m) (heard n)) (subst (λ (x : Happening). [] ≡ heard_by x) (sym opens) refl) quiet)
+      (subst (Grown (heard m) (heard n)) (subst (λ (x : Happening). [] ≡ heard_by x) (sym opens) refl) quiet) told
 
   -- .. or gets one
   pub serving-admits : (i : Input) (o : Option ℕ) (k : ℕ) (out : List Emission) (w v : WorldValue)
-      (xs zs ys : List (Option (ClientValue S))) (m n : W) (s : S)
-      → IsServing holds takes written gave sent heard w xs m → Takes holds takes i w out v
+      (xs zs ys : List (Option (ClientValue S))) (m n : W) (s : S) (n0 n1 : NotesValue)
+      → IsServing holds takes written gave sent heard w xs m n0 → Takes holds takes i w out v
       → IsCounted i.happening o w.core v.core → i.happening ≡ H.Open → o ≡ Some k → AreGiven out xs zs
       → ys ≡ zs ++ Some (unserved s) ∷ [] → Are (written s) [] → Are (gave s) []
-      → Grown (sent m) (sent n) (goes_in out) → Grown (heard m) (heard n) []
-      → IsServing holds takes written gave sent heard v ys n
-  serving-admits i o k out w v xs zs ys m n s h t count opens some g e wrote read goes quiet =
-      serving-opens holds takes written gave sent heard i out w v xs zs ys m n s h t opens
+      → Grown (sent m) (sent n) (goes_in out) → Grown (heard m) (heard n) [] → Tells out n0 n1
+      → IsServing holds takes written gave sent heard v ys n n1
+  serving-admits i o k out w v xs zs ys m n s n0 n1 h t count opens some g e wrote read goes quiet told =
+      serving-opens holds takes written gave sent heard i out w v xs zs ys m n s n0 n1 h t opens
       (counted-some i.happening o k w.core v.core some count) g e wrote read goes
-      (subst (Grown (heard m) (heard n)) (subst (λ (x : Happening). [] ≡ heard_by x) (sym opens) refl) quiet)
+      (subst (Grown (heard m) (heard n)) (subst (λ (x : Happening). [] ≡ heard_by x) (sym opens) refl) quiet) told
 
   -- no datagram came in
-  pub serving-waits : (w : WorldValue) (xs : List (Option (ClientValue S))) (m n : W)
-      → IsServing holds takes written gave sent heard w xs m
-      → Grown (sent m) (sent n) [] → Grown (heard m) (heard n) []
-      → IsServing holds takes written gave sent heard w xs n
-  serving-waits w xs m n h still quiet = record {
+  pub serving-waits : (w : WorldValue) (xs : List (Option (ClientValue S))) (m n : W) (n0 n1 : NotesValue)
+      → IsServing holds takes written gave sent heard w xs m n0
+      → Grown (sent m) (sent n) [] → Grown (heard m) (heard n) [] → n1 ≡ n0
+      → IsServing holds takes written gave sent heard w xs n n1
+  serving-waits w xs m n n0 n1 h still quiet same = record {
     past = h.past;
     after = h.after;
     numbers = h.numbers;
     each = h.each;
     goes = are-same (sent m) (sent n) (goes_in h.past.given) h.goes still;
     came = are-same (heard m) (heard n) (heard_in h.past.inputs) h.came quiet;
+    last = last-same h.past.given n0 n1 same h.last;
   }
 
   -- a datagram came in
   pub serving-hears : (i : Input) (o : Option ℕ) (out : List Emission) (w v : WorldValue)
-      (xs ys : List (Option (ClientValue S))) (m k n : W) (d : Outgoing)
-      → IsServing holds takes written gave sent heard w xs m → Takes holds takes i w out v
+      (xs ys : List (Option (ClientValue S))) (m k n : W) (d : Outgoing) (n0 n1 : NotesValue)
+      → IsServing holds takes written gave sent heard w xs m n0 → Takes holds takes i w out v
       → IsCounted i.happening o w.core v.core → BringsDatagram d i.happening → AreGiven out xs ys
       → Grown (sent m) (sent k) [] → Grown (sent k) (sent n) (goes_in out)
-      → Grown (heard m) (heard k) (d ∷ []) → Grown (heard k) (heard n) []
-      → IsServing holds takes written gave sent heard v ys n
-  serving-hears i o out w v xs ys m k n d h t count brings g still goes came quiet =
-      serving-takes holds takes written gave sent heard i out w v xs ys m n h t
+      → Grown (heard m) (heard k) (d ∷ []) → Grown (heard k) (heard n) [] → Tells out n0 n1
+      → IsServing holds takes written gave sent heard v ys n n1
+  serving-hears i o out w v xs ys m k n d n0 n1 h t count brings g still goes came quiet told =
+      serving-takes holds takes written gave sent heard i out w v xs ys m n n0 n1 h t
       (counted-other i.happening o w.core v.core (datagram-other i.happening d brings) count)
       (brings-none i out xs ys (λ c. datagram-brings i.happening d c brings) g)
       (grown-then (sent m) (sent k) (sent n) [] (goes_in out) still goes)
       (subst (Grown (heard m) (heard n)) (sym (datagram-heard i.happening d brings))
-      (grown-then (heard m) (heard k) (heard n) (d ∷ []) [] came quiet))
+      (grown-then (heard m) (heard k) (heard n) (d ∷ []) [] came quiet)) told
 
   -- what was read of a connection
   pub serving-feeds : (i : Input) (o : Option ℕ) (out : List Emission) (w v : WorldValue)
-      (xs zs ys : List (Option (ClientValue S))) (m n : W) (k : ℕ) (p : List ℕ)
-      → IsServing holds takes written gave sent heard w xs m → Takes holds takes i w out v
+      (xs zs ys : List (Option (ClientValue S))) (m n : W) (k : ℕ) (p : List ℕ) (n0 n1 : NotesValue)
+      → IsServing holds takes written gave sent heard w xs m n0 → Takes holds takes i w out v
       → IsCounted i.happening o w.core v.core → BringsBytes k p i.happening
       → IsPiece (slice_get xs k) p → EachChanges (OnlyAt k (Feeds (length p))) xs zs → AreGiven out zs ys
-      → Grown (sent m) (sent n) (goes_in out) → Grown (heard m) (heard n) []
-      → IsServing holds takes written gave sent heard v ys n
-  serving-feeds i o out w v xs zs ys m n k p h t count brings piece feeds g goes quiet =
-      serving-takes holds takes written gave sent heard i out w v xs ys m n h t
+      → Grown (sent m) (sent n) (goes_in out) → Grown (heard m) (heard n) [] → Tells out n0 n1
+      → IsServing holds takes written gave sent heard v ys n n1
+  serving-feeds i o out w v xs zs ys m n k p n0 n1 h t count brings piece feeds g goes quiet told =
+      serving-takes holds takes written gave sent heard i out w v xs ys m n n0 n1 h t
       (counted-other i.happening o w.core v.core (bytes-other i.happening k p brings) count)
       (brings-piece i out xs zs ys k (length p) feeds
       (λ x at. piece-first (slice_get xs k) p x piece at
       ∙ ap (λ (t : List ℕ). t ++ drop (length p) x.unfed) (sym (bytes-own i.happening k p brings)))
       (λ c ne. bytes-none i.happening k p c brings ne) g) goes
-      (subst (Grown (heard m) (heard n)) (sym (bytes-heard i.happening k p brings)) quiet)
+      (subst (Grown (heard m) (heard n)) (sym (bytes-heard i.happening k p brings)) quiet) told

@@ -6,3 +6,4 @@ pub mod Hosts
 pub mod Places
 pub mod Serving
 pub mod Sockets
+pub mod Telling

@@ -2,14 +2,16 @@
 use Rattle.std.specs.Prelude.{◌≡◌, ◌≢◌, ◌≤◌, ⊤, ℕ, List, [], length, replicate, slice_get}
 use Rattle.std.specs.Prelude.{Option, Some, None}
 use Rattle.gateway_loop.specs.Clients.{ClientValue, BeginsUnfed}
+use Rattle.gateway_loop.specs.Telling.{NotesValue, Off}
 
--- the places; and the line of those that have something to do
+-- the places; the line of those that have something to do; and what is told of what was given out
 pub record ClientsValue (S : Type 0) : Type 0 where
   pub places : List (Option (ClientValue S))
   pub line : List ℕ
+  pub told : NotesValue
 
 abbrev pub no_clients : {S : Type 0} → ClientsValue S
-no_clients = record { places = []; line = [] }
+no_clients = record { places = []; line = []; told = Off }
 
 -- so many places that nobody has
 abbrev pub empty_places : {A : Type 0} → ℕ → List (Option A)

@@ -15,6 +15,7 @@ use Rattle.gateway_world.specs.Inputs.{TakesAll}
 use Rattle.gateway_world.specs.Worlds.{WorldValue, new_world}
 use Rattle.gateway_loop.specs.Clients.{ClientValue}
 use Rattle.gateway_loop.specs.Sockets.{Are}
+use Rattle.gateway_loop.specs.Telling.{AreLast, NotesValue}
 
 -- the bytes that are given out for a connection, in order
 abbrev pub said : ℕ → List Emission → List ℕ
@@ -74,11 +75,12 @@ module _ (holds : Form → Form → List ℕ → List ℕ → Type 0)
       pub unfed : read ≡ brought c since.inputs ++ x.unfed ++ dropped
       pub none : x.leaving ≡ false → dropped ≡ []
 
-    -- So each connection is served, by its number; and the datagrams that the wire was given to
-    -- send are those that were given out, and those that it gave were inputs.
+    -- So each connection is served, by its number; the datagrams that the wire was given to send are
+    -- those that were given out, and those that it gave were inputs; and what is told is the last of
+    -- what was given out.
     module _ {W : Type 0} (sent heard : W → Option (List Outgoing)) where
       pub record IsServing (w : WorldValue) (clients : List (Option (ClientValue S))) (wire : W)
-          : Type 0 where
+          (told : NotesValue) : Type 0 where
         pub past : Past
         pub after : IsAfter past w
         pub numbers : length clients ≡ w.core.state.opened
@@ -86,3 +88,4 @@ module _ (holds : Form → Form → List ℕ → List ℕ → Type 0)
             (c : ℕ) (x : ClientValue S) → slice_get clients c ≡ Some (Some x) → IsServed c past x
         pub goes : Are (sent wire) (goes_in past.given)
         pub came : Are (heard wire) (heard_in past.inputs)
+        pub last : AreLast past.given told

@@ -1,7 +1,8 @@
 //! The connection of a client.
 
-ghost use Rattle.std.specs.Prelude.{◌≡◌, ◌≢◌, ◌≤◌, ◌<◌, ◌++◌, [], true, length, drop, OnOk};
+ghost use Rattle.std.specs.Prelude.{◌≡◌, ◌≢◌, ◌≤◌, ◌<◌, ◌++◌, [], true, false, length, drop, OnOk};
 ghost use Rattle.gateway_loop.specs.Clients.{kept, unserved, BeginsUnfed, Leaves, Reads, Writes};
+ghost use Rattle.gateway_loop.specs.Telling.{head_len};
 
 use crate::sockets::{Moved, Stream};
 use crate::stage::Stage;
@@ -272,6 +273,7 @@ impl<S: Stream> Client<S> {
 pub(crate) fn piece_len(bytes: &[u8]) -> usize
     ensures fits { result ≤ length bytes.now }
     ensures some { 0 < length bytes.now → 0 < result }
+    ensures head { result ≡ head_len false bytes.now }
 {
     let mut blank = false;
     'each: for (i, byte) in bytes.iter().enumerate() {

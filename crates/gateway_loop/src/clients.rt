@@ -1,10 +1,12 @@
 //! The connections by their numbers, and the line of those that have something to do.
 
 ghost use Rattle.std.specs.Prelude.{◌≡◌, ◌≢◌, ◌⊎◌, ◌<◌, ◌≤◌, ◌+◌, ◌++◌, ◌∷◌, [], true, None, Some};
-ghost use Rattle.std.specs.Prelude.{length, take, slice_get, IfSome, OnOk};
+ghost use Rattle.std.specs.Prelude.{length, map, take, slice_get, IfSome, OnOk};
+ghost use Rattle.gateway_model.specs.Emissions.{Says};
 ghost use Rattle.gateway_loop.specs.Clients.{unserved, Feeds, Gets, Leaves, Reads, Writes};
 ghost use Rattle.gateway_loop.specs.Places.{empty_places, no_clients, EachChanges, HasUnfed};
 ghost use Rattle.gateway_loop.specs.Places.{IsEmptied, IsPiece, IsWritten, OnlyAt};
+ghost use Rattle.gateway_loop.specs.Telling.{forgotten, telling, told_in, Kept, Tells};
 
 use crate::client::{Client, Flow};
 use crate::sockets::Stream;
@@ -40,6 +42,7 @@ impl<S> Model for Clients<S> {
     ghost view = { λ c. record {
       places = empty_places c.past ++ c.places.items;
       line = c.line.items;
+      told = c.notes;
     } };
 }
 
@@ -60,19 +63,21 @@ impl<S: Stream + Drop> Clients<S> {
 
     /// Keeps from now on what tells of the bytes that are given out, until it is forgotten.
     pub fn keep_told(&mut self)
-        ensures { self.new ≡ self.old }
+        ensures { self.new ≡ record self.old { told = Kept [] } }
     {
         self.notes.begin();
     }
 
     /// What tells of the bytes that were given out and aren't forgotten, in their order.
-    pub fn told(&self) -> &[Told] {
+    pub fn told(&self) -> &[Told]
+        ensures { map telling result.now ≡ told_in self.now.told }
+    {
         self.notes.all()
     }
 
     /// Forgets it.
     pub fn forget_told(&mut self)
-        ensures { self.new ≡ self.old }
+        ensures { self.new ≡ record self.old { told = forgotten self.old.told } }
     {
         self.notes.forget();
     }
@@ -127,6 +132,7 @@ impl<S: Stream + Drop> Clients<S> {
     pub fn line_up(&mut self, number: u32) -> Result<(), AllocError>
         ensures places { self.new.places ≡ self.old.places }
         ensures line { OnOk result (self.new.line ≡ self.old.line ++ number ∷ []) }
+        ensures told { self.new.told ≡ self.old.told }
     {
         self.line.push_back(number)?;
         Ok(())
@@ -141,7 +147,8 @@ impl<S: Stream + Drop> Clients<S> {
 
     /// Whose turn is next.
     pub fn next(&mut self) -> Option<u32>
-        ensures { self.new.places ≡ self.old.places }
+        ensures places { self.new.places ≡ self.old.places }
+        ensures told { self.new.told ≡ self.old.told }
     {
         self.line.pop_front()
     }
@@ -151,6 +158,7 @@ impl<S: Stream + Drop> Clients<S> {
         ensures places { self.new.places ≡ self.old.places }
         ensures line { OnOk result (number < length self.old.places
             → self.new.line ≡ self.old.line ++ number ∷ []) }
+        ensures told { self.new.told ≡ self.old.told }
     {
         if number as usize >= self.count() {
             return Ok(());
@@ -181,6 +189,7 @@ impl<S: Stream + Drop> Clients<S> {
         ensures gets { OnOk result
             (EachChanges (OnlyAt number (Gets bytes.items)) self.old.places self.new.places) }
         ensures line { self.new.line ≡ self.old.line }
+        ensures told { Tells (Says number bytes.items ∷ []) self.old.told self.new.told }
     {
         self.notes.add(number, bytes.as_slice());
         let Some(place) = place_of(number, self.past, self.places.len()) else {
@@ -198,6 +207,7 @@ impl<S: Stream + Drop> Clients<S> {
             self.old.places self.new.places }
         ensures done { result ≡ Flow.On → IsWritten (slice_get self.new.places number) }
         ensures line { self.new.line ≡ self.old.line }
+        ensures told { self.new.told ≡ self.old.told }
     {
         let Some(place) = place_of(number, self.past, self.places.len()) else {
             return Flow::Later;
@@ -216,6 +226,7 @@ impl<S: Stream + Drop> Clients<S> {
         ensures lost { result ≡ Flow.Lost
             → IsEmptied number self.old.places self.new.places }
         ensures line { self.new.line ≡ self.old.line }
+        ensures told { self.new.told ≡ self.old.told }
         ensures length { length buffer.new ≡ length buffer.old }
     {
         let Some(place) = place_of(number, self.past, self.places.len()) else {
@@ -239,6 +250,7 @@ impl<S: Stream + Drop> Clients<S> {
         ensures leaves { EachChanges (OnlyAt number (Leaves S.written S.gave))
             self.old.places self.new.places }
         ensures line { self.new.line ≡ self.old.line }
+        ensures told { self.new.told ≡ self.old.told }
     {
         self.count_out(number);
         let Some(place) = place_of(number, self.past, self.places.len()) else {
@@ -316,6 +328,7 @@ impl<S: Stream + Drop> Clients<S> {
         ensures feeds { EachChanges (OnlyAt number (Feeds count))
             self.old.places self.new.places }
         ensures line { self.new.line ≡ self.old.line }
+        ensures told { self.new.told ≡ self.old.told }
     {
         let Some(place) = place_of(number, self.past, self.places.len()) else {
             return;
@@ -329,6 +342,7 @@ impl<S: Stream + Drop> Clients<S> {
     pub fn remove(&mut self, number: u32)
         ensures ends { IsEmptied number self.old.places self.new.places }
         ensures line { self.new.line ≡ self.old.line }
+        ensures told { self.new.told ≡ self.old.told }
     {
         self.count_out(number);
         if let Some(place) = place_of(number, self.past, self.places.len()) {

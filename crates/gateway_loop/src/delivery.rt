@@ -5,6 +5,7 @@ ghost use Rattle.gateway_model.specs.Emissions.{emission_of, emissions};
 ghost use Rattle.gateway_model.specs.Going.{goes_by, goes_in};
 ghost use Rattle.gateway_loop.specs.Delivery.{AreGiven, readied, readied_by};
 ghost use Rattle.gateway_loop.specs.Sockets.{Grown};
+ghost use Rattle.gateway_loop.specs.Telling.{Tells};
 
 use crate::clients::Clients;
 use crate::sockets::{Stream, Wire};
@@ -23,6 +24,8 @@ pub fn deliver<R: Relation, S: Stream + Drop, W: Wire>(
         (AreGiven (emissions outputs.items) clients.old.places clients.new.places) }
     ensures line { OnOk result
         (clients.new.line ≡ clients.old.line ++ readied (emissions outputs.items)) }
+    ensures told { OnOk result
+        (Tells (emissions outputs.items) clients.old.told clients.new.told) }
     ensures wire { OnOk result (Grown (W.sent wire.old) (W.sent wire.new)
         (goes_in (emissions outputs.items))) }
     ensures quiet { OnOk result (Grown (W.heard wire.old) (W.heard wire.new) []) }
@@ -43,6 +46,8 @@ fn deliver_one<R: Relation, S: Stream + Drop, W: Wire>(
         (AreGiven (emission_of output ∷ []) clients.old.places clients.new.places) }
     ensures line { OnOk result
         (clients.new.line ≡ clients.old.line ++ readied_by (emission_of output)) }
+    ensures told { OnOk result
+        (Tells (emission_of output ∷ []) clients.old.told clients.new.told) }
     ensures wire { OnOk result (Grown (W.sent wire.old) (W.sent wire.new)
         (goes_by (emission_of output))) }
     ensures quiet { OnOk result (Grown (W.heard wire.old) (W.heard wire.new) []) }

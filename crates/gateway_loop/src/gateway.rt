@@ -37,7 +37,8 @@ impl<R: Relation, S: Stream, W: Wire> Model for Gateway<R, S, W> {
     } };
 
     ghost invariant = { λ g.
-        IsServing R.holds R.takes S.written S.gave W.sent W.heard g.world g.clients.places g.wire };
+        IsServing R.holds R.takes S.written S.gave W.sent W.heard g.world g.clients.places g.wire
+        g.clients.told };
 }
 
 impl<R: Relation, S: Stream + Drop, W: Wire + Drop> Gateway<R, S, W> {
@@ -89,7 +90,7 @@ impl<R: Relation, S: Stream + Drop, W: Wire + Drop> Gateway<R, S, W> {
     /// What every gateway keeps. It does nothing.
     pub fn serves(&self)
         ensures { IsServing R.holds R.takes S.written S.gave W.sent W.heard
-            self.now.world self.now.clients.places self.now.wire }
+            self.now.world self.now.clients.places self.now.wire self.now.clients.told }
     {
         let _world = &self.world;
     }

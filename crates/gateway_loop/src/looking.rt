@@ -1,6 +1,7 @@
-//! What the loop shows to who looks at it or notes what it does. Nothing changes by that.
+//! What the loop shows to who looks at it or notes what it does. Nothing else changes by that.
 
-ghost use Rattle.std.specs.Prelude.{◌≡◌, length};
+ghost use Rattle.std.specs.Prelude.{◌≡◌, [], length, map};
+ghost use Rattle.gateway_loop.specs.Telling.{forgotten, telling, told_in, Kept};
 
 use crate::gateway::Gateway;
 use crate::sockets::{Stream, Wire};
@@ -12,14 +13,16 @@ use transformers::Relation;
 impl<R: Relation, S: Stream + Drop, W: Wire + Drop> Gateway<R, S, W> {
     /// Keeps from now on what tells of the bytes that are given out, until it is forgotten.
     pub fn keep_told(&mut self)
-        ensures { self.new ≡ self.old }
+        ensures { self.new ≡ record self.old
+            { clients = record self.old.clients { told = Kept [] } } }
     {
         self.clients.keep_told();
     }
 
     /// Forgets what tells of them so far.
     pub fn forget_told(&mut self)
-        ensures { self.new ≡ self.old }
+        ensures { self.new ≡ record self.old
+            { clients = record self.old.clients { told = forgotten self.old.clients.told } } }
     {
         self.clients.forget_told();
     }
@@ -49,19 +52,25 @@ impl<R: Relation, S: Stream + Drop, W: Wire + Drop> Loop<R, S, W> {
 
     /// Keeps from now on what tells of the bytes that are given out, until it is forgotten.
     pub fn keep_told(&mut self)
-        ensures { self.new.gateway ≡ self.old.gateway }
+        ensures { self.new.gateway ≡ record self.old.gateway
+            { clients = record self.old.gateway.clients { told = Kept [] } } }
     {
         self.gateway.keep_told();
     }
 
     /// What tells of the bytes that were given out and isn't forgotten, in their order.
-    pub fn told(&self) -> &[Told] {
+    pub fn told(&self) -> &[Told]
+        ensures { map telling result.now ≡ told_in self.now.gateway.clients.told }
+    {
         self.gateway.clients.told()
     }
 
     /// Forgets it.
     pub fn forget_told(&mut self)
-        ensures { self.new.gateway ≡ self.old.gateway }
+        ensures { self.new.gateway ≡ record self.old.gateway {
+          clients =
+              record self.old.gateway.clients { told = forgotten self.old.gateway.clients.told };
+        } }
     {
         self.gateway.forget_told();
     }

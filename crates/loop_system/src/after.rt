@@ -35,7 +35,7 @@ impl<'a, A: Archive<Profile>> After<'a, A> {
 
     /// Has the loop keep what it is to look at.
     pub fn begin(&self, it: &mut Loop<Profile, Client, Devices>)
-        ensures { it.new.gateway ≡ it.old.gateway }
+        ensures { it.new.gateway.world ≡ it.old.gateway.world }
     {
         if self.notes.wants_told() {
             it.keep_told();
@@ -49,7 +49,7 @@ impl<'a, A: Archive<Profile>> After<'a, A> {
         it: &mut Loop<Profile, Client, Devices>,
         arrivals: &[Arrival],
     )
-        ensures { it.new.gateway ≡ it.old.gateway }
+        ensures { it.new.gateway.world ≡ it.old.gateway.world }
     {
         self.shelf.look(rt, it.is_turning());
         let journal = it.take_journal();

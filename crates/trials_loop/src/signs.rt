@@ -1,5 +1,6 @@
 //! Whatever signs come, each client gets the answers to what it asked, and no other bytes.
 
+ghost use Rattle.std.specs.Prelude.{◌≡◌};
 ghost use Rattle.transformers.specs.Suits.{Suits};
 
 use crate::chance::Dice;
@@ -78,11 +79,18 @@ fn goes<'a, R: Relation>(
             Ok(it) => it,
             Err(_) => return false,
         };
-        host.hear_of(it.told());
-        it.forget_told();
+        look(&mut it, host);
     }
     host.stop();
     true
+}
+
+/// Hears what the loop tells of, which is forgotten then.
+fn look<'a, R: Relation>(it: &mut Loop<R, Tape<'a>, Devices<'a>>, host: &mut Chance<'a>)
+    ensures { it.new.gateway.world ≡ it.old.gateway.world }
+{
+    host.hear_of(it.told());
+    it.forget_told();
 }
 
 /// Whether each client is served, in a run by chance.

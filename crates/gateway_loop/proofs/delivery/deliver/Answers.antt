@@ -4,6 +4,7 @@ use Rattle.std.proofs.lemmas.List.{append-nil}
 use Rattle.std.specs.Vec.Iter.{into_iter_items}
 use Rattle.gateway_loop.proofs.Giving.{given-more, given-start, line-more, sent-more}
 use Rattle.gateway_loop.proofs.Growing.{grown-none, grown-then}
+use Rattle.gateway_loop.proofs.Tellings.{tells-more, tells-start}
 use Rattle.gateway_loop.proofs.delivery.deliver.Goals as goal
 
 pub each-init : goal.each-init
@@ -13,6 +14,7 @@ each-init g c = (
   sym (append-nil c.args.clients.now.line),
   grown-none _,
   grown-none _,
+  tells-start c.args.clients.now.told,
   search rules,
 )
 
@@ -27,7 +29,8 @@ each-preserved g c =
       line-more at.yielded o _ _ _ at.invariant.2 c.in_ok-deliver_one.ensures.line,
       sent-more at.yielded o g.W.Wire.sent _ _ _ at.invariant.3 c.in_ok-deliver_one.ensures.wire,
       grown-then _ _ _ [] [] at.invariant.4 c.in_ok-deliver_one.ensures.quiet,
-      let was = at.invariant.5 in
+      tells-more at.yielded o _ _ _ at.invariant.5 c.in_ok-deliver_one.ensures.told,
+      let was = at.invariant.6 in
           let gone = c.in-Some.ensures.steps.1 in
           let short = ap length steps in
           omega arith,

@@ -6,6 +6,7 @@ use Rattle.gateway_model.specs.Emissions.{emissions}
 use Rattle.gateway_model.specs.Going.{goes_in}
 use Rattle.gateway_loop.specs.Delivery.{AreGiven, readied}
 use Rattle.gateway_loop.specs.Sockets.{Grown}
+use Rattle.gateway_loop.specs.Telling.{Tells}
 use Rattle.gateway_loop.proofs.delivery.deliver.Given as goal
 
 abbrev pub invariant-each : goal.invariant-each
@@ -15,4 +16,5 @@ invariant-each g l =
     × (l.clients.line ≡ l.initial.clients.line ++ readied (emissions l.yielded))
     × Grown (g.W.Wire.sent l.initial.wire) (g.W.Wire.sent l.wire) (goes_in (emissions l.yielded))
     × Grown (g.W.Wire.heard l.initial.wire) (g.W.Wire.heard l.wire) []
+    × Tells (emissions l.yielded) l.initial.clients.told l.clients.told
     × (into_iter_len l.output-iterator ≡ length (into_iter_items l.output-iterator))

@@ -9,8 +9,9 @@ pub invariant_of-result : goal.invariant_of-result
 invariant_of-result g c =
     serving-passes g.R.Relation.holds g.R.Relation.takes g.S.Stream.written g.S.Stream.gave g.W.Wire.sent g.W.Wire.heard
     (record { moment = c.args.when.moment; word = c.args.when.word; happening = H.Close c.args.number }) c.in_ok-world.field-0.opened (emissions c.advance.new.outputs.items)
-    c.self.inside.world c.in_ok-world.field-0.world c.remove.new.self.places c.deliver.new.clients.places c.self.inside.wire c.deliver.new.wire
+    c.self.inside.world c.in_ok-world.field-0.world c.remove.new.self.places c.deliver.new.clients.places c.self.inside.wire c.deliver.new.wire c.remove.new.self.told c.deliver.new.clients.told
     (serving-emptied g.R.Relation.holds g.R.Relation.takes g.S.Stream.written g.S.Stream.gave g.W.Wire.sent g.W.Wire.heard
-    c.self.inside.world c.args.number c.self.inside.clients.places c.remove.new.self.places c.self.inside.wire c.self.invariant c.remove.ensures.ends)
+    c.self.inside.world c.args.number c.self.inside.clients.places c.remove.new.self.places c.self.inside.wire
+    c.self.inside.clients.told c.remove.new.self.told c.self.invariant c.remove.ensures.told c.remove.ensures.ends)
     c.in_ok-world.ensures.takes c.in_ok-world.ensures.opened tt
-    c.in_ok-deliver.ensures.given c.in_ok-deliver.ensures.wire c.in_ok-deliver.ensures.quiet
+    c.in_ok-deliver.ensures.given c.in_ok-deliver.ensures.wire c.in_ok-deliver.ensures.quiet c.in_ok-deliver.ensures.told

@@ -5,6 +5,7 @@ use Rattle.gateway_model.specs.Emissions.{emissions}
 use Rattle.gateway_world.proofs.Running.{takes-rules}
 use Rattle.std.specs.Prelude.{slice_get}
 use Rattle.gateway_loop.proofs.Taking.{piece-unfed, serving-feeds}
+use Rattle.gateway_loop.proofs.Tellings.{tells-from}
 use Rattle.gateway_loop.proofs.gateway.Gateway.feed.Goals as goal
 
 pub feed-requires : goal.feed-requires
@@ -15,9 +16,11 @@ invariant_of-result g c =
     serving-feeds g.R.Relation.holds g.R.Relation.takes g.S.Stream.written g.S.Stream.gave g.W.Wire.sent g.W.Wire.heard
     (record { moment = c.args.when.moment; word = c.args.when.word; happening = H.Bytes c.args.number c.piece-piece.result }) c.in_ok-world.field-0.opened (emissions c.advance.new.outputs.items)
     c.self.inside.world c.in_ok-world.field-0.world c.self.inside.clients.places c.feed.new.self.places c.deliver.new.clients.places c.self.inside.wire c.deliver.new.wire
-    c.args.number c.piece-piece.result.now
+    c.args.number c.piece-piece.result.now c.self.inside.clients.told c.deliver.new.clients.told
     c.self.invariant c.in_ok-world.ensures.takes c.in_ok-world.ensures.opened (refl, refl) c.piece-piece.ensures c.feed.ensures.feeds
     c.in_ok-deliver.ensures.given c.in_ok-deliver.ensures.wire c.in_ok-deliver.ensures.quiet
+    (tells-from (emissions c.advance.new.outputs.items) c.self.inside.clients.told c.feed.new.self.told c.deliver.new.clients.told
+    c.feed.ensures.told c.in_ok-deliver.ensures.told)
 
 pub returns : goal.returns
 returns g c = record {

@@ -6,4 +6,4 @@ pub invariant_of-self : goal.invariant_of-self
 invariant_of-self g c =
     serving-leaves g.R.Relation.holds g.R.Relation.takes g.S.Stream.written g.S.Stream.gave g.W.Wire.sent g.W.Wire.heard
     c.self.inside.world c.args.number c.self.inside.clients.places c.leave.new.self.places c.self.inside.wire
-    c.self.invariant c.leave.ensures.leaves
+    c.self.inside.clients.told c.leave.new.self.told c.self.invariant c.leave.ensures.told c.leave.ensures.leaves

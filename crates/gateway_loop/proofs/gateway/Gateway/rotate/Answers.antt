@@ -11,7 +11,7 @@ pub invariant_of-gateway : goal.invariant_of-gateway
 invariant_of-gateway g c =
     serving-rotates g.R.Relation.holds g.R.Relation.takes g.S.Stream.written g.S.Stream.gave g.W.Wire.sent g.W.Wire.heard
     (rotation_at c.args.when) c.in_ok-world.field-0.opened (emissions c.advance.new.outputs.items)
-    c.self.inside.world c.in_ok-world.field-0.world c.self.inside.clients.places c.self.inside.wire
+    c.self.inside.world c.in_ok-world.field-0.world c.self.inside.clients.places c.self.inside.wire c.self.inside.clients.told
     c.self.invariant c.in_ok-world.ensures.takes c.in_ok-world.ensures.opened refl
 
 pub returns-clause-turns : goal.returns-clause-turns

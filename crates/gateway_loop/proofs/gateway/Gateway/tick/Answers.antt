@@ -8,6 +8,6 @@ pub invariant_of-result : goal.invariant_of-result
 invariant_of-result g c =
     serving-passes g.R.Relation.holds g.R.Relation.takes g.S.Stream.written g.S.Stream.gave g.W.Wire.sent g.W.Wire.heard
     (record { moment = c.args.when.moment; word = c.args.when.word; happening = H.Tick }) c.in_ok-world.field-0.opened (emissions c.advance.new.outputs.items)
-    c.self.inside.world c.in_ok-world.field-0.world c.self.inside.clients.places c.deliver.new.clients.places c.self.inside.wire c.deliver.new.wire
+    c.self.inside.world c.in_ok-world.field-0.world c.self.inside.clients.places c.deliver.new.clients.places c.self.inside.wire c.deliver.new.wire c.self.inside.clients.told c.deliver.new.clients.told
     c.self.invariant c.in_ok-world.ensures.takes c.in_ok-world.ensures.opened tt
-    c.in_ok-deliver.ensures.given c.in_ok-deliver.ensures.wire c.in_ok-deliver.ensures.quiet
+    c.in_ok-deliver.ensures.given c.in_ok-deliver.ensures.wire c.in_ok-deliver.ensures.quiet c.in_ok-deliver.ensures.told
