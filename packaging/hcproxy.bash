@@ -6,7 +6,7 @@ _hcproxy() {
     words="demo serve replay draw story check origin --help --version"
   else
     case $command in
-      serve) if [ "$before" = --journals ]; then files=1; elif [ "$before" != --idle ] && [ "$before" != --status ]; then words="--journals --access --idle --status --status-bodies --loop" files=1; fi ;;
+      serve) if [ "$before" = --journals ]; then files=1; elif [ "$before" != --idle ] && [ "$before" != --status ]; then words="--journals --access --idle --status --status-bodies --loop --threads" files=1; fi ;;
       origin | story) [ "$COMP_CWORD" = 2 ] && files=1 ;;
       check) if [ "$COMP_CWORD" = 2 ]; then words=--origin files=1; elif [ "$before" = --origin ]; then files=1; fi ;;
       replay) if [ "$before" = --settings ]; then files=1; else words="--journal --settings"; fi ;;

@@ -56,7 +56,10 @@ pub fn command_of(words: &[String]) -> Result<Command<'_>, Hint<'static>> {
             Some(peer) => Ok(Command::Demo { listen: Some(peer) }),
             None => Err(Hint::SeeHelp),
         },
-        ("serve", rest) => serve_of(rest),
+        ("serve", rest) => match serving_of(rest) {
+            Some(serving) => Ok(Command::Serve(serving)),
+            None => Err(Hint::SeeHelp),
+        },
         ("origin", []) => Ok(Command::Origin { settings: None }),
         ("origin", [file]) => Ok(Command::Origin {
             settings: Some(file.as_str()),
@@ -69,17 +72,6 @@ pub fn command_of(words: &[String]) -> Result<Command<'_>, Hint<'static>> {
         ("replay", rest) => replay_of(rest).ok_or(Hint::SeeHelp),
         ("check", rest) => check_of(rest).ok_or(Hint::SeeHelp),
         _ => Err(Hint::SeeHelp),
-    }
-}
-
-/// What the words after `serve` ask for.
-fn serve_of(words: &[String]) -> Result<Command<'_>, Hint<'static>> {
-    let Some(serving) = serving_of(words) else {
-        return Err(Hint::SeeHelp);
-    };
-    match serving.not_in_loop() {
-        Some(word) => Err(Hint::NotInLoop(word)),
-        None => Ok(Command::Serve(serving)),
     }
 }
 

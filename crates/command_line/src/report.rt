@@ -96,8 +96,6 @@ impl fmt::Display for Failure {
 #[derive(Clone, Copy)]
 pub enum Hint<'a> {
     SeeHelp,
-    /// This word doesn't go with `--loop`.
-    NotInLoop(&'static str),
     Because(Reason),
     /// There is no file of that path.
     NoFile(&'a str),
@@ -113,7 +111,6 @@ impl fmt::Display for Hint<'_> {
     fn fmt<W: fmt::Write>(&self, f: &mut fmt::Formatter<W>) -> fmt::Result {
         match self {
             Hint::SeeHelp => f.write_str("hcproxy: --help says more"),
-            Hint::NotInLoop(word) => write!(f, "hcproxy: {word} doesn't go with --loop yet"),
             Hint::Because(reason) => write!(f, "hcproxy: {reason}"),
             Hint::NoFile(path) => write!(f, "hcproxy: {path}: no such file"),
             Hint::File(path, fault) => write!(f, "hcproxy: {path}: {fault}"),

@@ -21,18 +21,8 @@ pub struct Serving<'a> {
     pub status: Option<Peer>,
     /// what datagrams carry is shown there too
     pub bodies: bool,
-    /// it runs in one thread, in place of one for each connection
+    /// one loop serves all connections, in place of a thread for each
     pub looped: bool,
-}
-
-impl Serving<'_> {
-    /// A word that doesn't go with `--loop`, where both were said.
-    pub fn not_in_loop(self) -> Option<&'static str> {
-        if !self.looped {
-            return None;
-        }
-        self.status.and(Some("--status"))
-    }
 }
 
 /// A word that says what the next one is.
@@ -41,6 +31,15 @@ enum Flag {
     Journals,
     Idle,
     Status,
+}
+
+/// How the gateway serves its connections.
+#[derive(Clone, Copy, PartialEq, Eq)]
+enum Form {
+    /// all of them in one loop
+    Loop,
+    /// each in a thread of its own
+    Threads,
 }
 
 /// The words so far.
@@ -52,7 +51,8 @@ struct Words<'a> {
     idle: Option<u64>,
     status: Option<Peer>,
     bodies: bool,
-    looped: bool,
+    /// how it is to run, where that is said
+    form: Option<Form>,
     /// what the next word is
     flag: Option<Flag>,
 }
@@ -71,13 +71,12 @@ impl<'a> Words<'a> {
             (None, "--status") if self.status.is_none() => words.flag = Some(Flag::Status),
             (None, "--access") if !self.access => words.access = true,
             (None, "--status-bodies") if !self.bodies => words.bodies = true,
-            (None, "--loop") if !self.looped => words.looped = true,
-            (
-                None,
-                "--journals" | "--idle" | "--status" | "--status-bodies" | "--access" | "--loop",
-            ) => {
+            (None, "--loop") if self.form.is_none() => words.form = Some(Form::Loop),
+            (None, "--threads") if self.form.is_none() => words.form = Some(Form::Threads),
+            (None, "--journals" | "--idle" | "--status" | "--status-bodies" | "--access") => {
                 return None;
             }
+            (None, "--loop" | "--threads") => return None,
             (None, _) if self.settings.is_none() => words.settings = Some(word),
             (None, _) => return None,
         }
@@ -92,7 +91,7 @@ fn seconds_of(word: &str) -> Option<u64> {
 }
 
 /// What the words after `serve` ask for: `[FILE] [--journals FOLDER] [--access] [--idle SECONDS]
-/// [--status ADDRESS:PORT [--status-bodies]] [--loop]`, in any order.
+/// [--status ADDRESS:PORT [--status-bodies]] [--loop | --threads]`, in any order.
 pub fn serving_of(words: &[String]) -> Option<Serving<'_>> {
     let mut so_far = Words {
         settings: None,
@@ -101,7 +100,7 @@ pub fn serving_of(words: &[String]) -> Option<Serving<'_>> {
         idle: None,
         status: None,
         bodies: false,
-        looped: false,
+        form: None,
         flag: None,
     };
     'each: for word in words {
@@ -117,6 +116,6 @@ pub fn serving_of(words: &[String]) -> Option<Serving<'_>> {
         idle: so_far.idle,
         status: so_far.status,
         bodies: so_far.bodies,
-        looped: so_far.looped,
+        looped: so_far.form == Some(Form::Loop),
     })
 }

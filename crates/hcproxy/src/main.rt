@@ -25,7 +25,7 @@ use log::Log;
 use looping::serve_loop;
 use proxy_settings::Part;
 use replaying::replay_input;
-use serving::serve;
+use serving::serve_threads;
 use std::net::{Net, TcpListener, TcpStream};
 use std::process::ExitCode;
 use std::random::RandomSource;
@@ -55,8 +55,8 @@ A gateway from HTTP/1.1 to CoAP.
                           Prometheus, /health, /journal. Whoever reaches the address may look
   serve FILE --status ADDRESS:PORT --status-bodies
                           .. and its journal there with what datagrams carry, which is hidden without it
-  serve FILE --loop       .. in one thread, in place of one for each connection. It takes all words but
-                          --status
+  serve FILE --loop       .. by one loop for all connections, in place of a thread for each. It takes
+                          the same words; --threads says that it isn't to
   replay                  runs the script on standard input through the gateway, and prints what goes out
   replay --journal        .. and then the entries of the journal
   replay --settings FILE  .. under the settings of FILE in place of those of a demonstration
@@ -131,7 +131,7 @@ fn run<
         Command::Version => printed(println!(rt; "{VERSION}")),
         Command::Demo { listen } => Err(run_demo(rt, listen)),
         Command::Serve(serving) if serving.looped => Err(serve_loop(rt, host, serving)),
-        Command::Serve(serving) => Err(serve(rt, host, serving)),
+        Command::Serve(serving) => Err(serve_threads(rt, host, serving)),
         Command::Origin { settings } => Err(serve_device(rt, settings)),
         Command::Check { part, file } => check(&rt, part, file),
         Command::Replay { journal, settings } => replay_input(rt, settings, journal),

@@ -1,4 +1,4 @@
-//! `hcproxy serve`: the gateway by the settings of a file.
+//! `hcproxy serve`: the gateway with a thread for each connection, by the settings of a file.
 
 use crate::files::serve_at;
 use crate::journals::Folder;
@@ -18,7 +18,7 @@ use uri_map::Peer;
 
 /// Runs the gateway by the settings of a file, or else by those on standard input, until a device
 /// fails. Journals go into the folder, where one is named.
-pub fn serve<
+pub fn serve_threads<
     'a,
     R: Net<Listener = TcpListener, Stream = TcpStream>
         + Threads

@@ -4,6 +4,7 @@ ghost use Rattle.std.specs.Prelude.{◌≡◌};
 
 use crate::client::Client;
 use crate::devices::Devices;
+use crate::glass::Glass;
 use crate::host::Arrival;
 use crate::notes::Notes;
 use crate::shelf::Shelf;
@@ -14,21 +15,38 @@ use log::Log;
 use route_bank::Profile;
 use std::alloc::Global;
 use std::rt::Clock;
+use std::sync::{Arc, Wait};
+use std::thread::Threads;
 
 /// What is done after each turn.
 #[derive(Drop)]
-pub struct After<'a, A: Archive<Profile>> {
-    archive: &'a A,
-    notes: Notes,
+pub struct After<'a, A: Archive<Profile> + Drop> {
+    alloc: Global,
+    archive: Arc<A>,
+    /// through which the gateway is looked at, if it is
+    glass: Option<&'a Glass>,
+    notes: Notes<'a>,
     shelf: Shelf,
 }
 
-impl<'a, A: Archive<Profile>> After<'a, A> {
-    /// Nothing was done yet. Answers are noted, where that is wanted.
-    pub fn new(alloc: Global, archive: &'a A, access: bool) -> After<'a, A> {
+impl<'a, A: Archive<Profile> + Drop + Send + Sync + 'static> After<'a, A> {
+    /// Nothing was done yet. Answers are noted, where that is wanted, and counted, where there is a
+    /// glass.
+    pub fn new(
+        alloc: Global,
+        archive: Arc<A>,
+        glass: Option<&'a Glass>,
+        access: bool,
+    ) -> After<'a, A> {
+        let watch = match glass {
+            Some(glass) => Some(&glass.watch),
+            None => None,
+        };
         After {
+            alloc,
             archive,
-            notes: Notes::new(alloc, access),
+            glass,
+            notes: Notes::new(alloc, access, watch),
             shelf: Shelf::new(),
         }
     }
@@ -42,8 +60,9 @@ impl<'a, A: Archive<Profile>> After<'a, A> {
         }
     }
 
-    /// Notes what was done in the turn, and gives the journal to the archive where it was turned over.
-    pub fn look<V: Log + Clock>(
+    /// Notes what was done in the turn, gives the journal to the archive where it was turned over,
+    /// and answers who looks.
+    pub fn look<V: Threads + Wait + Log + Clock>(
         &mut self,
         rt: &V,
         it: &mut Loop<Profile, Client, Devices>,
@@ -55,10 +74,11 @@ impl<'a, A: Archive<Profile>> After<'a, A> {
         let journal = it.take_journal();
         self.note(rt, it, arrivals, journal);
         it.forget_told();
+        self.show(rt, it);
     }
 
     /// Notes what was done in the turn, after which this journal was given out, if one was.
-    fn note<V: Log + Clock>(
+    fn note<V: Threads + Wait + Log + Clock>(
         &mut self,
         rt: &V,
         it: &Loop<Profile, Client, Devices>,
@@ -69,9 +89,21 @@ impl<'a, A: Archive<Profile>> After<'a, A> {
             Some(journal) => {
                 self.notes.look(rt, it, arrivals, &journal);
                 self.notes.begin_anew();
-                self.shelf.keep(rt, self.archive, &journal);
+                self.shelf.keep(rt, &self.archive, journal);
             }
             None => self.notes.look(rt, it, arrivals, it.core().journal()),
+        }
+    }
+
+    /// The loop ends, and the last journal that was turned over is kept before.
+    pub fn end<V: Threads>(&mut self, rt: &V) {
+        self.shelf.end(rt);
+    }
+
+    /// Answers who looks, if anybody does.
+    fn show<V: Wait>(&self, rt: &V, it: &Loop<Profile, Client, Devices>) {
+        if let Some(glass) = self.glass {
+            glass.answer(rt, self.alloc, it);
         }
     }
 }

@@ -16,6 +16,20 @@ const TRIES: usize = 1024;
 #[derive(Drop)]
 pub struct Devices {
     pub(crate) socket: UdpSocket,
+    /// how many datagrams the system took to be sent, and how many came
+    pub(crate) sent: u64,
+    pub(crate) heard: u64,
+}
+
+impl Devices {
+    /// A socket of which nothing was sent or heard.
+    pub fn new(socket: UdpSocket) -> Devices {
+        Devices {
+            socket,
+            sent: 0,
+            heard: 0,
+        }
+    }
 }
 
 impl Wire for Devices {
@@ -28,15 +42,19 @@ impl Wire for Devices {
     ghost spent = { λ d. true };
 
     fn send(&mut self, peer: Peer, bytes: &[u8]) {
-        let _ = self
-            .socket
-            .send_to(bytes, SocketAddr::new(peer.address, peer.port));
+        let to = SocketAddr::new(peer.address, peer.port);
+        if self.socket.send_to(bytes, to).is_ok() {
+            self.sent = self.sent.saturating_add(1);
+        }
     }
 
     fn receive(&mut self, buffer: &mut [u8]) -> Received {
         'each: for _ in 0..TRIES {
             match self.socket.recv_from(buffer) {
-                Ok((count, from)) => return Received::From(count, peer_at(from)),
+                Ok((count, from)) => {
+                    self.heard = self.heard.saturating_add(1);
+                    return Received::From(count, peer_at(from));
+                }
                 Err(error) if error.kind() == ErrorKind::WouldBlock => return Received::Later,
                 Err(_) => {}
             }

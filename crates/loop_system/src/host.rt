@@ -7,7 +7,7 @@ use crate::words::Words;
 use gateway_loop::{Accepted, Host, Sign};
 use mio::event::Event;
 use mio::net::{TcpListener, UdpSocket};
-use mio::{Events, Interest, Poll, Token};
+use mio::{Events, Interest, Poll, Token, Waker};
 use std::alloc::Global;
 use std::io::{self, ErrorKind};
 use std::net::{Net, SocketAddr};
@@ -23,6 +23,9 @@ const SIGNS: usize = 1024;
 const LISTENER: Token = Token(0xffff_ffff_ffff_fffe);
 
 const DEVICES: Token = Token(0xffff_ffff_ffff_fffd);
+
+/// Under this name the loop is woken by who looks at it.
+const WAKER: Token = Token(0xffff_ffff_ffff_fffc);
 
 /// A client that came, under the number that its connection has if it is taken.
 #[derive(Clone, Copy)]
@@ -57,6 +60,11 @@ pub fn watched<W: Net>(
     registry.register(listener, LISTENER, Interest::READABLE)?;
     registry.register(devices, DEVICES, Interest::READABLE)?;
     Ok(poll)
+}
+
+/// What wakes the loop that waits there.
+pub fn waker_of(poll: &Poll) -> io::Result<Waker> {
+    Waker::new(poll.registry(), WAKER)
 }
 
 impl<W: Clock + RandomSource + Drop> System<W> {
@@ -121,7 +129,7 @@ impl<W: Clock + RandomSource + Drop> Host<Client> for System<W> {
             return false;
         }
         'each: for event in &self.events {
-            if self.signs.push(sign_of(event)).is_err() {
+            if event.token() != WAKER && self.signs.push(sign_of(event)).is_err() {
                 return false;
             }
         }

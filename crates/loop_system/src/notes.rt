@@ -1,15 +1,18 @@
-//! What is noted of connections and of answers.
+//! What is noted and counted of connections and of answers.
 
 use crate::client::Client;
 use crate::devices::Devices;
 use crate::host::Arrival;
 use answer_log::{Given, Line, heading_of};
 use gateway_loop::{Loop, Told};
+use gateway_window::Watch;
 use journal_book::{Event, Journal};
 use log::{Log, info, warn};
 use std::alloc::{AllocError, Global};
 use std::collections::VecDeque;
 use std::net::SocketAddr;
+use std::rt::Clock;
+use std::sync::Wait;
 use transformers::Relation;
 
 /// One who is connected.
@@ -21,13 +24,15 @@ struct Seat {
     answers: VecDeque<usize>,
 }
 
-/// Notes what the loop does, as far as that is wanted.
+/// Notes and counts what the loop does, as far as that is wanted.
 #[derive(Drop)]
-pub struct Notes {
+pub struct Notes<'a> {
     alloc: Global,
     /// Answers are noted.
     access: bool,
-    /// who is connected, where answers are noted
+    /// where they are counted, if they are
+    watch: Option<&'a Watch>,
+    /// who is connected, where answers are noted or counted
     seats: Vec<Seat>,
     /// how many entries of the journal were looked at
     seen: usize,
@@ -38,12 +43,13 @@ pub struct Notes {
 /// The first status that an answer has: what comes before tells a client only to go on.
 const FIRST_STATUS: u16 = 200;
 
-impl Notes {
+impl<'a> Notes<'a> {
     /// Nothing was done yet.
-    pub fn new(alloc: Global, access: bool) -> Notes {
+    pub fn new(alloc: Global, access: bool, watch: Option<&'a Watch>) -> Notes<'a> {
         Notes {
             alloc,
             access,
+            watch,
             seats: Vec::new(alloc),
             seen: 0,
             turning_away: false,
@@ -52,11 +58,11 @@ impl Notes {
 
     /// Whether it looks at single answers.
     pub fn wants_told(&self) -> bool {
-        self.access
+        self.access || self.watch.is_some()
     }
 
     /// Notes what was done since it looked last, of which this journal tells.
-    pub fn look<R: Relation, V: Log>(
+    pub fn look<R: Relation, V: Wait + Log + Clock>(
         &mut self,
         rt: &V,
         it: &Loop<R, Client, Devices>,
@@ -84,6 +90,9 @@ impl Notes {
     pub fn begin_anew(&mut self) {
         self.seats.clear();
         self.seen = 0;
+        if let Some(watch) = self.watch {
+            watch.count_turned();
+        }
     }
 
     /// Those who came are connected or were turned away; the next has this number.
@@ -99,6 +108,9 @@ impl Notes {
 
     /// One is connected or was turned away. The first of some who were is noted.
     fn seat<V: Log>(&mut self, rt: &V, arrival: Arrival, taken: bool) {
+        if let Some(watch) = self.watch {
+            watch.count_connection(taken);
+        }
         if taken && self.wants_told() {
             let _ = self.sit(arrival);
         }
@@ -163,8 +175,13 @@ impl Notes {
         }
     }
 
-    /// Notes what was given out, if it is an answer: the next one of its connection.
-    fn note_told<R: Relation, V: Log>(&mut self, rt: &V, journal: &Journal<R>, told: &Told) {
+    /// Notes and counts what was given out, if it is an answer: the next one of its connection.
+    fn note_told<R: Relation, V: Wait + Log + Clock>(
+        &mut self,
+        rt: &V,
+        journal: &Journal<R>,
+        told: &Told,
+    ) {
         if heading_of(&told.head).status < FIRST_STATUS {
             return;
         }
@@ -173,8 +190,8 @@ impl Notes {
         }
     }
 
-    /// Notes the answer with this entry.
-    fn note<R: Relation, V: Log>(
+    /// Notes and counts the answer with this entry.
+    fn note<R: Relation, V: Wait + Log + Clock>(
         &self,
         rt: &V,
         journal: &Journal<R>,
@@ -203,12 +220,17 @@ impl Notes {
             cause: heading.cause,
             count: Some(told.count),
         };
-        let line = Line {
-            client,
-            conn: *conn,
-            time: entry.moment.saturating_sub(request.moment),
-            given,
-        };
-        info!(rt; target: "access", "{line}");
+        if let Some(watch) = self.watch {
+            watch.count_answer(rt, &given, *ask);
+        }
+        if self.access {
+            let line = Line {
+                client,
+                conn: *conn,
+                time: entry.moment.saturating_sub(request.moment),
+                given,
+            };
+            info!(rt; target: "access", "{line}");
+        }
     }
 }

@@ -4,13 +4,15 @@ use crate::devices::Devices;
 use mio::net::{TcpListener, UdpSocket};
 use server_faults::ServeFault;
 use std::io;
-use std::net::{Net, SocketAddr};
+use std::net::{Net, SocketAddr, TcpListener as Window, TcpStream};
 
 /// Where connections are taken, and where datagrams go out and come in.
 #[derive(Drop)]
 pub struct Ports {
     pub(crate) listener: TcpListener,
     pub(crate) devices: Devices,
+    /// where the gateway is looked at, if it is
+    pub(crate) window: Option<Window>,
 }
 
 impl Ports {
@@ -23,9 +25,37 @@ impl Ports {
         match UdpSocket::bind(rt, udp) {
             Ok(socket) => Ok(Ports {
                 listener,
-                devices: Devices { socket },
+                devices: Devices::new(socket),
+                window: None,
             }),
             Err(error) => Err(ServeFault::Udp(udp, error)),
+        }
+    }
+
+    /// These ports, and an address where the gateway is looked at.
+    pub fn with_window<W: Net<Listener = Window, Stream = TcpStream>>(
+        self,
+        rt: &W,
+        at: SocketAddr,
+    ) -> Result<Ports, ServeFault> {
+        match Window::bind(rt, at) {
+            Ok(window) => Ok(self.shown_by(window)),
+            Err(error) => Err(ServeFault::Listen(at, error)),
+        }
+    }
+
+    /// These ports, and a socket at which the gateway is looked at.
+    pub fn shown_by(self, window: Window) -> Ports {
+        let mut ports = self;
+        ports.window = Some(window);
+        ports
+    }
+
+    /// Where the gateway is looked at, if it is.
+    pub fn shows_at(&self) -> Option<SocketAddr> {
+        match &self.window {
+            Some(window) => window.local_addr().ok(),
+            None => None,
         }
     }
 

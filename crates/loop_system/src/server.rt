@@ -7,20 +7,24 @@ ghost use Rattle.transformers.specs.Suits.{Suits};
 use crate::after::After;
 use crate::client::Client;
 use crate::devices::Devices;
-use crate::host::{System, watched};
+use crate::glass::Glass;
+use crate::host::{System, waker_of, watched};
 use crate::ports::Ports;
 use ask_model::Settings;
 use gateway_loop::{Gateway, Loop, Stop};
-use gateway_window::Options;
+use gateway_window::{Options, Watch, show_all};
 use gateway_world::RotateFault;
 use journal_archive::Archive;
 use log::{Log, info, warn};
+use mio::Poll;
 use route_bank::{Profile, store_for};
 use server_faults::ServeFault;
 use std::alloc::Global;
-use std::net::{Net, SocketAddr};
+use std::net::{Net, TcpListener};
 use std::random::RandomSource;
 use std::rt::Clock;
+use std::sync::{Arc, Wait};
+use std::thread::{self, Threads};
 use std::time::Instant;
 use transformers::{Bank, Stored};
 
@@ -28,14 +32,18 @@ use transformers::{Bank, Stored};
 /// for, memory is refused or the numbers of its journals are spent.
 ///
 /// Each time that the journal is nearly full it is turned over and given to the archive, with the
-/// number of those before it and it. All wait while the archive keeps it.
-pub fn run<W: Net + Log + Clock + RandomSource + Copy + Drop, A: Archive<Profile>>(
+/// number of those before it and it, in a thread of its own. Where there is a window, those who look are
+/// served by threads too.
+pub fn run<
+    W: Threads + Wait + Net + Log + Clock + RandomSource + Copy + Drop + Send + Sync + 'static,
+    A: Archive<Profile> + Drop + Send + Sync + 'static,
+>(
     rt: W,
     alloc: Global,
     ports: Ports,
     settings: Settings,
     options: Options,
-    archive: &A,
+    archive: A,
 ) -> ServeFault {
     match run_with_bank(rt, alloc, ports, settings, options, archive) {
         Ok(stop) => fault_of(stop),
@@ -52,13 +60,16 @@ fn fault_of(stop: Stop) -> ServeFault {
 }
 
 /// Runs the gateway with the transformers that the routes of the settings ask for.
-fn run_with_bank<W: Net + Log + Clock + RandomSource + Copy + Drop, A: Archive<Profile>>(
+fn run_with_bank<
+    W: Threads + Wait + Net + Log + Clock + RandomSource + Copy + Drop + Send + Sync + 'static,
+    A: Archive<Profile> + Drop + Send + Sync + 'static,
+>(
     rt: W,
     alloc: Global,
     ports: Ports,
     settings: Settings,
     options: Options,
-    archive: &A,
+    archive: A,
 ) -> Result<Stop, ServeFault> {
     let mut all: Vec<Stored<Profile>> = Vec::new(alloc);
     'each: for route in settings.routes.as_slice() {
@@ -76,28 +87,31 @@ fn run_with_bank<W: Net + Log + Clock + RandomSource + Copy + Drop, A: Archive<P
 }
 
 /// Runs the gateway with a bank that suits the settings.
-fn run_on<W: Net + Log + Clock + RandomSource + Copy + Drop, A: Archive<Profile>>(
+fn run_on<
+    W: Threads + Wait + Net + Log + Clock + RandomSource + Copy + Drop + Send + Sync + 'static,
+    A: Archive<Profile> + Drop + Send + Sync + 'static,
+>(
     rt: W,
     alloc: Global,
     ports: Ports,
     settings: Settings,
     bank: &Bank<Profile>,
     options: Options,
-    archive: &A,
+    archive: A,
 ) -> Result<Stop, ServeFault>
     requires { Suits profile_holds profile_takes (rules_of settings).routes bank.now }
 {
-    if let (Ok(listen), Ok(udp)) = (ports.listens_at(), ports.sends_from()) {
-        note_ports(&rt, listen, udp);
-    }
+    note_ports(&rt, &ports);
     let Ports {
         mut listener,
         mut devices,
+        window,
     } = ports;
     let poll = match watched(&rt, &mut listener, &mut devices.socket) {
         Ok(poll) => poll,
         Err(_) => return Err(ServeFault::Stopped),
     };
+    let glass = glass_for(rt, alloc, &poll, window, options)?;
     let begin = match Instant::now(&rt) {
         Ok(begin) => begin,
         Err(error) => return Err(ServeFault::Clock(error)),
@@ -105,17 +119,70 @@ fn run_on<W: Net + Log + Clock + RandomSource + Copy + Drop, A: Archive<Profile>
     let mut host = System::new(rt, alloc, poll, listener, begin)?;
     let gateway: Gateway<Profile, Client, Devices> = Gateway::new(alloc, settings, devices)?;
     let it = Loop::new(gateway, options.idle.saturating_mul(1000))?;
-    let after = After::new(alloc, archive, options.access);
+    let archive = Arc::new(alloc, archive)?;
+    let after = After::new(alloc, archive, seen(&glass), options.access);
     Ok(go_on(&rt, it, bank, &mut host, after))
 }
 
 /// Notes where the gateway is found.
-fn note_ports<W: Log>(rt: &W, listen: SocketAddr, udp: SocketAddr) {
-    info!(rt; target: "hcproxy", "takes connections at {listen}, sends from {udp}");
+fn note_ports<W: Log>(rt: &W, ports: &Ports) {
+    if let (Ok(listen), Ok(udp)) = (ports.listens_at(), ports.sends_from()) {
+        info!(rt; target: "hcproxy", "takes connections at {listen}, sends from {udp}");
+    }
+    if let Some(shown) = ports.shows_at() {
+        info!(rt; target: "hcproxy", "shows how it does at http://{shown}/");
+    }
+}
+
+/// Through which the gateway is looked at, where there is a window.
+fn glass_for<W: Threads + Wait + Clock + Copy + Drop + Send + Sync + 'static>(
+    rt: W,
+    alloc: Global,
+    poll: &Poll,
+    window: Option<TcpListener>,
+    options: Options,
+) -> Result<Option<Arc<Glass>>, ServeFault> {
+    match window {
+        Some(window) => Ok(Some(start_window(rt, alloc, poll, window, options)?)),
+        None => Ok(None),
+    }
+}
+
+/// The same, lent.
+fn seen(glass: &Option<Arc<Glass>>) -> Option<&Glass> {
+    match glass {
+        Some(glass) => Some(glass),
+        None => None,
+    }
+}
+
+/// Starts the thread that takes those who look at the gateway, each of whom has one more.
+fn start_window<W: Threads + Wait + Clock + Copy + Drop + Send + Sync + 'static>(
+    rt: W,
+    alloc: Global,
+    poll: &Poll,
+    window: TcpListener,
+    options: Options,
+) -> Result<Arc<Glass>, ServeFault> {
+    let waker = match waker_of(poll) {
+        Ok(waker) => waker,
+        Err(_) => return Err(ServeFault::Stopped),
+    };
+    let watch = Watch::new(&rt, alloc)?;
+    let glass = Arc::new(alloc, Glass::new(watch, options.payloads, waker))?;
+    let theirs = Arc::try_clone(&glass)?;
+    match thread::spawn(&rt, move || show_all(rt, alloc, &window, &theirs)) {
+        Ok(_) => Ok(glass),
+        Err(_) => Err(ServeFault::Thread),
+    }
 }
 
 /// Turns until it can't go on.
-fn go_on<V: Log + Clock, W: Clock + RandomSource + Drop, A: Archive<Profile>>(
+fn go_on<
+    V: Threads + Wait + Log + Clock,
+    W: Clock + RandomSource + Drop,
+    A: Archive<Profile> + Drop + Send + Sync + 'static,
+>(
     rt: &V,
     it: Loop<Profile, Client, Devices>,
     bank: &Bank<Profile>,
@@ -132,6 +199,7 @@ fn go_on<V: Log + Clock, W: Clock + RandomSource + Drop, A: Archive<Profile>>(
             Ok(it) => it,
             Err(stop) => {
                 note_stop(rt, stop);
+                after.end(rt);
                 return stop;
             }
         };

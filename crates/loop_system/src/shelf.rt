@@ -2,14 +2,19 @@
 
 use journal_archive::Archive;
 use journal_book::{Event, Journal};
-use log::{Log, info};
+use log::{Log, info, warn};
+use route_bank::Profile;
 use std::rt::Clock;
+use std::sync::Arc;
+use std::thread::{self, JoinHandle, Threads};
 use std::time::Instant;
 use transformers::Relation;
 
 /// The journals that were turned over, and the turn that is under way.
 #[derive(Drop)]
 pub struct Shelf {
+    /// the thread that has the last one kept
+    keeper: Option<JoinHandle<()>>,
     /// The number of the journal that there is, counted from 1.
     number: u64,
     /// It is nearly full, and that was noted.
@@ -22,6 +27,7 @@ impl Shelf {
     /// The first journal has begun.
     pub fn new() -> Shelf {
         Shelf {
+            keeper: None,
             number: 1,
             noted: false,
             begin: None,
@@ -38,17 +44,30 @@ impl Shelf {
         }
     }
 
-    /// Gives the journal to the archive, which was turned over.
-    pub fn keep<R: Relation, V: Log + Clock, A: Archive<R>>(
+    /// Has the archive keep the journal that was turned over, in a thread of its own, while others are
+    /// served. It waits until the one before is kept.
+    pub fn keep<V: Threads + Log + Clock, A: Archive<Profile> + Drop + Send + Sync + 'static>(
         &mut self,
         rt: &V,
-        archive: &A,
-        journal: &Journal<R>,
+        archive: &Arc<A>,
+        journal: Journal<Profile>,
     ) {
-        self.note(rt, journal);
-        archive.keep(self.number, journal);
+        self.note(rt, &journal);
+        self.end(rt);
+        let number = self.number;
+        self.keeper = start_keeper(rt, archive, number, journal);
+        if self.keeper.is_none() {
+            warn!(rt; target: "hcproxy", "journal {number} isn't kept: no thread for it");
+        }
         self.number = self.number.saturating_add(1);
         self.noted = false;
+    }
+
+    /// Waits until the last journal is kept.
+    pub fn end<V: Threads>(&mut self, rt: &V) {
+        if let Some(keeper) = self.keeper.take() {
+            keeper.join(rt);
+        }
     }
 
     /// Notes that the journal was turned over, and how long nobody was served.
@@ -68,6 +87,17 @@ impl Shelf {
             "journal {number} is turned over after {time} ms: {asks} requests"
         );
     }
+}
+
+/// Starts the thread that has the archive keep the journal with this number.
+fn start_keeper<V: Threads, A: Archive<Profile> + Drop + Send + Sync + 'static>(
+    rt: &V,
+    archive: &Arc<A>,
+    number: u64,
+    journal: Journal<Profile>,
+) -> Option<JoinHandle<()>> {
+    let archive = Arc::try_clone(archive).ok()?;
+    thread::spawn(rt, move || archive.keep(number, &journal)).ok()
 }
 
 /// How many requests it has.

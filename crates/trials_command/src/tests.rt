@@ -71,7 +71,7 @@ fn a_script_may_come_byte_by_byte(rt: HostRuntime) {
 }
 
 /// What a line of words asks for, or None where it is answered by the usage.
-static COMMANDS: [(&str, Option<Command<'static>>); 50] = [
+static COMMANDS: [(&str, Option<Command<'static>>); 54] = [
     ("replay", RUN),
     (
         "replay --journal",
@@ -152,9 +152,13 @@ static COMMANDS: [(&str, Option<Command<'static>>); 50] = [
         "serve --loop --access --idle 5 a.toml --journals past",
         LOOPED_WATCHED,
     ),
-    ("serve a.toml --loop --status 127.0.0.1:9090", None),
+    ("serve a.toml --loop --status 127.0.0.1:9090", LOOPED_SHOWN),
     ("serve a.toml --loop --idle 0", None),
+    ("serve a.toml --threads", Some(Command::Serve(PLAIN))),
+    ("serve --threads a.toml", Some(Command::Serve(PLAIN))),
     ("serve --loop --loop", None),
+    ("serve --loop --threads", None),
+    ("serve --threads --threads", None),
     ("origin", Some(Command::Origin { settings: None })),
     (
         "origin a.toml",
@@ -235,6 +239,15 @@ const LOOPED_WATCHED: Option<Command<'static>> = Some(Command::Serve(Serving {
     journals: Some("past"),
     access: true,
     idle: Some(5),
+    looped: true,
+    ..PLAIN
+}));
+
+const LOOPED_SHOWN: Option<Command<'static>> = Some(Command::Serve(Serving {
+    status: Some(Peer {
+        address: IpAddr::V4(Ipv4Addr::LOCALHOST),
+        port: 9090,
+    }),
     looped: true,
     ..PLAIN
 }));

@@ -13,6 +13,8 @@ mod device;
 #[cfg(test)]
 mod failing;
 #[cfg(test)]
+mod looping;
+#[cfg(test)]
 mod rows;
 #[cfg(test)]
 mod sample;
