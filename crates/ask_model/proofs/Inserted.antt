@@ -14,3 +14,8 @@ pub inserted : (os new : List Opt) (place number : ℕ) (n : Option ℕ) (v : �
 inserted os new place number n v o e f same =
     let around : Entry → List Entry = λ x. take place (entries os) ++ (x ∷ drop place (entries os)) in
     rw f (ap entries e ∙ entries-insert os place o ∙ ap around same)
+
+pub inserted_with : (os new : List Opt) (place number : ℕ) (value : List ℕ) (o : Opt) → new ≡ insert os place o → entry o ≡ option_with number value → entries new ≡ take place (entries os) ++ (option_with number value ∷ drop place (entries os))
+inserted_with os new place number value o e same =
+    let around : Entry → List Entry = λ x. take place (entries os) ++ (x ∷ drop place (entries os)) in
+    ap entries e ∙ entries-insert os place o ∙ ap around same

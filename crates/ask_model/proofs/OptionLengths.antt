@@ -11,17 +11,18 @@ use Rattle.blockwise.specs.Reading.{size_of}
 use Rattle.blockwise.specs.Uploads.{begun, is_whole, block_at, next_block, slice_of}
 use Rattle.blockwise.proofs.CallerLemmas.{small_size}
 use Rattle.uri_map.specs.declared.target.Target.{Target}
-use Rattle.uri_map.specs.Limits.{extra, spelled_len, options_with, host_options, uri_options, is_short, fits}
+use Rattle.uri_map.specs.Limits.{extra, spelled_len, options_with, host_options, uri_options, is_short, fits, option_with}
 use Rattle.uri_map.proofs.CallerLemmas.{options_len}
 use Rattle.std.specs.declared.alloc.AllocError.{AllocError}
-use Rattle.ask_model.specs.Requests.{CoapRequest, Sense, Requests, Refuses, optional, options_asking, observing_options, observe_message, request_options, block_option, block_value, carried_by, block_message}
+use Rattle.ask_model.specs.Requests.{CoapRequest, Sense, Requests, Refuses, optional, options_asking, observing_options, observe_message, validating_options, validate_message, request_options, block_option, block_value, carried_by, block_message}
 use Rattle.ask_model.specs.Observing.{IsObserving, is_named}
+use Rattle.ask_model.specs.Validating.{IsValidating}
 use Rattle.ask_model.specs.Sharing.{is_get}
 use Rattle.ask_model.specs.Views.{Rules}
 use Rattle.ask_model.specs.Datagrams.{FitsMessages, IsSendable, IsSentFor, block_named, block_or_first}
 use Rattle.ask_model.proofs.Payloads.{spelled_length}
 use Rattle.ask_model.proofs.Blocks.{asked, block_message_as}
-use Rattle.ask_model.proofs.OptionOrder.{asking_in_order, observing_in_order, blocks_in_order, uint_bytes_short}
+use Rattle.ask_model.proofs.OptionOrder.{asking_in_order, observing_in_order, validating_in_order, blocks_in_order, uint_bytes_short}
 
 extra_max : (n : ℕ) → extra n ≤ 2
 extra_max n = grind (arith, nat_tests)
@@ -161,3 +162,27 @@ observing_sent_len s sense mid token (Err e) f h = tt
 observing_sent_len s sense mid token (Ok None) f h = tt
 observing_sent_len s (Requests q) mid token (Ok (Some bytes)) f h = observed_len q mid token bytes f (and_parts (is_get q) (is_named s.observed q.target.host) h.0).0 h.1
 observing_sent_len s (Refuses cause status) mid token (Ok (Some bytes)) f h = absurd cc
+
+-- one that asks whether something is valid still
+validating_len : (etag : List ℕ) (t : Target) (format accept : Option ℕ) → length etag ≤ 8 → spelled_len 0 (validating_options etag t format accept) ≤ spelled_len 0 (uri_options t) + 32
+validating_len etag t format accept le =
+    let one = with_one 0 (host_options t.host) (options_with 11 t.path ++ (optional 12 format ++ (options_with 15 t.query ++ optional 17 accept))) (option_with 4 etag) (validating_in_order etag t format accept) in
+    let asking = asking_len t format accept in
+    omega (arith, one, asking, le)
+
+validated_len : (etag : List ℕ) (q : CoapRequest) (mid : ℕ) (token bytes : List ℕ) → length etag ≤ 8 → FitsMessages q → is_get q ≡ true → Spells (validate_message etag q mid token) bytes → length bytes ≤ 2024
+validated_len etag q mid token bytes le f get s =
+    let all = spelled_length (validate_message etag q mid token) bytes s in
+    let options = options_len 0 (validating_options etag q.target q.format q.accept) s.options s.options_are in
+    let validating = validating_len etag q.target q.format q.accept le in
+    let target = target_len q.target f.target in
+    let parts = and_parts (q.method == 1) _ get in
+    let empty = ap (λ (v : List ℕ). length v) (f.get ((Decides-eqb q.method 1).0 parts.0)) in
+    omega (arith, all, options, validating, target, empty, s.short_token)
+
+pub validating_sent_len : (etag : List ℕ) (sense : Sense) (mid : ℕ) (token : List ℕ) (r : Result (Option (List ℕ)) AllocError) → length etag ≤ 8 → IsSendable sense
+    → IfOk r (λ o. IsValidating etag sense mid token o) → IfOk r (λ o. IfSome o (λ bytes. length bytes ≤ 2024))
+validating_sent_len etag sense mid token (Err e) le f h = tt
+validating_sent_len etag sense mid token (Ok None) le f h = tt
+validating_sent_len etag (Requests q) mid token (Ok (Some bytes)) le f h = validated_len etag q mid token bytes le f h.0 h.1
+validating_sent_len etag (Refuses cause status) mid token (Ok (Some bytes)) le f h = absurd cc

@@ -12,7 +12,7 @@ use Rattle.uri_map.specs.declared.target.Target.{Target}
 use Rattle.uri_map.specs.declared.target.Host.{Host}
 use Rattle.uri_map.specs.declared.target.Host.TheVariants.{Name, V4, V6}
 use Rattle.uri_map.specs.Limits.{options_with, host_options, uri_options, is_short, fits}
-use Rattle.ask_model.specs.Requests.{uint_bytes, optional, options_asking, observing_options}
+use Rattle.ask_model.specs.Requests.{uint_bytes, optional, options_asking, observing_options, validating_options}
 use Rattle.ask_model.proofs.Codes.{code_is_not_zero}
 
 -- options after one of a lower number
@@ -130,5 +130,28 @@ pub observing_encodable : (m : Method) (t : Target) (format accept : Option ℕ)
 observing_encodable m t format accept code mid token payload os within same e = record {
   in_order = rw e (observing_in_order t format accept);
   short = rw e (observing_short t format accept within);
+  nothing_else = λ zero. absurd (code_is_not_zero m (sym same ∙ zero));
+}
+
+-- and of one that asks whether something is valid still
+pub validating_in_order : (etag : List ℕ) (t : Target) (format accept : Option ℕ) → IsInOrder 0 (validating_options etag t format accept)
+validating_in_order etag t format accept =
+    host_before t.host 4 _ (omega arith) (
+      omega arith,
+      behind_equal 4 11 t.path _ (omega arith)
+          (behind_optional 11 12 format _ (omega arith)
+          (behind_equal 12 15 t.query _ (omega arith) (last_optional 15 17 accept (omega arith)))),
+    )
+
+validating_short : (etag : List ℕ) (t : Target) (format accept : Option ℕ) → length etag ≤ 8 → fits (uri_options t) ≡ true → AllByRecursion IsShort (validating_options etag t format accept)
+validating_short etag t format accept le h =
+    let all = asking_short t format accept h in
+    short_both (host_options t.host) _ (short_first (host_options t.host) _ all)
+    (omega (arith, le), short_second (host_options t.host) _ all)
+
+pub validating_encodable : (m : Method) (etag : List ℕ) (t : Target) (format accept : Option ℕ) (code mid : ℕ) (token payload : List ℕ) (os : List Entry) → length etag ≤ 8 → fits (uri_options t) ≡ true → code ≡ request_code m → os ≡ validating_options etag t format accept → IsEncodable (record { kind = Con; code = code; mid = mid; token = token; options = os; payload = payload })
+validating_encodable m etag t format accept code mid token payload os le within same e = record {
+  in_order = rw e (validating_in_order etag t format accept);
+  short = rw e (validating_short etag t format accept le within);
   nothing_else = λ zero. absurd (code_is_not_zero m (sym same ∙ zero));
 }

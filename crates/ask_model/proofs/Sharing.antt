@@ -5,7 +5,7 @@ use Rattle.std.proofs.lemmas.Bool.{and_parts}
 use Rattle.std.proofs.lemmas.Bool.Decides.{Decides-eqb}
 use Rattle.cache_key.specs.Keys.{CacheKey, same_key}
 use Rattle.cache_key.proofs.CallerLemmas.{keys_decided}
-use Rattle.ask_model.specs.Requests.{CoapRequest, Sense, Requests, Refuses, asking}
+use Rattle.ask_model.specs.Requests.{CoapRequest, Sense, Requests, Refuses, Manner, Plainly, Observing, Validating, asking}
 use Rattle.ask_model.specs.Sharing.{asked_key, asked_place, is_get, asks_same, asks_same_by, key_read}
 
 -- a GET has the method 1, and neither format nor body
@@ -51,7 +51,7 @@ same-place q r e = ap (λ (k : CacheKey). k.place) (parts q r e).key
 
 pub asks-alike : (q r : CoapRequest) → asks_same q r ≡ true
     → (q.peer ≡ r.peer)
-    × ((observes : Bool) (mid : ℕ) (token : List ℕ) → asking observes q None mid token ≡ asking observes r None mid token)
+    × ((manner : Manner) (mid : ℕ) (token : List ℕ) → asking manner q None mid token ≡ asking manner r None mid token)
 asks-alike q r e = (ap (λ (k : CacheKey). k.place.peer) it.key, messages)
   where
     it : Parts q r
@@ -75,9 +75,10 @@ asks-alike q r e = (ap (λ (k : CacheKey). k.place.peer) it.key, messages)
     accept : q.accept ≡ r.accept
     accept = ap (λ (k : CacheKey). k.accept) it.key
 
-    messages : (observes : Bool) (mid : ℕ) (token : List ℕ) → asking observes q None mid token ≡ asking observes r None mid token
-    messages true mid token = rw (a.method, b.method, a.format, b.format, a.body, b.body, host, path, query, accept) refl
-    messages false mid token = rw (a.method, b.method, a.format, b.format, a.body, b.body, host, path, query, accept) refl
+    messages : (manner : Manner) (mid : ℕ) (token : List ℕ) → asking manner q None mid token ≡ asking manner r None mid token
+    messages Observing mid token = rw (a.method, b.method, a.format, b.format, a.body, b.body, host, path, query, accept) refl
+    messages Plainly mid token = rw (a.method, b.method, a.format, b.format, a.body, b.body, host, path, query, accept) refl
+    messages (Validating etag) mid token = rw (a.method, b.method, a.format, b.format, a.body, b.body, host, path, query, accept) refl
 
 -- What asks the same as one request does, asks the same as another that does.
 pub asks-onward : (q r s : CoapRequest) → asks_same q r ≡ true → asks_same q s ≡ true → asks_same r s ≡ true

@@ -6,3 +6,4 @@ pub mod Maps
 pub mod Datagrams
 pub mod Sharing
 pub mod Observing
+pub mod Validating

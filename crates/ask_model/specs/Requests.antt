@@ -58,6 +58,14 @@ observing_options t format accept =
     ++ (optional 6 (Some 0)
     ++ (options_with 11 t.path ++ (optional 12 format ++ (options_with 15 t.query ++ optional 17 accept))))
 
+-- The same with ETag, which asks whether the representation that it names is valid still (RFC 7252 section 5.10.6.2):
+-- its number is 4, after Uri-Host.
+abbrev pub validating_options : List ℕ → Target → Option ℕ → Option ℕ → List Entry
+validating_options etag t format accept =
+    host_options t.host
+    ++ (option_with 4 etag
+    ∷ (options_with 11 t.path ++ (optional 12 format ++ (options_with 15 t.query ++ optional 17 accept))))
+
 abbrev pub request_options : CoapRequest → List Entry
 request_options q = options_asking q.target q.format q.accept
 
@@ -96,11 +104,28 @@ abbrev pub observe_message : CoapRequest → ℕ → List ℕ → Content
 observe_message q mid token =
     record (request_message q mid token) { options = observing_options q.target q.format q.accept }
 
--- Where no block is named, a message may do so, or not.
-abbrev pub asking : Bool → CoapRequest → Option Block → ℕ → List ℕ → Content
-asking observes q (Some b) mid token = block_message q (Some b) mid token
-asking true q None mid token = observe_message q mid token
-asking false q None mid token = request_message q mid token
+-- The message that asks whether the representation with this ETag is valid still (RFC 7252 section 5.10.6.2).
+abbrev pub validate_message : List ℕ → CoapRequest → ℕ → List ℕ → Content
+validate_message etag q mid token =
+    record (request_message q mid token) { options = validating_options etag q.target q.format q.accept }
+
+-- how a request is asked: for what it asks for alone, to be told of changes too, or to be told
+-- whether the representation with this ETag is valid still
+pub data Manner : Type 0 where
+  Plainly : Manner
+  Observing : Manner
+  Validating : (etag : List ℕ) → Manner
+
+abbrev pub observing_if : Bool → Manner
+observing_if true = Observing
+observing_if false = Plainly
+
+-- Where a block is named, a message asks for that alone.
+abbrev pub asking : Manner → CoapRequest → Option Block → ℕ → List ℕ → Content
+asking manner q (Some b) mid token = block_message q (Some b) mid token
+asking Plainly q None mid token = request_message q mid token
+asking Observing q None mid token = observe_message q mid token
+asking (Validating etag) q None mid token = validate_message etag q mid token
 
 -- Of a body that doesn't go all at once the first block goes first, in the largest size: 1,024 bytes.
 abbrev pub first_block : CoapRequest → Option Block
@@ -109,6 +134,6 @@ first_block q = if q.method == 1 then None else next_block (begun (length q.body
 abbrev pub first_message : CoapRequest → ℕ → List ℕ → Content
 first_message q mid token = block_message q (first_block q) mid token
 
--- The first message of an exchange, which may ask to be told of changes.
-abbrev pub opening_message : Bool → CoapRequest → ℕ → List ℕ → Content
-opening_message observes q mid token = asking observes q (first_block q) mid token
+-- The first message of an exchange, in this manner.
+abbrev pub opening_message : Manner → CoapRequest → ℕ → List ℕ → Content
+opening_message manner q mid token = asking manner q (first_block q) mid token

@@ -2,7 +2,7 @@
 use Rattle.std.specs.Prelude.{◌≡◌, ℕ, Bool, true, false, not, ◌&&◌, List, length, Option, Some, None, is_none, ◌==◌, if◌then◌else◌}
 use Rattle.cache_key.specs.declared.place.Place.{Place}
 use Rattle.cache_key.specs.Keys.{CacheKey, key_of, place_of, same_key, same_place}
-use Rattle.ask_model.specs.Requests.{CoapRequest, Sense, Requests, Refuses, asking}
+use Rattle.ask_model.specs.Requests.{CoapRequest, Sense, Requests, Refuses, Manner, asking}
 
 -- what a response to it would be kept under
 abbrev pub asked_key : CoapRequest → CacheKey
@@ -20,12 +20,12 @@ is_get q = (q.method == 1) && (is_none q.format && (length q.body == 0))
 abbrev pub asks_same : CoapRequest → CoapRequest → Bool
 asks_same q r = is_get q && (is_get r && same_key (asked_key q) (asked_key r))
 
--- Such requests go to one server, in equal messages, which ask to be told of changes or not.
+-- Such requests go to one server, in equal messages, in whichever manner.
 abbrev pub AsksAlike : Type 0
 AsksAlike =
     (q r : CoapRequest) → asks_same q r ≡ true
     → (q.peer ≡ r.peer)
-    × ((observes : Bool) (mid : ℕ) (token : List ℕ) → asking observes q None mid token ≡ asking observes r None mid token)
+    × ((manner : Manner) (mid : ℕ) (token : List ℕ) → asking manner q None mid token ≡ asking manner r None mid token)
 
 -- the key that a GET reads
 abbrev pub key_read : Sense → Option CacheKey

@@ -12,6 +12,7 @@ mod meaning;
 mod request;
 mod settings;
 mod size;
+mod validating;
 
 pub use cause::Cause;
 pub use mapped::Mapped;

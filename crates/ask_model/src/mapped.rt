@@ -9,12 +9,14 @@ ghost use Rattle.cache_key.specs.Keys.{key_of, place_of};
 ghost use Rattle.ask_model.specs.Sharing.{asks_same_by, key_read, outdates_by, place_written};
 ghost use Rattle.ask_model.specs.Sizes.{came_size};
 ghost use Rattle.ask_model.specs.Observing.{IsObserving};
+ghost use Rattle.ask_model.specs.Validating.{IsValidating};
 ghost use Rattle.ask_model.specs.Datagrams.{IsSentFor, asked_body, asked_peer, block_named};
 
 use crate::comparing;
 use crate::meaning::Meaning;
 use crate::request::{body_in, bytes_of, datagram_of, observing_of};
 use crate::settings::Settings;
+use crate::validating::validating_of;
 use cache_key::Reading;
 use coap_codec::{Block, Bytes, Token};
 use http_edge::Incoming;
@@ -228,6 +230,29 @@ impl<R: Relation> Mapped<R> {
             self.meaning(),
             body_in(self.came()),
             self.settings().observed.as_slice(),
+            mid,
+            token,
+        )
+    }
+
+    /// A datagram that asks whether what has this ETag is valid still (RFC 7252 section 5.10.6.2). None
+    /// where it isn't a GET.
+    pub fn validate_request(
+        &self,
+        alloc: Global,
+        etag: &[u8],
+        mid: u16,
+        token: &Token,
+    ) -> Result<Option<Bytes>, AllocError>
+        requires short { length etag.now ≤ 8 }
+        ensures sent { IfOk result (λ o. IsValidating etag.now self.now.sense mid token.now o) }
+        ensures len { IfOk result (λ o. IfSome o (λ bytes. length bytes ≤ MAX_MESSAGE_LEN)) }
+    {
+        validating_of(
+            alloc,
+            self.meaning(),
+            body_in(self.came()),
+            etag,
             mid,
             token,
         )

@@ -64,7 +64,7 @@ fn insert_number(
 }
 
 /// The options of a request for the target, with these formats of its body and of what is wanted.
-fn options_for(
+pub(crate) fn options_for(
     alloc: Global,
     target: &Target,
     format: Option<u16>,
@@ -81,7 +81,7 @@ fn options_for(
 }
 
 /// How many options a host has.
-fn host_len(host: &Host) -> usize
+pub(crate) fn host_len(host: &Host) -> usize
     ensures { result ≡ length (host_options host.now) }
 {
     match host {
@@ -212,7 +212,11 @@ fn append_payload(out: &mut Vec<u8>, payload: &[u8]) -> Result<(), AllocError>
 }
 
 /// The bytes of a message without a payload, with this payload after them. It is copied once.
-fn bytes_with(alloc: Global, message: &Message, payload: &[u8]) -> Result<Vec<u8>, AllocError>
+pub(crate) fn bytes_with(
+    alloc: Global,
+    message: &Message,
+    payload: &[u8],
+) -> Result<Vec<u8>, AllocError>
     requires encodable { IsEncodable (content message.now) }
     requires code { message.now.code ≢ 0 }
     requires empty { message.now.payload.items ≡ [] }
