@@ -8,16 +8,17 @@ use Rattle.ask_model.specs.Views.{Ask}
 use Rattle.ask_model.specs.declared.cause.Cause.{Cause}
 use Rattle.ask_model.specs.declared.cause.Cause.TheVariants.{BadHttp, NoMap, Method, Media, Busy, Timeout, Reset, NotUnderstood}
 use Rattle.journal_book.specs.Entries.{Grounds, Live, Kept, Fault, Deed, Asks, Sends, Hears}
-use Rattle.history_laws.specs.Readings.{Noted, Note, Plain, Begins, Joins, Serves, First, Copies, Confirms, at, before, noted}
+use Rattle.history_laws.specs.Readings.{Noted, Note, Plain, Begins, Renews, Joins, Serves, First, Copies, Confirms, at, before, noted}
 use Rattle.history_laws.specs.Exchanges.{Begun, begun, opens_by}
 use Rattle.history_laws.specs.Joining.{joins}
+use Rattle.history_laws.specs.Hearing.{has_room}
 use Rattle.history_laws.specs.Storing.{IsStored}
-use Rattle.history_laws.specs.Justified.{IsAsk, reads_by, reads_in, reads, IsTurnedAway, IsRefused, Caused, HasGrounds, AskNote, MayBeCopy, MayConfirm, Follows, Legal, UnservedNote}
-use Rattle.history_laws.specs.Laws.{IsFirst, IsAnswer, JoinsOne, ServesOne, OpensNone, OpensFor, IsAskSent, IsConfirmation}
+use Rattle.history_laws.specs.Justified.{IsAsk, reads_by, reads_in, reads, IsTurnedAway, IsRefused, Caused, HasGrounds, AskNote, MayBeCopy, MayConfirm, Follows, Legal, UnservedNote, MissNote}
+use Rattle.history_laws.specs.Laws.{IsFirst, IsAnswer, OpensOne, JoinsOne, ServesOne, OpensNone, OpensFor, IsAskSent, IsConfirmation}
 use Rattle.history_laws.proofs.Basis.{grounds-of}
 use Rattle.history_laws.proofs.Places.{at-below, at-same}
 use Rattle.history_laws.proofs.Facts.{follows-at, at-before, length-before}
-use Rattle.history_laws.proofs.Sent.{begun-before, begun-below, begun-opening, opening-begun, asked-for, next-is, sent-for, sent-once}
+use Rattle.history_laws.proofs.Sent.{begun-before, begun-below, begun-opening, opens-begun, asked-for, next-is, sent-for, sent-once}
 use Rattle.history_laws.proofs.Joining.{joins-is}
 use Rattle.history_laws.proofs.Resting.{none-some}
 use Rattle.history_laws.proofs.Confirmed.{owed-to}
@@ -41,7 +42,7 @@ unopened-at l k m d note stands none = by (begun l k) refl
     by None e = refl
     by (Some b) e =
         let h = begun-opening l k b e in
-        absurd (none-some b.request (sym none ∙ ap (λ (x : Noted). opens_by x.note) (at-same l k _ _ stands h.1)))
+        absurd (none-some b.request (sym none ∙ (ap (λ (x : Noted). opens_by x.note) (at-same l k _ _ stands h.2) ∙ h.3)))
 
 unsent-at : (l : List Noted) (k m : ℕ) (d : Deed) (note : Note) → at l k ≡ Some (noted m d note) → opens_by note ≡ None → Legal l
     → (t i : ℕ) (p : Peer) (s : Content) → IsFirst l t k i p s → ⊥
@@ -97,7 +98,8 @@ module _ (l : List Noted) (k c m : ℕ) (a : Ask) (stands : at l k ≡ Some (not
       unserved e = cc
 
   own-grounds : (n t : ℕ) (g : Grounds) → HasGrounds (before l n) t k g → g ≡ Fault (own_cause a.sense) k
-  own-grounds n t (Live js) h = absurd (reads-no n h.0 h.4)
+  own-grounds n t (Live js) (inl h) = absurd (reads-no n h.0 h.4)
+  own-grounds n t (Live js) (inr h) = absurd (reads-no n h.0 h.4)
   own-grounds n t (Kept js) h = absurd (own-kept n t js h)
   own-grounds n t (Fault cause j) h =
       let own = own-caused n t j cause h in
@@ -146,7 +148,8 @@ module _ (l : List Noted) (k c m : ℕ) (a : Ask) (q : CoapRequest) (js : List �
   served-uncaused n t j Media h = served-unrefused n Media h.2
 
   served-grounds : (n t : ℕ) (g : Grounds) → HasGrounds (before l n) t k g → g ≡ Kept js
-  served-grounds n t (Live ns) h = absurd (served-no n h.0 h.4)
+  served-grounds n t (Live ns) (inl h) = absurd (served-no n h.0 h.4)
+  served-grounds n t (Live ns) (inr h) = absurd (served-no n h.0 h.4)
   served-grounds n t (Kept ns) h = same (served-ask n h.0 t h.1 (Serves ns) h.2).1
     where
       same : Serves ns ≡ Serves js → Kept ns ≡ Kept js
@@ -181,22 +184,27 @@ joins-one l k c m o a q legal stands e =
       unsent = λ t i p s f. unsent-at l k m (Asks c a) (Joins o) stands refl legal t i p s f;
     }
 
+opens-one : (l : List Noted) (k c m : ℕ) (a : Ask) (note : Note) (q : CoapRequest) → opens_by note ≡ Some q → Legal l
+    → at l k ≡ Some (noted m (Asks c a) note) → joins (before l k) q ≡ None → has_room (before l k) m q ≡ true → OpensOne l k q
+opens-one l k c m a note q opens legal stands alone room = record {
+  since = m;
+  opened = opens-begun l k m (Asks c a) note q opens stands;
+  alone = alone;
+  room = room;
+  once = λ s t i j p r x y f g. sent-once l s t k i j p r x y legal f g;
+}
+
+-- An ask that isn't served could be served no more.
+pub unserved-of : (l : List Noted) (t : ℕ) (a : Ask) (note : Note) → MissNote l t a note → UnservedNote l t a.sense note
+unserved-of l t a (Renews q s) h = h.0
+unserved-of l t a note h = h
+
 opened : (l : List Noted) (k c m : ℕ) (a : Ask) (s : Sense) (note : Note) → a.sense ≡ s → Legal l
     → at l k ≡ Some (noted m (Asks c a) note) → AskNote (before l k) m s note → UnservedNote (before l k) m s note → OpensFor l m k s
 opened l k c m a (Requests q) (Begins r) e legal stands h misses =
-    inr (
-      misses,
-      inl (record {
-        since = m;
-        opened = begins;
-        alone = h.1;
-        room = h.2;
-        once = λ s t i j p r x y f g. sent-once l s t k i j p r x y legal f g;
-      }),
-    )
-  where
-    begins : begun l k ≡ Some (record { since = m; request = q })
-    begins = opening-begun l k m (Asks c a) q (subst (λ (v : CoapRequest). at l k ≡ Some (noted m (Asks c a) (Begins v))) h.0 stands)
+    inr (misses, inl (opens-one l k c m a (Begins r) q (ap (λ (v : CoapRequest). Some v) h.0) legal stands h.1 h.2))
+opened l k c m a (Requests q) (Renews r s) e legal stands h misses =
+    inr (misses, inl (opens-one l k c m a (Renews r s) q (ap (λ (v : CoapRequest). Some v) h.0) legal stands h.1 h.2))
 opened l k c m a (Requests q) (Joins o) e legal stands h misses = inr (misses, inr (inl (joins-one l k c m o a q legal stands h)))
 opened l k c m a (Requests q) (Serves js) e legal stands h served =
     inl (serves-one l k c m a q js e stands legal h.0 h.1 h.2 h.3)
@@ -208,7 +216,7 @@ opened l k c m a s note e legal stands h u = absurd h
 pub asked-once : (l : List Noted) (k c : ℕ) (a : Ask) → Legal l → (h : IsAsk l k c a) → OpensFor l h.moment k a.sense
 asked-once l k c a legal h =
     let may = follows-at l k _ legal h.stands in
-    opened l k c h.moment a a.sense h.note refl legal h.stands may.3 may.4
+    opened l k c h.moment a a.sense h.note refl legal h.stands may.3 (unserved-of (before l k) h.moment a h.note may.4)
 
 ask-sent : (l : List Noted) (i t : ℕ) (p : Peer) (b : List ℕ) (w : Option ℕ) (o : ℕ) (m : Content) → Legal l
     → at l i ≡ Some (noted t (Sends p b w) (First o m)) → IsAskSent l i p b
@@ -226,11 +234,11 @@ ask-sent l i t p b w o m legal e =
       timeout = w;
       stands = e;
       after = it.after;
-      asks = record { moment = it.exchange.since; note = Begins it.exchange.request; stands = ask.stands };
+      asks = record { moment = it.exchange.since; note = ask.note; stands = ask.stands };
       sense = ask.sense;
       peer = it.peer;
       block = asks.0;
-      observes = asks.1;
+      manner = asks.1;
       carries = asks.2;
       spelled = it.spelled;
     }

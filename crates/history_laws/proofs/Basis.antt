@@ -6,20 +6,22 @@ use Rattle.coap_codec.specs.Spelling.{Content}
 use Rattle.uri_map.specs.declared.peer.Peer.{Peer}
 use Rattle.coap_codec.specs.declared.block.Block.{Block}
 use Rattle.uri_map.specs.Limits.{option_with}
-use Rattle.ask_model.specs.Requests.{CoapRequest, Requests, asking, request_message, block_message, block_option, block_value, carried_by, uint_bytes}
+use Rattle.ask_model.specs.Requests.{CoapRequest, Requests, Manner, Plainly, asking, request_message, block_message, block_option, block_value, carried_by, uint_bytes}
 use Rattle.ask_model.specs.Views.{Ask}
 use Rattle.journal_book.specs.Entries.{Grounds, Live, Asks, Answers}
 use Rattle.history_laws.specs.Responses.{Response}
 use Rattle.history_laws.specs.Readings.{Noted, Note, at}
 use Rattle.history_laws.specs.Progress.{Reply, numbers, Ending, Whole, Reset, TimedOut}
-use Rattle.history_laws.specs.Exchanges.{Begun, begun, Turn, Nothing, Sent, Replied, Rejected, Expired, turn, replies_by, replies, End, replied_end, end_here, end_by, end_of}
+use Rattle.history_laws.specs.Exchanges.{Begun, begun, unless_renewed, kept, Turn, Nothing, Sent, Replied, Rejected, Expired, turn, replies_by, replies, End, replied_end, end_here, end_by, end_of}
 use Rattle.history_laws.specs.Justified.{IsAsk, Ends as EndsAs, reads_in, reads, HasGrounds, Follows, Legal}
-use Rattle.history_laws.specs.Laws.{IsFirst, IsAnswer, IsReplyTo, RestsOn}
+use Rattle.history_laws.specs.Laws.{IsFirst, IsAnswer, IsReplyTo}
+use Rattle.history_laws.specs.Grounds.{RestsOn}
 use Rattle.history_laws.proofs.Facts.{IsAsk-keeps, IsFirst-keeps}
 use Rattle.history_laws.proofs.Answering.{IsAnswer-old}
 use Rattle.history_laws.proofs.Replies.{IsReplyTo-keeps, replies-fit}
 use Rattle.history_laws.proofs.Sent.{next-is, sent-for}
-use Rattle.history_laws.proofs.Going.{GoesSo, goes-so, made-replied}
+use Rattle.resp_cache.specs.Stored.{Stored}
+use Rattle.history_laws.proofs.Going.{GoesSo, goes-so, made-replied, unless-whole}
 use Rattle.history_laws.proofs.Joining.{Alike, reader, reader-alike, reads-opened}
 use Rattle.history_laws.proofs.Places.{at-keeps, at-same}
 use Rattle.history_laws.proofs.Resting.{none-some, some-is}
@@ -40,37 +42,38 @@ ending n how = record { number = n; how = how }
 end-how : (k how : Ending) (n e : ℕ) → Some (ending n k) ≡ Some (ending e how) → k ≡ how
 end-how k how n e f = ap (λ (x : End). x.how) (some-is _ _ f)
 
-made-step : (b : Option Begun) (u : Turn) (n e : ℕ) (rs : List Reply) (old : Option End) (w : Response) (ws : List Reply) (x : Reply)
+made-step : (b : Option Begun) (v : Option Stored) (u : Turn) (n e : ℕ) (rs : List Reply) (old : Option End) (w : Response) (ws : List Reply) (x : Reply)
     → (old ≡ None → GoesSo b rs)
-    → (IsMade old e w ws → Contains rs x) → IsMade (end_by (end_here b n rs u) n old) e w ws → Contains ws x → Contains (replies_by n u rs) x
-made-step b Nothing n e rs old w ws x goes ih h has = ih h
-made-step b (Sent i) n e rs old w ws x goes ih h has = ih h
-made-step b (Replied i m place) n e rs old w ws x goes ih h has = go (replied_end b place (rs ++ r ∷ [])) refl old refl h
+    → (IsMade old e w ws → Contains rs x) → IsMade (end_by (end_here b v n rs u) n old) e w ws → Contains ws x → Contains (replies_by n u rs) x
+made-step b v Nothing n e rs old w ws x goes ih h has = ih h
+made-step b v (Sent i) n e rs old w ws x goes ih h has = ih h
+made-step b v (Replied i m place) n e rs old w ws x goes ih h has = go (unless_renewed v rs r (replied_end b place (rs ++ r ∷ []))) refl old refl h
   where
     r : Reply
     r = record { number = n; sending = i; message = m }
 
-    go : (how : Option Ending) → replied_end b place (rs ++ r ∷ []) ≡ how → (o : Option End) → old ≡ o → IsMade (end_by how n o) e w ws
+    go : (how : Option Ending) → unless_renewed v rs r (replied_end b place (rs ++ r ∷ [])) ≡ how → (o : Option End) → old ≡ o → IsMade (end_by how n o) e w ws
         → Contains (rs ++ r ∷ []) x
     go None is o was h = Contains-append_left rs (r ∷ []) x (ih (was ∙ h))
     go (Some how) is (Some f) was h = Contains-append_left rs (r ∷ []) x (ih (was ∙ h))
     go (Some how) is None was h =
-        made-has b place rs r w ws x (goes was) (is ∙ ap (λ (v : Ending). Some v) (end-how how (Whole w ws) n e h)) has
-made-step b Rejected n e rs None w ws x goes ih h has = absurd (other (end-how Reset (Whole w ws) n e h))
+        made-has b place rs r w ws x (goes was)
+        (unless-whole v rs r _ w ws (is ∙ ap (λ (v : Ending). Some v) (end-how how (Whole w ws) n e h))) has
+made-step b v Rejected n e rs None w ws x goes ih h has = absurd (other (end-how Reset (Whole w ws) n e h))
   where
     other : Reset ≡ Whole w ws → ⊥
     other f = cc
-made-step b Rejected n e rs (Some f) w ws x goes ih h has = ih h
-made-step b Expired n e rs None w ws x goes ih h has = absurd (other (end-how TimedOut (Whole w ws) n e h))
+made-step b v Rejected n e rs (Some f) w ws x goes ih h has = ih h
+made-step b v Expired n e rs None w ws x goes ih h has = absurd (other (end-how TimedOut (Whole w ws) n e h))
   where
     other : TimedOut ≡ Whole w ws → ⊥
     other f = cc
-made-step b Expired n e rs (Some f) w ws x goes ih h has = ih h
+made-step b v Expired n e rs (Some f) w ws x goes ih h has = ih h
 
 pub made-of : (l : List Noted) (o e : ℕ) (w : Response) (ws : List Reply) (x : Reply) → EndsAs l o e (Whole w ws) → Contains ws x → Contains (replies l o) x
 made-of [] o e w ws x h has = cc
 made-of (y ∷ older) o e w ws x h has =
-    made-step (begun older o) (turn older o y) (length older) e (replies older o) (end_of older o) w ws x (goes-so older o)
+    made-step (begun older o) (kept older o) (turn older o y) (length older) e (replies older o) (end_of older o) w ws x (goes-so older o)
     (λ f. made-of older o e w ws x f has) h has
 
 pub number-of : (rs : List Reply) (j : ℕ) → Contains (numbers rs) j → (r : Reply) × Contains rs r × (r.number ≡ j)
@@ -81,37 +84,6 @@ number-of (r ∷ rs) j (suc i, lt, e) =
     let place = h.1 in
     (h.0, (suc place.0, let b = place.1 in omega arith, place.2), h.2)
 
--- what stands at a number does so in a longer history
-reads-keeps : (x : Noted) (l : List Noted) (k o : ℕ) → reads l k ≡ Some o → reads (x ∷ l) k ≡ Some o
-reads-keeps x l k o e = by (at l k) refl e
-  where
-    by : (y : Option Noted) → at l k ≡ y → reads_in k y ≡ Some o → reads (x ∷ l) k ≡ Some o
-    by None is f = absurd (none-some o f)
-    by (Some y) is f = ap (reads_in k) (at-keeps x l k y is) ∙ f
-
-RestsOn-keeps : (x : Noted) (l : List Noted) (k j : ℕ) → RestsOn l k j → RestsOn (x ∷ l) k j
-RestsOn-keeps x l k j h =
-    record {
-      conn = h.conn;
-      ask = h.ask;
-      request = h.request;
-      asked = IsAsk-keeps x l k _ _ h.asked;
-      sense = h.sense;
-      opening = h.opening;
-      reads = reads-keeps x l k h.opening h.reads;
-      not_later = h.not_later;
-      reply = h.reply;
-      number = h.number;
-      fits = IsReplyTo-keeps x l h.opening h.reply h.fits;
-      after = h.after;
-      moment = h.moment;
-      mid = h.mid;
-      token = h.token;
-      block = h.block;
-      observes = h.observes;
-      first = IsFirst-keeps x l _ h.opening _ _ _ h.first;
-    }
-
 -- A reply to an exchange came to a message that asks just what an equal request means, or for a block of that.
 pub record Brought (l : List Noted) (o : ℕ) (q : CoapRequest) (r : Reply) : Type 0 where
   pub fits : IsReplyTo l o r
@@ -120,8 +92,8 @@ pub record Brought (l : List Noted) (o : ℕ) (q : CoapRequest) (r : Reply) : Ty
   pub mid : ℕ
   pub token : List ℕ
   pub block : Option Block
-  pub observes : Bool
-  pub first : IsFirst l moment o r.sending q.peer (asking observes q block mid token)
+  pub manner : Manner
+  pub first : IsFirst l moment o r.sending q.peer (asking manner q block mid token)
 
 -- A request that is alike is so with each block.
 pub blocks-alike : (q r : CoapRequest) (mid : ℕ) (token : List ℕ) (block : Option Block) → request_message q mid token ≡ request_message r mid token
@@ -133,10 +105,10 @@ blocks-alike q r mid token (Some b) e =
       payload = carried_by m.code (Some b) m.payload;
     }) e
 
-pub asking-alike : (observes : Bool) (q r : CoapRequest) (mid : ℕ) (token : List ℕ) (block : Option Block) → Alike q r
-    → asking observes q block mid token ≡ asking observes r block mid token
-asking-alike observes q r mid token None alike = alike.1 observes mid token
-asking-alike observes q r mid token (Some b) alike = blocks-alike q r mid token (Some b) (alike.1 false mid token)
+pub asking-alike : (manner : Manner) (q r : CoapRequest) (mid : ℕ) (token : List ℕ) (block : Option Block) → Alike q r
+    → asking manner q block mid token ≡ asking manner r block mid token
+asking-alike manner q r mid token None alike = alike.1 manner mid token
+asking-alike manner q r mid token (Some b) alike = blocks-alike q r mid token (Some b) (alike.1 Plainly mid token)
 
 -- The same of what was heard for the exchange.
 pub brought-by : (l : List Noted) (o : ℕ) (b : Begun) (q : CoapRequest) (r : Reply) → Legal l → begun l o ≡ Some b → Alike q b.request
@@ -156,7 +128,7 @@ brought-by l o b q r legal opened alike fits =
       mid = fits.sent.mid;
       token = fits.sent.token;
       block = asks.0;
-      observes = asks.1;
+      manner = asks.1;
       first = subst (λ (p : Peer). IsFirst l fits.sent_at o r.sending p (asking asks.1 q asks.0 fits.sent.mid fits.sent.token)) peer
           (subst (λ (m : Content). IsFirst l fits.sent_at o r.sending fits.peer m) message fits.first);
     }
@@ -165,7 +137,7 @@ pub brought : (l : List Noted) (o : ℕ) (b : Begun) (q : CoapRequest) (r : Repl
     → Contains (replies l o) r → Brought l o q r
 brought l o b q r legal opened alike has = brought-by l o b q r legal opened alike (replies-fit l o r legal has)
 
-rests-own : (l : List Noted) (k o : ℕ) (r : Reply) → Legal l → reads l k ≡ Some o → Contains (replies l o) r → RestsOn l k r.number
+pub rests-own : (l : List Noted) (k o : ℕ) (r : Reply) → Legal l → reads l k ≡ Some o → Contains (replies l o) r → RestsOn l k r.number
 rests-own l k o r legal e has =
     let it = reader l k o legal e in
     let came = brought l o it.exchange it.request r legal it.opened (reader-alike l k o it) has in
@@ -186,27 +158,12 @@ rests-own l k o r legal e has =
       mid = came.mid;
       token = came.token;
       block = came.block;
-      observes = came.observes;
+      manner = came.manner;
       first = came.first;
     }
 
-rests-on : (l : List Noted) (t k j : ℕ) (js : List ℕ) → Legal l → HasGrounds l t k (Live js) → Contains js j → RestsOn l k j
-rests-on l t k j js legal h has =
-    let it = number-of h.3 j (subst (λ (js : List ℕ). Contains js j) h.6 has) in
-    subst (RestsOn l k) it.2 (rests-own l k h.0 it.0 legal h.4 (made-of l h.0 h.1 h.2 h.3 it.0 h.5 it.1))
-
 pub grounds-of : (l : List Noted) (t c k : ℕ) (g : Grounds) (note : Note) → Follows l t (Answers c k g) note → HasGrounds l t k g
 grounds-of l t c k g note f = f.3
-
-pub rests-on-its-own : (l : List Noted) (n c k j : ℕ) (js : List ℕ) → Legal l → IsAnswer l n c k (Live js) → Contains js j → RestsOn l k j
-rests-on-its-own [] n c k j js legal a has = cc (a.stands)
-rests-on-its-own (x ∷ older) n c k j js legal a has =
-    elim (IsAnswer-old x older n c k (Live js) a) [
-      | inl w ↦
-          let follows = subst (λ (v : Noted). Follows older v.written.moment v.written.deed v.note) w.1.2 legal.2 in
-          RestsOn-keeps x older k j (rests-on older w.1.0 k j js legal.0 (grounds-of older w.1.0 c k (Live js) w.1.1 follows) has)
-      | inr w ↦ RestsOn-keeps x older k j (rests-on-its-own older n c k j js legal.0 w has)
-    ]
 
 pub requests-same : (l : List Noted) (k c d : ℕ) (a b : Ask) (q r : CoapRequest) → IsAsk l k c a → IsAsk l k d b → a.sense ≡ Requests q → b.sense ≡ Requests r
     → q ≡ r

@@ -1,12 +1,15 @@
 -- The lemmas on a history that other crates cite. Declares nothing, and no other module of proofs/ can be named from outside.
 pub use Rattle.history_laws.proofs.Answering.{answered-in-order, answered-once, asks-keep, asks-once, asks-stand, IsAnswer-old, more-answers, next-ask, push-cases}
-pub use Rattle.history_laws.proofs.Basis.{asking-alike, blocks-alike, brought-by, made-of, number-of, requests-same, rests-on-its-own}
+pub use Rattle.history_laws.proofs.Basis.{asking-alike, blocks-alike, brought-by, made-of, number-of, requests-same}
+pub use Rattle.history_laws.proofs.Own.{rests-on-its-own}
 pub use Rattle.history_laws.proofs.Wholes.{end-below, ends-all, EndsAll}
-pub use Rattle.history_laws.proofs.Going.{EndsWhole, ends-whole, going-not, goes-so, GoesSo, IsGoing, MadeTurn}
-pub use Rattle.history_laws.proofs.Fetching.{AreAsked, AreGiven, asks-first, CameTo, came-to, GivenSoFar, IsMadeOf, pieces_in, progress-push, SoFar, split-push, upload_in}
-pub use Rattle.history_laws.proofs.Storing.{carried-current, carried-rests, ended-uncopied, kept-served, rests-on-the-store, Served, served-by, stored-current, stored-rests, stored-shared}
+pub use Rattle.history_laws.proofs.Going.{EndsRenewed, ends-renewed, EndsWhole, ends-whole, going-not, goes-so, GoesSo, IsConfirmedBy, IsGoing, MadeTurn, RenewedTurn, unless-cases, unless-none, unless-whole}
+pub use Rattle.history_laws.proofs.Kept.{at-kept, Keeps, keeps-at, kept-before, kept-early, renews-for, RenewsFor}
+pub use Rattle.history_laws.proofs.Renewing.{asks-back, confirmed-as-asked, heard-told, kept-listed, renewal-shared, renewed-here, RenewedHere, renewed-of, stored-since, stored-told, stored-unoutrun, told-same}
+pub use Rattle.history_laws.proofs.Fetching.{AreAsked, AreGiven, asks-first, CameTo, came-to, GivenSoFar, IsMadeOf, pieces_in, progress-push, SoFar, split-push, step-unrenewed, upload_in}
+pub use Rattle.history_laws.proofs.Storing.{carried-current, copied-current, carried-rests, ended-uncopied, kept-served, rests-on-the-store, Served, served-by, stored-current, stored-rests, stored-shared}
 pub use Rattle.history_laws.proofs.Carried.{served_carried-holds}
-pub use Rattle.history_laws.proofs.Carrying.{at-carried, Backs, backs, begun-uncarried, carried-at, carried-before, carried-below, carried-fit, carried-keeps, carried-own, carried-replies-own, carried-reply, CarriedAsk, carries-back, carries-keeps, copy-at, has-carried, no-carried, none-carried, reply-before, uncarried}
+pub use Rattle.history_laws.proofs.Carrying.{as-heard, at-carried, Backs, backs, begun-uncarried, carried-at, carried-before, carried-below, carried-fit, carried-keeps, carried-own, carried-replies-own, carried-reply, CarriedAsk, carries-back, carries-keeps, copy-at, has-carried, has-renewing, heard-of, no-carried, no-renewal, no-renewed, none-carried, none-kept, reply-before, uncarried, unrenewed-stored}
 pub use Rattle.history_laws.proofs.Copied.{answered_anew-holds, get-again-spelled}
 pub use Rattle.history_laws.proofs.Copying.{at-still, before-twice, ticked-newest}
 pub use Rattle.history_laws.proofs.Elements.{all-filter, all-more, all-of, all-passes, all-push, any-find, any-of, contains-filter, contains-later, contains-map, contains-mapped, contains-none, filter-by, filter-push, filtered-from, find-any, find-some, first-or-later, got-last, got-more, is-some}
@@ -22,11 +25,13 @@ pub use Rattle.history_laws.proofs.Pieces.{fetched-holds, gap_heard-holds, get-o
 pub use Rattle.history_laws.proofs.Readers.{both_answered-holds}
 pub use Rattle.history_laws.proofs.Store.{read_from_store-holds}
 pub use Rattle.history_laws.proofs.Refusals.{maps-refusal}
+pub use Rattle.history_laws.proofs.Renewed.{next-spelled, renewed-holds, renewed_again-holds, served_renewed-holds, tagged-spelled, valid-8-spelled, valid-again-spelled, validates-spelled}
 pub use Rattle.history_laws.proofs.Firsts.{all-listed, first-found, first-is, first-listed, first-older, firsts-ids, firsts-tokens, IsBygone, IsListed, listed-below, way-first}
 pub use Rattle.history_laws.proofs.Replies.{found, Found, replies-fit}
 pub use Rattle.history_laws.proofs.Resting.{and-left, and-right, none-is, none-of, none-some, some-is}
 pub use Rattle.history_laws.proofs.Sendings.{any-first, IsFirst-old, may-be}
-pub use Rattle.history_laws.proofs.Sent.{asked-for, asking-plain, begun-before, begun-below, begun-keeps, begun-opening, next-is, opening-begun, past, Past, sent-for, sent-once}
+pub use Rattle.history_laws.proofs.Sent.{asked-for, asking-plain, begun-before, begun-below, begun-keeps, begun-opening, next-is, opening-begun, opens-begun, opens-so, OpensSo, past, Past, sent-for, sent-once}
+pub use Rattle.history_laws.proofs.Asked.{unserved-of}
 pub use Rattle.history_laws.proofs.Settled.{ask-listed, few-waiting, next-above, open-below, range-passes, waited-or-answered}
 pub use Rattle.history_laws.proofs.Turns.{heard-sends, NotRst, turn-replied, turn-sent, waits-first}
 pub use Rattle.history_laws.proofs.Queue.{awaiting-stays, filter-all, filter-none, going-before, issued-few, issued-same, none-submitted, NoReply, opened-issued, opened-queued, opened-rank, IsReplyAt, issued-more, listed-are, queue-kept, queue-rises, queue-same, rank-apart, rank-below, rank-keeps, replies-stay, submits-by, submitted-apart, submitted-below, submitted-cases, submitted-once, unawaited-quiet, waiting-begun, waiting-goes, waiting-has, waiting-stays, waiting-unsent}

@@ -7,7 +7,7 @@ use Rattle.coap_codec.specs.Spelling.{Content}
 use Rattle.coap_codec.specs.declared.block.Block.{Block}
 use Rattle.std.specs.Prelude.{Option, nat_lt, ◌+◌}
 use Rattle.resp_cache.specs.Stored.{Stored, lifetime, is_fresh}
-use Rattle.ask_model.specs.Requests.{CoapRequest, Requests, asking}
+use Rattle.ask_model.specs.Requests.{CoapRequest, Requests, Manner, Plainly, Observing, Validating, asking}
 use Rattle.ask_model.specs.Sharing.{asked_place, asks_same}
 use Rattle.journal_book.specs.Entries.{Opens}
 use Rattle.history_laws.specs.Responses.{Response, response_of, whole_of}
@@ -17,7 +17,7 @@ use Rattle.history_laws.specs.Transmissions.{FirstSending}
 use Rattle.history_laws.specs.Exchanges.{Begun, openings}
 use Rattle.history_laws.specs.Joining.{is_joinable, outrun}
 use Rattle.history_laws.specs.Carrying.{carried, carried_replies}
-use Rattle.history_laws.specs.Storing.{IsCarried, IsStored}
+use Rattle.history_laws.specs.Storing.{IsAsHeard, IsCarried}
 use Rattle.history_laws.specs.Justified.{Legal}
 use Rattle.history_laws.specs.Worked.{Holds, Refused, server, token}
 use Rattle.history_laws.specs.WorkedMessages.{get_light, get_message, put_message, content_message}
@@ -27,6 +27,7 @@ use Rattle.history_laws.proofs.Elements.{contains-none, first-or-later}
 use Rattle.history_laws.proofs.Joining.{shared-is}
 use Rattle.history_laws.proofs.Messages.{get-spelled, content-spelled}
 use Rattle.history_laws.proofs.Openings.{begun-listed}
+use Rattle.history_laws.proofs.Carrying.{as-heard, unrenewed-stored}
 use Rattle.history_laws.proofs.Resting.{at-rest, may-come, none-some, some-is}
 
 legal-light : Legal carried_light
@@ -39,7 +40,7 @@ legal-light = (
       lit≤ tt,
       (
         record { spelled = get-spelled; token_size = refl; token_apart = refl; mid_apart = refl; first_wait = refl },
-        record { exchange = record { since = 0; request = get_light }; asked = refl; peer = refl; observes = false; block = None; asks = refl },
+        record { exchange = record { since = 0; request = get_light }; asked = refl; peer = refl; manner = Plainly; block = None; asks = refl },
       ),
     ),
   ),
@@ -97,7 +98,7 @@ served_carried-holds = (
     (
       (legal-light, lit≤ tt, (may-come _ refl refl, lit≤ tt, tt)),
       lit≤ tt,
-      (may-come _ refl refl, refl, refl, (stored-light, inr is-light, refl, refl), tt),
+      (may-come _ refl refl, refl, refl, (stored-light, unrenewed-stored (opened_at 64999) get_light stored-light refl (inr is-light), refl, refl), tt),
     ),
     lit≤ tt,
     (refl, refl, refl, (2, _, refl), tt),
@@ -121,7 +122,7 @@ of-light o b e = elim (eqb_tells 0 o) [
   | inr w ↦ absurd (none-some b (subst (λ (c : Bool). cond c (Some light-begun) None ≡ Some b) w.0 e))
 ]
 
-stale-then : (s : Stored) → IsStored (opened_at 65000) get_light s → is_fresh 65000 s ≡ true → ⊥
+stale-then : (s : Stored) → IsAsHeard (opened_at 65000) get_light s → is_fresh 65000 s ≡ true → ⊥
 stale-then s (inl is) fresh = none-opened (opened_at 65000) get_light is.opening refl is.shared
 stale-then s (inr is) fresh =
     let one = of-light is.opening is.carries.exchange is.carries.asked in
@@ -143,19 +144,19 @@ stale-then s (inr is) fresh =
     first-of x y e = cc
 
 pub carried_late-refused : Refused carried_late
-carried_late-refused h = stale-then h.2.3.0 h.2.3.1 h.2.3.2
+carried_late-refused h = stale-then h.2.3.0 (as-heard (opened_at 65000) get_light h.2.3.0 refl h.2.3.1) h.2.3.2
 
 pub carried_for_another-refused : Refused carried_for_another
-carried_for_another-refused h = by h.2.3.0 h.2.3.1
+carried_for_another-refused h = by h.2.3.0 (as-heard (opened_at 64999) get_bright h.2.3.0 refl h.2.3.1)
   where
-    by : (s : Stored) → IsStored (opened_at 64999) get_bright s → ⊥
+    by : (s : Stored) → IsAsHeard (opened_at 64999) get_bright s → ⊥
     by s (inl is) = none-opened (opened_at 64999) get_bright is.opening refl is.shared
     by s (inr is) =
         let one = of-light is.opening is.carries.exchange is.carries.asked in
         false≢true (subst (λ (b : Begun). asks_same get_bright b.request ≡ true) (sym one.1) is.same)
 
 pub carried_outrun-refused : Refused carried_outrun
-carried_outrun-refused h = by h.2.3.0 h.2.3.1
+carried_outrun-refused h = by h.2.3.0 (as-heard written_since get_light h.2.3.0 refl h.2.3.1)
   where
     opened : (o : ℕ) → is_joinable written_since get_light o ≡ true → 4 ≡ o
     opened o may = elim (first-or-later 4 [] o (begun-listed written_since o (ap is_some (shared-is written_since get_light o may).opened))) [
@@ -163,22 +164,23 @@ carried_outrun-refused h = by h.2.3.0 h.2.3.1
       | inr w ↦ absurd (contains-none o w)
     ]
 
-    by : (s : Stored) → IsStored written_since get_light s → ⊥
+    by : (s : Stored) → IsAsHeard written_since get_light s → ⊥
     by s (inl is) = false≢true (subst (λ (o : ℕ). is_joinable written_since get_light o ≡ true) (sym (opened is.opening is.shared)) is.shared)
     by s (inr is) =
         let one = of-light is.opening is.carries.exchange is.carries.asked in
         false≢true (sym (subst (λ (o : ℕ). outrun written_since (asked_place get_light) o ≡ false) (sym one.0) is.current))
 
-asks-code : (observes : Bool) (block : Option Block) (q : CoapRequest) (mid : ℕ) (token : List ℕ) → (asking observes q block mid token).code ≡ q.method
-asks-code observes (Some b) q mid token = refl
-asks-code true None q mid token = refl
-asks-code false None q mid token = refl
+asks-code : (manner : Manner) (block : Option Block) (q : CoapRequest) (mid : ℕ) (token : List ℕ) → (asking manner q block mid token).code ≡ q.method
+asks-code manner (Some b) q mid token = refl
+asks-code Plainly None q mid token = refl
+asks-code Observing None q mid token = refl
+asks-code (Validating tag) None q mid token = refl
 
 pub carried_other_message-refused : Refused carried_other_message
 carried_other_message-refused h =
     let sent = h.2.2.1 in
     let exchange : light-begun ≡ sent.exchange = some-is _ _ sent.asked in
-    apart (ap (λ (m : Content). m.code) sent.asks ∙ (asks-code sent.observes sent.block sent.exchange.request 1 (token 1)
+    apart (ap (λ (m : Content). m.code) sent.asks ∙ (asks-code sent.manner sent.block sent.exchange.request 1 (token 1)
     ∙ sym (ap (λ (b : Begun). b.request.method) exchange)))
   where
     apart : put_message.code ≡ get_light.method → ⊥

@@ -1,5 +1,5 @@
 -- What a journal begins with that answers may rest on.
-use Rattle.std.proofs.Common.{◌≡◌, ℕ, ◌<◌, Bool, true, false, cond, eqb, inl, inr, List, [], ◌∷◌, ◌++◌, length, Option, Some, None, is_some, refl, sym, ap, subst, ◌∙◌, arith}
+use Rattle.std.proofs.Common.{◌||◌, ◌≡◌, ℕ, ◌<◌, Bool, true, false, cond, eqb, inl, inr, List, [], ◌∷◌, ◌++◌, length, Option, Some, None, is_some, refl, sym, ap, subst, ◌∙◌, arith}
 use Rattle.std.specs.List.{Contains, list_any}
 use Rattle.std.specs.Str.{bytes_eq}
 use Rattle.std.proofs.lemmas.Bool.Decides.{eqb_tells}
@@ -11,22 +11,24 @@ use Rattle.coap_codec.specs.declared.block.Block.{Block}
 use Rattle.uri_map.specs.declared.peer.Peer.{Peer}
 use Rattle.uri_map.specs.Peers.{same_peer}
 use Rattle.uri_map.proofs.CallerLemmas.{same_peer-same}
-use Rattle.ask_model.specs.Requests.{CoapRequest, Sense, Requests, Refuses, asking}
+use Rattle.ask_model.specs.Requests.{CoapRequest, Sense, Requests, Refuses, Manner, asking}
 use Rattle.ask_model.specs.Views.{Ask}
 use Rattle.journal_book.specs.Entries.{Mark, Deed, Opens, Asks, Sends, Hears, Passes, Answers, Shuts, Seals, Carries}
 use Rattle.journal_book.specs.Entries as D
 use Rattle.history_laws.specs.Responses.{Response}
-use Rattle.history_laws.specs.Readings.{Noted, Note, Begins, First, Recalls, Answered, carries, are_copies, at, before, noted}
-use Rattle.history_laws.specs.Progress.{Reply}
+use Rattle.history_laws.specs.Readings.{Noted, Note, Begins, Renews, First, Recalls, Answered, carries, are_copies, at, before, noted}
+use Rattle.history_laws.specs.Progress.{Reply, Renewed}
 use Rattle.history_laws.specs.Transmissions.{FirstSending, firsts}
-use Rattle.history_laws.specs.Exchanges.{Begun, begun, begun_by}
+use Rattle.history_laws.specs.Exchanges.{Begun, begun, begun_by, opens_by, kept_by, kept}
 use Rattle.history_laws.specs.Hearing.{IsReplyKind}
 use Rattle.history_laws.specs.Carrying.{asked_for, carried_by, carried, replied_by, is_replied_by, reply_to, carried_replies_by, carried_replies, CarriesSo}
 use Rattle.resp_cache.specs.Stored.{Stored}
-use Rattle.history_laws.specs.Storing.{IsBrought, IsStored}
-use Rattle.history_laws.specs.Justified.{CopiedNote, RepliesToCopied, IsSentForCopied, IsApart, Follows, Legal}
-use Rattle.history_laws.specs.Laws.{IsCarriedReply, CarriedRepliesFit}
+use Rattle.history_laws.specs.Storing.{IsAsHeard, IsBrought, IsRenewal, IsUnrenewed, IsStored}
+use Rattle.history_laws.specs.Justified.{Ends as EndsAs, CopiedNote, RepliesToCopied, IsSentForCopied, IsApart, Follows, Legal}
+use Rattle.history_laws.specs.Grounds.{IsCarriedReply, CarriedRepliesFit}
 use Rattle.history_laws.proofs.Elements.{contains-none, find-some}
+use Rattle.history_laws.proofs.Going.{ends-renewed}
+use Rattle.history_laws.proofs.Kept.{kept-before}
 use Rattle.history_laws.proofs.Facts.{at-before, eqb-itself, eqb-same, follows-at, length-before}
 use Rattle.history_laws.proofs.Firsts.{all-listed}
 use Rattle.history_laws.proofs.Places.{at-below, at-cases, at-keeps, at-new, at-old, at-same}
@@ -123,12 +125,14 @@ pub begun-uncarried : (l : List Noted) (o : ℕ) (b c : Begun) → Legal l → c
 begun-uncarried l o b c legal e f =
     let h = carried-at l o b e in
     let g = begun-opening l o c f in
-    let note = ap (λ (x : Noted). x.note) (at-same l o _ _ h.stands g.1) in
+    let note = ap (λ (x : Noted). x.note) (at-same l o _ _ h.stands g.2) in
     let may : Follows (before l o) b.since (Carries h.old D.Ground (D.Asked h.conn h.ask)) h.note = follows-at l o _ legal h.stands in
-    never (subst (λ (v : Note). CopiedNote (before l o) b.since D.Ground (D.Asked h.conn h.ask) v) note may.2)
+    never (before l o) b.since h.conn h.ask g.1 c.request g.3 (subst (λ (v : Note). CopiedNote (before l o) b.since D.Ground (D.Asked h.conn h.ask) v) note may.2)
   where
-    never : CopiedNote (before l o) b.since D.Ground (D.Asked (carried-at l o b e).conn (carried-at l o b e).ask) (Begins c.request) → ⊥
-    never h = h
+    never : (l : List Noted) (t c : ℕ) (a : Ask) (note : Note) (q : CoapRequest) → opens_by note ≡ Some q → CopiedNote l t D.Ground (D.Asked c a) note → ⊥
+    never l t c a (Begins r) q e h = h
+    never l t c a (Renews r s) q e h = h
+    never l t c a note q e h = cc
 
 -- An entry of the journal's own copies nothing.
 
@@ -175,7 +179,7 @@ copy-at (y ∷ older) n x all e = elim (at-old y older n x e) [
 
 -- the copy of a message that was sent for such an ask
 pub record Backs (l : List Noted) (f : FirstSending) (b : Begun) : Type 0 where
-  pub observes : Bool
+  pub manner : Manner
   pub block : Option Block
   pub old : ℕ
   pub text : List ℕ
@@ -183,7 +187,7 @@ pub record Backs (l : List Noted) (f : FirstSending) (b : Begun) : Type 0 where
   pub stands : at l f.number ≡ Some (noted f.moment (Carries old D.Ground (D.Sent f.peer text timeout)) (First f.opening f.message))
   pub spelled : Spells f.message text
   pub peer : f.peer ≡ b.request.peer
-  pub asks : f.message ≡ asking observes b.request block f.message.mid f.message.token
+  pub asks : f.message ≡ asking manner b.request block f.message.mid f.message.token
   pub opened : f.opening < f.number
 
 pub backs : (l : List Noted) (f : FirstSending) (b : Begun) → Legal l → Contains (firsts l) f → carried l f.opening ≡ Some b → are_copies l ≡ true → Backs l f b
@@ -217,7 +221,7 @@ backs l f b legal has e all = elim (all-listed l f has) [
         let below = carried-below (before l f.number) f.opening sent.exchange sent.asked in
         let size = length-before l f.number _ stands in
         record {
-          observes = sent.observes;
+          manner = sent.manner;
           block = sent.block;
           old = old;
           text = text;
@@ -225,7 +229,7 @@ backs l f b legal has e all = elim (all-listed l f has) [
           stands = stands;
           spelled = apart.spelled;
           peer = sent.peer ∙ ap (λ (c : Begun). c.request.peer) same;
-          asks = subst (λ (c : Begun). f.message ≡ asking sent.observes c.request sent.block f.message.mid f.message.token) same sent.asks;
+          asks = subst (λ (c : Begun). f.message ≡ asking sent.manner c.request sent.block f.message.mid f.message.token) same sent.asks;
           opened = omega (arith, below, size);
         }
 
@@ -239,7 +243,7 @@ fits-keeps x l o r (b, asked, h) = (
   b,
   carried-keeps x l o b asked,
   record {
-    observes = h.observes;
+    manner = h.manner;
     block = h.block;
     mid = h.mid;
     sent_at = h.sent_at;
@@ -277,13 +281,13 @@ fits-new l t k o p bytes m a f legal all may is same = subst (λ (n : ℕ). Fits
         let parts = and_parts (same_peer g.peer p) (bytes_eq g.message.token m.token) it.1 in
         let peer : p ≡ b.request.peer = sym (same_peer-same g.peer p parts.0) ∙ copy.peer in
         let token : g.message.token ≡ m.token = (bytes_eq-Decides g.message.token m.token).0 parts.1 in
-        let asks : g.message ≡ asking copy.observes b.request copy.block g.message.mid m.token =
-        copy.asks ∙ ap (λ (v : List ℕ). asking copy.observes b.request copy.block g.message.mid v) token in
+        let asks : g.message ≡ asking copy.manner b.request copy.block g.message.mid m.token =
+        copy.asks ∙ ap (λ (v : List ℕ). asking copy.manner b.request copy.block g.message.mid v) token in
         let below = at-below l g.number _ copy.stands in (
           b,
           carried-keeps x l g.opening b here,
           record {
-            observes = copy.observes;
+            manner = copy.manner;
             block = copy.block;
             mid = g.message.mid;
             sent_at = g.moment;
@@ -291,7 +295,7 @@ fits-new l t k o p bytes m a f legal all may is same = subst (λ (n : ℕ). Fits
             text = copy.text;
             timeout = copy.timeout;
             sent = at-keeps x l g.number _
-                (subst (λ (v : Peer). at l g.number ≡ Some (noted g.moment (Carries copy.old D.Ground (D.Sent v copy.text copy.timeout)) (First g.opening (asking copy.observes b.request copy.block g.message.mid m.token)))) copy.peer
+                (subst (λ (v : Peer). at l g.number ≡ Some (noted g.moment (Carries copy.old D.Ground (D.Sent v copy.text copy.timeout)) (First g.opening (asking copy.manner b.request copy.block g.message.mid m.token)))) copy.peer
                 (subst (λ (v : Content). at l g.number ≡ Some (noted g.moment (Carries copy.old D.Ground (D.Sent g.peer copy.text copy.timeout)) (First g.opening v))) asks copy.stands));
             asks = subst (λ (v : Content). Spells v copy.text) asks copy.spelled;
             opened = copy.opened;
@@ -333,7 +337,7 @@ carried-reply (x ∷ older) o r legal has = fits-step older x.written.moment o x
 
 pub reply-before : (l : List Noted) (k o : ℕ) (q : CoapRequest) (r : Reply) → IsCarriedReply (before l k) o q r → IsCarriedReply l o q r
 reply-before l k o q r h = record {
-  observes = h.observes;
+  manner = h.manner;
   block = h.block;
   mid = h.mid;
   sent_at = h.sent_at;
@@ -379,6 +383,49 @@ none-carried (x ∷ older) o none =
 pub no-carried : (l : List Noted) (o : ℕ) (w : Response) (rs : List Reply) → has-carried l ≡ false → CarriesSo l o w rs → ⊥
 no-carried l o w rs none h = none-some h.exchange (sym (none-carried l o none) ∙ h.asked)
 
-pub uncarried : (l : List Noted) (q : CoapRequest) (s : Stored) → has-carried l ≡ false → IsStored l q s → IsBrought l q s
-uncarried l q s none (inl is) = is
-uncarried l q s none (inr is) = absurd (no-carried l is.opening s.response (is.first ∷ is.more) none is.carries)
+-- Where nothing is kept, nothing is renewed.
+abbrev pub is-renewing : Noted → Bool
+is-renewing x = is_some (kept_by x.note)
+
+abbrev pub has-renewing : List Noted → Bool
+has-renewing l = list_any is-renewing l
+
+pub none-kept : (l : List Noted) (o : ℕ) → has-renewing l ≡ false → kept l o ≡ None
+none-kept [] o none = refl
+none-kept (x ∷ older) o none =
+    let both = or_parts (is-renewing x) (has-renewing older) none in
+    by (eqb (length older) o) (kept_by x.note) both.0 (none-kept older o both.1)
+  where
+    by : (b : Bool) (v : Option Stored) → is_some v ≡ false → kept older o ≡ None → cond b v (kept older o) ≡ None
+    by true None e ih = refl
+    by true (Some s) e ih = absurd (false≢true (sym e))
+    by false v e ih = ih
+
+pub no-renewed : (l : List Noted) (o e : ℕ) (s : Stored) (r : Reply) → has-renewing l ≡ false → EndsAs l o e (Renewed s r) → ⊥
+no-renewed l o e s r none h =
+    let it = ends-renewed l o e s r h in
+    let keeps = kept-before l e o s it.turned.keeps in
+    none-some s (sym (none-kept l o none) ∙ keeps)
+
+pub no-renewal : (l : List Noted) (q : CoapRequest) (e : ℕ) → has-renewing l ≡ false → IsRenewal l q e → ⊥
+no-renewal l q e none h = no-renewed l h.opening e h.kept h.reply none h.ended
+
+pub heard-of : (l : List Noted) (q : CoapRequest) (s : Stored) → IsUnrenewed l q s → IsAsHeard l q s
+heard-of l q s (inl it) = inl it.0
+heard-of l q s (inr it) = inr it.0
+
+pub as-heard : (l : List Noted) (q : CoapRequest) (s : Stored) → has-renewing l ≡ false → IsStored l q s → IsAsHeard l q s
+as-heard l q s none (inl it) = heard-of l q s it
+as-heard l q s none (inr it) = absurd (no-renewal l q it.ending none it.renewal)
+
+pub uncarried : (l : List Noted) (q : CoapRequest) (s : Stored) → (has-carried l || has-renewing l) ≡ false → IsStored l q s → IsBrought l q s
+uncarried l q s none is = by (as-heard l q s (or_parts (has-carried l) (has-renewing l) none).1 is)
+  where
+    by : IsAsHeard l q s → IsBrought l q s
+    by (inl it) = it
+    by (inr it) = absurd (no-carried l it.opening s.response (it.first ∷ it.more) (or_parts (has-carried l) (has-renewing l) none).0 it.carries)
+
+-- what is as it was heard where nothing is renewed
+pub unrenewed-stored : (l : List Noted) (q : CoapRequest) (s : Stored) → has-renewing l ≡ false → IsAsHeard l q s → IsStored l q s
+unrenewed-stored l q s none (inl it) = inl (inl (it, λ e h. absurd (no-renewal l q e none h)))
+unrenewed-stored l q s none (inr it) = inl (inr (it, λ e h. absurd (no-renewal l q e none h)))

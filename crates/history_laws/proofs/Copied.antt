@@ -1,5 +1,5 @@
 -- The worked journals that begin with copies.
-use Rattle.std.proofs.Common.{refl, sym, lit≤}
+use Rattle.std.proofs.Common.{inl, refl, sym, lit≤}
 use Rattle.std.proofs.lemmas.Bool.{false≢true}
 use Rattle.coap_codec.specs.declared.message.MsgType.TheVariants.{Ack}
 use Rattle.coap_codec.specs.Spelling.{Spells}
@@ -84,7 +84,7 @@ answered_anew-holds = (
       (may-come _ refl refl, lit≤ tt, refl, record { spelled = content-again-spelled; unheard = refl; remembered = refl; says = refl }),
     ),
     lit≤ tt,
-    (refl, refl, refl, (6, 8, _, _, refl, refl, refl), tt),
+    (refl, refl, refl, inl (6, 8, _, _, refl, refl, refl), tt),
   ),
   at-rest _ refl,
 )

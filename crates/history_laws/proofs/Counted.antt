@@ -11,7 +11,7 @@ use Rattle.observe_share.specs.declared.registration.Registration.{Registration}
 use Rattle.observe_share.specs.declared.notice.Notice as Shared
 use Rattle.observe_share.specs.declared.notice.Notice.TheVariants.{Update, Other}
 use Rattle.observe_share.specs.Watches.{counted, counts_for, first_changed, in_place}
-use Rattle.history_laws.specs.Readings.{Noted, Note, Begins, Says, Notice, Observation, Unobserved, Registers, Updates, Outdates, Cancels, noted, at}
+use Rattle.history_laws.specs.Readings.{Noted, Note, Begins, Renews, Says, Notice, Observation, Unobserved, Registers, Updates, Outdates, Cancels, noted, at}
 use Rattle.history_laws.specs.Progress.{Reply, Progress, Fetches, Gives, Ends}
 use Rattle.history_laws.specs.Transmissions.{FirstSending, first_at}
 use Rattle.history_laws.specs.Exchanges.{Begun, Turn, replies, replies_by, waits_for}
@@ -174,6 +174,7 @@ held-step l t (Asks c a) note legal all = by a.sense note
 
     by : (s : Sense) (n : Note) → AllByRecursion P (asked_by t s n (watches l))
     by (Requests q) (Begins r) = all-filter P (λ (w : Watch). not (is_for q w)) (watches l) all
+    by (Requests q) (Renews r s) = all-filter P (λ (w : Watch). not (is_for q w)) (watches l) all
     by (Requests q) n = all-mapped P (asked_again q t) (λ w h. asked-held _ q t w h) (watches l) all
     by (Refuses cause status) n = all
 held-step l t (Hears p b) (Says m (Some i) notice) legal all = told-held l t p b m i notice legal all

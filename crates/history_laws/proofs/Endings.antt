@@ -33,7 +33,7 @@ legal-rejected = (
       (
         (legal-waiting, lit≤ tt, (may-come _ refl refl, lit≤ tt, refl, record { spelled = non-spelled; unheard = refl; remembered = refl; says = refl })),
         lit≤ tt,
-        (refl, refl, refl, (1, 5, _, _, refl, refl, refl), tt),
+        (refl, refl, refl, inl (1, 5, _, _, refl, refl, refl), tt),
       ),
       lit≤ tt,
       (

@@ -14,9 +14,10 @@ use Rattle.coap_codec.specs.declared.block.Block.{Block}
 use Rattle.blockwise.specs.Uploads.{UploadValue, begun, answer_to, next_block, next_of}
 use Rattle.blockwise.specs.declared.upload.Answered.{Answered}
 use Rattle.blockwise.specs.declared.upload.Answered.TheVariants as A
-use Rattle.ask_model.specs.Requests.{CoapRequest, asking, block_message, opening_message}
+use Rattle.ask_model.specs.Requests.{CoapRequest, Manner, Plainly, asking, block_message, opening_message}
 use Rattle.history_laws.specs.Responses.{Response, response_of, joined, is_tellable, whole_by, whole_given, whole_of}
-use Rattle.history_laws.specs.Progress.{Reply, messages, Ending, Whole, NotUnderstood, Reset, TimedOut, Turned, Progress, Fetches, Gives, Ends, first_progress, answered_so, anew, fetched_by, fetched_whole, step, progress, next_message}
+use Rattle.resp_cache.specs.Stored.{Stored}
+use Rattle.history_laws.specs.Progress.{Reply, messages, Ending, Whole, Renewed, NotUnderstood, Reset, TimedOut, Turned, Progress, Fetches, Gives, Ends, first_progress, answered_so, anew, fetched_by, fetched_whole, step, progress, next_message}
 
 -- lists of replies
 
@@ -95,6 +96,7 @@ abbrev pub CameTo : CoapRequest → List Reply → Progress → Type 0
 CameTo q rs (Fetches k p got) = (eqb q.method 1 ≡ true) × SoFar q rs k p got × (progress q rs ≡ Fetches k p got)
 CameTo q rs (Gives u got) = (eqb q.method 1 ≡ false) × GivenSoFar q rs u got × (progress q rs ≡ Gives u got)
 CameTo q rs (Ends (Whole w ws)) = IsMadeOf q rs w ws
+CameTo q rs (Ends (Renewed s r)) = ⊥
 CameTo q rs (Ends how) = ⊤
 
 none-split : (g h : List Reply) (r : Reply) → [] ≡ g ++ r ∷ h → ⊥
@@ -249,6 +251,10 @@ anew-to q rs k get e = by (eqb k 3) refl
     by true is = tt
     by false is = (get, none-yet q rs (k + 1), e ∙ rw (is) refl)
 
+unrenewed : (got : List Reply) (s : Stored) (r : Reply) → fetched_whole got ≡ Renewed s r → ⊥
+unrenewed [] s r e = cc
+unrenewed (x ∷ xs) s r e = cc
+
 fetched-to : (q : CoapRequest) (rs : List Reply) (k : ℕ) (p : PiecesValue) (got : List Reply) (r : Reply) (s : SoFar q rs k p got)
     → eqb q.method 1 ≡ true → progress q rs ≡ Fetches k p got → is_tellable r.message ≡ true → (j : Judged) → judged p r.message ≡ j
     → progress q (rs ++ r ∷ []) ≡ fetched_by j k (with_piece p r.message) (got ++ r ∷ [])
@@ -263,6 +269,7 @@ fetched-to q rs k p got r s get e tells (Ok Last) is f = by (fetched_whole (got 
   where
     by : (how : Ending) → fetched_whole (got ++ r ∷ []) ≡ how → CameTo q (rs ++ r ∷ []) (Ends how)
     by (Whole w ws) g = fetched-is q rs k p r w ws got s e get tells is g
+    by (Renewed old u) g = unrenewed (got ++ r ∷ []) old u g
     by NotUnderstood g = tt
     by Reset g = tt
     by TimedOut g = tt
@@ -348,6 +355,36 @@ pub came-to : (q : CoapRequest) (rs : List Reply) (r : Reply) → ((how : Ending
 came-to q rs r going h =
     subst (CameTo q (rs ++ r ∷ [])) (sym (progress-push q rs r)) (step-to q rs r (progress q rs) refl going h (progress-push q rs r))
 
+-- No reply by itself renews anything.
+pub step-unrenewed : (u : Progress) (r : Reply) (s : Stored) (x : Reply) → ((how : Ending) → u ≡ Ends how → ⊥) → step u r ≡ Ends (Renewed s x) → ⊥
+step-unrenewed (Ends how) r s x going e = going how refl
+step-unrenewed (Gives u got) r s x going e = by (is_forwardable r.message.options) (answer_to u r.message) e
+  where
+    by : (b : Bool) (a : Answered) → cond b (answered_so a u got r) (Ends NotUnderstood) ≡ Ends (Renewed s x) → ⊥
+    by false a e = cc
+    by true A.Next e = cc
+    by true A.Last e = cc
+    by true A.Wrong e = cc
+step-unrenewed (Fetches k p got) r s x going e = by (is_tellable r.message) (judged p r.message) e
+  where
+    none : (got : List Reply) → Ends (fetched_whole got) ≡ Ends (Renewed s x) → ⊥
+    none [] e = cc
+    none (y ∷ ys) e = cc
+
+    again : (b : Bool) → cond b (Ends NotUnderstood) (Fetches (k + 1) no_pieces []) ≡ Ends (Renewed s x) → ⊥
+    again true e = cc
+    again false e = cc
+
+    by : (b : Bool) (j : Judged) → cond b (fetched_by j k (with_piece p r.message) (got ++ r ∷ [])) (Ends NotUnderstood) ≡ Ends (Renewed s x) → ⊥
+    by false j e = cc
+    by true (Err F.Changed) e = again (eqb k 3) e
+    by true (Err F.Size) e = cc
+    by true (Err F.Gap) e = cc
+    by true (Err F.TooLarge) e = cc
+    by true (Err F.Memory) e = cc
+    by true (Ok (Next next)) e = cc
+    by true (Ok Last) e = none (got ++ r ∷ []) e
+
 pub came-first : (q : CoapRequest) → CameTo q [] (progress q [])
 came-first q = by (eqb q.method 1) refl
   where
@@ -356,11 +393,11 @@ came-first q = by (eqb q.method 1) refl
     by false is = (is, record { all = refl; is = refl; gives = λ ms. refl; asked = λ g h r e. absurd (none-split g h r e) }, rw (is) refl)
 
 -- Its first message is that of the request, or of the first block of its body.
-pub asks-first : (f : Bool) (q : CoapRequest) (mid : ℕ) (token : List ℕ) → (eqb q.method 1 ≡ false → f ≡ false)
+pub asks-first : (f : Manner) (q : CoapRequest) (mid : ℕ) (token : List ℕ) → (eqb q.method 1 ≡ false → f ≡ Plainly)
     → next_message f q (progress q []) mid token ≡ Some (opening_message f q mid token)
 asks-first f q mid token gives = by (eqb q.method 1) refl
   where
-    plain : (q : CoapRequest) (block : Option Block) (mid : ℕ) (token : List ℕ) → asking false q block mid token ≡ block_message q block mid token
+    plain : (q : CoapRequest) (block : Option Block) (mid : ℕ) (token : List ℕ) → asking Plainly q block mid token ≡ block_message q block mid token
     plain q None mid token = refl
     plain q (Some b) mid token = refl
 

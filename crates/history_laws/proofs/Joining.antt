@@ -8,24 +8,25 @@ use Rattle.uri_map.specs.declared.peer.Peer.{Peer}
 use Rattle.cache_key.specs.declared.place.Place.{Place}
 use Rattle.cache_key.specs.Keys.{same_place}
 use Rattle.cache_key.proofs.CallerLemmas.{places_decided}
-use Rattle.ask_model.specs.Requests.{CoapRequest, Sense, Requests, Refuses, asking}
+use Rattle.ask_model.specs.Requests.{CoapRequest, Sense, Requests, Refuses, Manner, asking}
 use Rattle.ask_model.specs.Sharing.{asked_place, asks_same}
 use Rattle.ask_model.specs.Views.{Ask}
 use Rattle.ask_model.proofs.CallerLemmas.{asks-alike, asks-onward, same-place}
 use Rattle.journal_book.specs.Entries.{Deed, Opens, Asks, Sends, Hears, Passes, Answers, Shuts, Seals, Mark, Carries}
 use Rattle.journal_book.specs.Entries as D
-use Rattle.history_laws.specs.Readings.{Noted, Note, Begins, Joins, at, before, noted}
-use Rattle.history_laws.specs.Exchanges.{Begun, begun, openings, End, end_of, is_going, open_exchanges}
+use Rattle.history_laws.specs.Readings.{Noted, Note, Begins, Renews, Joins, at, before, noted}
+use Rattle.history_laws.specs.Exchanges.{Begun, begun, opens_by, openings, End, end_of, is_going, open_exchanges}
 use Rattle.history_laws.specs.Joining.{writes_at, outruns, outrun, asks_the_same, is_joinable, joins}
 use Rattle.history_laws.specs.Justified.{IsAsk, reads_by, reads_in, reads, AskNote, Follows, Legal, CopiedNote}
-use Rattle.history_laws.specs.Laws.{IsWriteEnd, ReadsOpened, OneJoinable}
+use Rattle.history_laws.specs.Laws.{ReadsOpened, OneJoinable}
+use Rattle.history_laws.specs.Grounds.{IsWriteEnd}
 use Rattle.history_laws.proofs.Elements.{any-find, any-of, find-some}
 use Rattle.history_laws.proofs.Facts.{follows-at, legal-before, length-before}
 use Rattle.history_laws.proofs.Openings.{open-exactly}
 use Rattle.history_laws.proofs.Outrunning.{end-before, end-since, ended-begun, is-outrun, not-true, outrun-since}
 use Rattle.history_laws.proofs.Places.{at-below, at-old}
 use Rattle.history_laws.proofs.Resting.{none-some, some-is}
-use Rattle.history_laws.proofs.Sent.{asked-for, begun-before, begun-below, begun-opening, opening-begun}
+use Rattle.history_laws.proofs.Sent.{asked-for, begun-before, begun-below, begun-opening, opens-begun, opens-so}
 
 -- An exchange that a GET may be answered from: for an equal one, and outrun by no write.
 pub record Shared (l : List Noted) (q : CoapRequest) (o : ℕ) : Type 0 where
@@ -89,7 +90,7 @@ at-early (y ∷ older) k n x lt is earlier =
 pub begun-early : (l : List Noted) (k o : ℕ) (b : Begun) → k < length l → begun l o ≡ Some b → o < k → begun (before l k) o ≡ Some b
 begun-early l k o b lt is earlier =
     let h = begun-opening l o b is in
-    opening-begun (before l k) o b.since h.0 b.request (at-early l k o _ lt h.1 earlier)
+    opens-begun (before l k) o b.since h.0 h.1 b.request h.3 (at-early l k o _ lt h.2 earlier)
 
 -- what is open now was so before each entry since its opening
 open-early : (l : List Noted) (k o : ℕ) (b : Begun) → k < length l → begun l o ≡ Some b → o < k → end_of l o ≡ None
@@ -107,9 +108,8 @@ later-joined l q a b legal first second lt =
     let r : CoapRequest = second.exchange.request in
     let it = asked-for l b second.exchange legal second.opened in
     let below = begun-below l b second.exchange second.opened in
-    let may : AskNote (before l b) second.exchange.since (Requests r) (Begins r) =
-    subst (λ (s : Sense). AskNote (before l b) second.exchange.since s (Begins r)) it.sense (follows-at l b _ legal it.stands).3 in
-    none-joined (before l b) r a may.1 (record {
+    let may = opens-so (before l b) second.exchange.since it.ask.sense it.note r it.opens (follows-at l b _ legal it.stands).3 in
+    none-joined (before l b) r a may.alone (record {
       is_open = open-early l b a first.exchange below first.opened lt ((open-exactly l a).0 first.is_open).1;
       exchange = first.exchange;
       opened = begun-early l b a first.exchange below first.opened lt;
@@ -190,22 +190,27 @@ pub record Reader (l : List Noted) (k o : ℕ) : Type 0 where
   pub opened : begun l o ≡ Some exchange
   pub way : ((o ≡ k) × (request ≡ exchange.request)) ⊎ ReadsAlong l k o request exchange
 
-reader-by : (l : List Noted) (k o t : ℕ) (d : Deed) (note : Note) → Legal l → at l k ≡ Some (noted t d note) → reads_by k note ≡ Some o
-    → Reader l k o
-reader-by l k o t d (Begins q) legal is e =
+reader-own : (l : List Noted) (k t : ℕ) (d : Deed) (note : Note) (q : CoapRequest) → Legal l → at l k ≡ Some (noted t d note) → opens_by note ≡ Some q
+    → Reader l k k
+reader-own l k t d note q legal is opens =
     let b : Begun = record { since = t; request = q } in
-    let made = opening-begun l k t d q is in
+    let made = opens-begun l k t d note q opens is in
     let it = asked-for l k b legal made in
-    subst (Reader l k) (some-is k o e) (record {
+    record {
       conn = it.conn;
       ask = it.ask;
       request = q;
-      asked = record { moment = t; note = Begins q; stands = it.stands };
+      asked = record { moment = t; note = it.note; stands = it.stands };
       sense = it.sense;
       exchange = b;
       opened = made;
       way = inl (refl, refl);
-    })
+    }
+
+reader-by : (l : List Noted) (k o t : ℕ) (d : Deed) (note : Note) → Legal l → at l k ≡ Some (noted t d note) → reads_by k note ≡ Some o
+    → Reader l k o
+reader-by l k o t d (Begins q) legal is e = subst (Reader l k) (some-is k o e) (reader-own l k t d (Begins q) q legal is refl)
+reader-by l k o t d (Renews q s) legal is e = subst (Reader l k) (some-is k o e) (reader-own l k t d (Renews q s) q legal is refl)
 reader-by l k o t d (Joins p) legal is e =
     let it = joins-ask (before l k) t d p (follows-at l k _ legal is) in
     let h = joins-is (before l k) it.2 p it.5 in
@@ -246,13 +251,13 @@ reads-opened l k o legal e =
 abbrev pub Alike : CoapRequest → CoapRequest → Type 0
 Alike q r =
     (q.peer ≡ r.peer)
-    × ((observes : Bool) (mid : ℕ) (token : List ℕ) → asking observes q None mid token ≡ asking observes r None mid token)
+    × ((manner : Manner) (mid : ℕ) (token : List ℕ) → asking manner q None mid token ≡ asking manner r None mid token)
 
 pub reader-alike : (l : List Noted) (k o : ℕ) → (it : Reader l k o) → Alike it.request it.exchange.request
 reader-alike l k o it = by it.request it.exchange it.way
   where
     by : (q : CoapRequest) (b : Begun) → ((o ≡ k) × (q ≡ b.request)) ⊎ ReadsAlong l k o q b → Alike q b.request
-    by q b (inl own) = subst (Alike q) own.1 (refl, λ observes mid token. refl)
+    by q b (inl own) = subst (Alike q) own.1 (refl, λ manner mid token. refl)
     by q b (inr along) = asks-alike q b.request along.same
 
 -- the end of a write to the place of a request is one there

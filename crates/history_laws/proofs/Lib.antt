@@ -26,6 +26,9 @@ mod Queue
 mod Ended
 mod Going
 mod Basis
+mod Kept
+mod Renewing
+mod Own
 mod Wholes
 mod Order
 mod Missing
@@ -45,6 +48,7 @@ mod Copied
 mod Carried
 mod Readers
 mod Store
+mod Renewed
 mod Pieces
 mod Uploads
 mod Parts

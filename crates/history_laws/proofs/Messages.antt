@@ -139,7 +139,7 @@ legal-answered = (
     (refl, (refl, record { confirmation = record { peer = server; kind = Ack; mid = 52 }; is_owed = refl; peer = refl; spelled = ack-52-spelled })),
   ),
   lit≤ tt,
-  (refl, refl, refl, (1, 9, _, _, refl, refl, refl), tt),
+  (refl, refl, refl, inl (1, 9, _, _, refl, refl, refl), tt),
 )
 
 legal-all : Legal all_answered
@@ -179,7 +179,7 @@ legal-all = (
     (may-come _ refl refl, lit≤ tt, refl, record { spelled = changed-spelled; unheard = refl; remembered = refl; says = refl }),
   ),
   lit≤ tt,
-  (refl, refl, refl, (4, 16, _, _, refl, refl, refl), tt),
+  (refl, refl, refl, inl (4, 16, _, _, refl, refl, refl), tt),
 )
 
 pub all_answered-holds : Holds all_answered

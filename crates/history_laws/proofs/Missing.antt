@@ -2,14 +2,15 @@
 use Rattle.std.proofs.Common.{◌≡◌, ℕ, Bool, true, false, ◌&&◌, ◌||◌, eqb, inl, inr, List, [], ◌∷◌, Option, Some, None, is_some, refl, sym, ap, ◌∙◌}
 use Rattle.std.specs.List.{Contains, list_any}
 use Rattle.std.proofs.lemmas.Bool.{false≢true, and_parts, or_left, or_parts, or_right}
+use Rattle.resp_cache.specs.Stored.{Stored, is_fresh}
 use Rattle.ask_model.specs.Requests.{CoapRequest}
 use Rattle.history_laws.specs.Responses.{Response}
 use Rattle.history_laws.specs.Readings.{Noted, Note, Says, Observation, Updates, at}
 use Rattle.history_laws.specs.Progress.{Reply, Ending, Whole}
 use Rattle.history_laws.specs.Exchanges.{Begun, begun, openings, End, end_of}
 use Rattle.history_laws.specs.Joining.{asks_the_same, is_joinable}
-use Rattle.history_laws.specs.Storing.{content, EndsSo, MissesAlone, UpdatesSo, IsCrowdedOut}
-use Rattle.history_laws.proofs.Carrying.{has-carried, no-carried}
+use Rattle.history_laws.specs.Storing.{content, EndsSo, IsAsHeard, MissesAlone, UpdatesSo, IsCrowdedOut}
+use Rattle.history_laws.proofs.Carrying.{as-heard, has-carried, has-renewing, no-carried}
 use Rattle.history_laws.proofs.Elements.{any-of}
 use Rattle.history_laws.proofs.Openings.{begun-listed}
 use Rattle.history_laws.proofs.Places.{at-old}
@@ -52,13 +53,11 @@ any-at p (y ∷ older) n x e h =
 pub no-updates : (l : List Noted) (o e : ℕ) (w : Response) (rs : List Reply) → has-update l ≡ false → UpdatesSo l o e w rs → ⊥
 no-updates l o e w rs none u = false≢true (sym none ∙ any-at (λ (x : Noted). updates x.note) l e _ u.stands refl)
 
-pub none-stored : (l : List Noted) (t : ℕ) (q : CoapRequest) → (list_any (might-answer l q) (openings l) || (has-update l || has-carried l)) ≡ false → MissesAlone l t q
-none-stored l t q none s (inr a) fresh = absurd (no-carried l a.opening s.response (a.first ∷ a.more) (or_parts (has-update l) (has-carried l) (or_parts (list_any (might-answer l q) (openings l)) _ none).1).1 a.carries)
-none-stored l t q none s (inl a) fresh = elim a.comes [ inl it ↦ not-ended it | inr it ↦ absurd (no-updates l _ _ _ _ both.1 it) ]
+by-heard : (l : List Noted) (t : ℕ) (q : CoapRequest) → list_any (might-answer l q) (openings l) ≡ false → has-update l ≡ false → has-carried l ≡ false
+    → (s : Stored) → IsAsHeard l q s → is_fresh t s ≡ true → IsCrowdedOut l (asked_key q)
+by-heard l t q none quiet own s (inr a) fresh = absurd (no-carried l a.opening s.response (a.first ∷ a.more) own a.carries)
+by-heard l t q none quiet own s (inl a) fresh = elim a.comes [ inl it ↦ not-ended it | inr it ↦ absurd (no-updates l _ _ _ _ quiet it) ]
   where
-    both : (list_any (might-answer l q) (openings l) ≡ false) × (has-update l ≡ false)
-    both = let p = or_parts (list_any (might-answer l q) (openings l)) _ none in (p.0, (or_parts (has-update l) (has-carried l) p.1).0)
-
     same : asks_the_same q (begun l a.opening) ≡ true
     same = (and_parts (asks_the_same q (begun l a.opening)) _ a.shared).0
 
@@ -72,4 +71,12 @@ none-stored l t q none s (inl a) fresh = elim a.comes [ inl it ↦ not-ended it 
     not-ended : EndsSo l a.opening a.ending s.response (a.first ∷ a.more) → IsCrowdedOut l (asked_key q)
     not-ended it =
         let might : might-answer l q a.opening ≡ true = rw (a.shared, it.ended, it.code) refl in
-        absurd (false≢true (sym both.0 ∙ any-of (might-answer l q) (openings l) a.opening listed might))
+        absurd (false≢true (sym none ∙ any-of (might-answer l q) (openings l) a.opening listed might))
+
+pub none-stored : (l : List Noted) (t : ℕ) (q : CoapRequest) → (list_any (might-answer l q) (openings l) || (has-update l || (has-carried l || has-renewing l))) ≡ false
+    → MissesAlone l t q
+none-stored l t q none s is fresh =
+    let p = or_parts (list_any (might-answer l q) (openings l)) _ none in
+    let r = or_parts (has-update l) _ p.1 in
+    let v = or_parts (has-carried l) (has-renewing l) r.1 in
+    by-heard l t q p.0 r.0 v.0 s (as-heard l q s v.1 is) fresh

@@ -6,12 +6,12 @@ use Rattle.uri_map.specs.declared.peer.Peer.{Peer}
 use Rattle.blockwise.specs.Downloads.{PiecesValue, no_pieces, with_piece}
 use Rattle.blockwise.specs.Uploads.{UploadValue, begun as begun_as, next_block, next_of}
 use Rattle.std.proofs.lemmas.List.Sums.{fold-append}
-use Rattle.ask_model.specs.Requests.{CoapRequest, asking}
+use Rattle.ask_model.specs.Requests.{CoapRequest, Manner, Plainly, asking}
 use Rattle.history_laws.specs.Responses.{Response}
 use Rattle.history_laws.specs.Readings.{Noted, before}
 use Rattle.history_laws.specs.Progress.{Reply, messages, Ending, Whole, Progress, Fetches, Gives, progress, block_after, next_message, Point, Fetched, Given, first_point, block_for, point_after}
-use Rattle.history_laws.specs.Exchanges.{Begun, begun, Turn, Nothing, Sent, Replied, Rejected, Expired, turn, waits_by, waits_for, replies_by, replies, End, end_here, end_by, end_of}
-use Rattle.history_laws.specs.Observing.{observes}
+use Rattle.history_laws.specs.Exchanges.{Begun, begun, Turn, Nothing, Sent, Replied, Rejected, Expired, turn, waits_by, waits_for, replies_by, replies, End, kept, end_here, end_by, end_of}
+use Rattle.history_laws.specs.Observing.{manner}
 use Rattle.history_laws.specs.Justified.{Ends as EndsAs, Legal}
 use Rattle.history_laws.specs.Laws.{IsFirst, IsReplyTo, IsFetched, AreFetched}
 use Rattle.history_laws.proofs.Facts.{IsFirst-below, IsFirst-keeps}
@@ -28,10 +28,10 @@ use Rattle.std.specs.List.{Contains}
 use Rattle.std.proofs.lemmas.List.Elements.{Contains-append_right}
 
 pub sends-next : (l : List Noted) (t o i : ℕ) (p : Peer) (m : Content) (b : Begun) → Legal l → IsFirst l t o i p m → begun l o ≡ Some b
-    → next_message (observes (before l i) o) b.request (progress b.request (replies (before l i) o)) m.mid m.token ≡ Some m
+    → next_message (manner (before l i) o) b.request (progress b.request (replies (before l i) o)) m.mid m.token ≡ Some m
 sends-next l t o i p m b legal f opened =
     let it = sent-for l t o i p m legal f in
-    subst (λ (b : Begun). next_message (observes (before l i) o) b.request (progress b.request (replies (before l i) o)) m.mid m.token ≡ Some m)
+    subst (λ (b : Begun). next_message (manner (before l i) o) b.request (progress b.request (replies (before l i) o)) m.mid m.token ≡ Some m)
     (some-is _ _ (sym it.opened ∙ opened)) it.next
 
 -- Since what an exchange waits for went out no reply came to it.
@@ -57,8 +57,8 @@ pub record CameNext (l : List Noted) (o : ℕ) (q : CoapRequest) (rs : List Repl
   pub moment : ℕ
   pub message : Content
   pub first : IsFirst l moment o r.sending q.peer message
-  pub observes : Bool
-  pub next : next_message observes q (progress q rs) message.mid message.token ≡ Some message
+  pub manner : Manner
+  pub next : next_message manner q (progress q rs) message.mid message.token ≡ Some message
   pub replied : replies (before l r.sending) o ≡ rs
 
 CameNext-keeps : (x : Noted) (l : List Noted) (o : ℕ) (q : CoapRequest) (rs : List Reply) (r : Reply) → CameNext l o q rs r → CameNext (x ∷ l) o q rs r
@@ -67,13 +67,13 @@ CameNext-keeps x l o q rs r h = record {
   moment = h.moment;
   message = h.message;
   first = IsFirst-keeps x l h.moment o r.sending q.peer h.message h.first;
-  observes = h.observes;
+  manner = h.manner;
   next = h.next;
   replied = ap (λ (k : List Noted). replies k o) (before-keeps x l r.sending (IsFirst-below l h.moment o r.sending q.peer h.message h.first)) ∙ h.replied;
 }
 
 came-new : (l : List Noted) (o i : ℕ) (b : Begun) → Legal l → begun l o ≡ Some b → waits_for l o ≡ Some i
-    → (t : ℕ) × (m : Content) × IsFirst l t o i b.request.peer m × (f : Bool) × (next_message f b.request (progress b.request (replies l o)) m.mid m.token ≡ Some m)
+    → (t : ℕ) × (m : Content) × IsFirst l t o i b.request.peer m × (f : Manner) × (next_message f b.request (progress b.request (replies l o)) m.mid m.token ≡ Some m)
 came-new l o i b legal opened e =
     let w = waits-first l o i e in
     let it = sent-for l w.0 o i w.1 w.2 legal w.3 in
@@ -82,8 +82,8 @@ came-new l o i b legal opened e =
       w.0,
       w.2,
       subst (λ (p : Peer). IsFirst l w.0 o i p w.2) peer w.3,
-      observes (before l i) o,
-      subst (λ (rs : List Reply). next_message (observes (before l i) o) b.request (progress b.request rs) w.2.mid w.2.token ≡ Some w.2) (quiet-since l o i e)
+      manner (before l i) o,
+      subst (λ (rs : List Reply). next_message (manner (before l i) o) b.request (progress b.request rs) w.2.mid w.2.token ≡ Some w.2) (quiet-since l o i e)
           (sends-next l w.0 o i w.1 w.2 b legal w.3 opened),
     )
 
@@ -123,7 +123,7 @@ next-step x l o b rs h r legal opened ih (Replied i m place) is e =
           message = it.1;
           first = subst (λ (k : ℕ). IsFirst (x ∷ l) it.0 o k b.request.peer it.1) (ap (λ (v : Reply). v.sending) same)
               (IsFirst-keeps x l it.0 o i b.request.peer it.1 it.2);
-          observes = it.3;
+          manner = it.3;
           next = subst (λ (v : List Reply). next_message it.3 b.request (progress b.request v) it.1.mid it.1.token ≡ Some it.1) w it.4;
           replied =
               let waited = (turn-replied l o x i m place is).waited in
@@ -157,14 +157,14 @@ came-next (x ∷ older) o b rs h r legal opened e =
 is-fetched : (l : List Noted) (o k : ℕ) (q : CoapRequest) (rs : List Reply) (p : PiecesValue) (got : List Reply) (r : Reply)
     → CameNext l o q rs r → progress q rs ≡ Fetches k p got → IsFetched l o q (block_after p) r
 is-fetched l o k q rs p got r h e =
-    let message : asking h.observes q (block_after p) h.message.mid h.message.token ≡ h.message =
-    some-is _ _ (sym (ap (λ (u : Progress). next_message h.observes q u h.message.mid h.message.token) e) ∙ h.next) in
+    let message : asking h.manner q (block_after p) h.message.mid h.message.token ≡ h.message =
+    some-is _ _ (sym (ap (λ (u : Progress). next_message h.manner q u h.message.mid h.message.token) e) ∙ h.next) in
     record {
       fits = h.fits;
       moment = h.moment;
       mid = h.message.mid;
       token = h.message.token;
-      observes = h.observes;
+      manner = h.manner;
       first = subst (λ (m : Content). IsFirst l h.moment o r.sending q.peer m) (sym message) h.first;
     }
 
@@ -185,15 +185,15 @@ fetched-from l o b before ws g (r ∷ rest) legal opened split is asked =
 is-given : (l : List Noted) (o : ℕ) (q : CoapRequest) (rs : List Reply) (u : UploadValue) (r : Reply)
     → CameNext l o q rs r → progress q rs ≡ Gives u rs → IsFetched l o q (next_block u) r
 is-given l o q rs u r h e =
-    let message : asking false q (next_block u) h.message.mid h.message.token ≡ h.message =
+    let message : asking Plainly q (next_block u) h.message.mid h.message.token ≡ h.message =
     asking-plain q (next_block u) h.message.mid h.message.token
-    ∙ some-is _ _ (sym (ap (λ (u : Progress). next_message h.observes q u h.message.mid h.message.token) e) ∙ h.next) in
+    ∙ some-is _ _ (sym (ap (λ (u : Progress). next_message h.manner q u h.message.mid h.message.token) e) ∙ h.next) in
     record {
       fits = h.fits;
       moment = h.moment;
       mid = h.message.mid;
       token = h.message.token;
-      observes = false;
+      manner = Plainly;
       first = subst (λ (m : Content). IsFirst l h.moment o r.sending q.peer m) (sym message) h.first;
     }
 
@@ -224,7 +224,7 @@ IsFetched-keeps x l o q block r h = record {
   moment = h.moment;
   mid = h.mid;
   token = h.token;
-  observes = h.observes;
+  manner = h.manner;
   first = IsFirst-keeps x l h.moment o r.sending q.peer _ h.first;
 }
 
@@ -236,7 +236,7 @@ AreFetched-keeps x l o q p (r ∷ rs) h =
 -- It ended before, or now.
 ordered-step : (x : Noted) (l : List Noted) (o e : ℕ) (b : Begun) (w : Response) (ws : List Reply) → Legal (x ∷ l) → begun (x ∷ l) o ≡ Some b
     → ((c : Begun) → begun l o ≡ Some c → EndsAs l o e (Whole w ws) → AreFetched l o c.request (first_point c.request) ws)
-    → (how : Option Ending) → end_here (begun l o) (length l) (replies l o) (turn l o x) ≡ how → (old : Option End) → end_of l o ≡ old
+    → (how : Option Ending) → end_here (begun l o) (kept l o) (length l) (replies l o) (turn l o x) ≡ how → (old : Option End) → end_of l o ≡ old
     → end_by how (length l) old ≡ Some (record { number = e; how = Whole w ws }) → AreFetched (x ∷ l) o b.request (first_point b.request) ws
 ordered-step x l o e b w ws legal opened ih how is (Some f) was h = by (begun l o) refl
   where
@@ -255,7 +255,7 @@ ordered-step x l o e b w ws legal opened ih how is (Some f) was h = by (begun l 
 ordered-step x l o e b w ws legal opened ih None is None was h = absurd (none-some _ h)
 ordered-step x l o e b w ws legal opened ih (Some how) is None was h =
     let whole : how ≡ Whole w ws = ap (λ (f : End). f.how) (some-is _ _ h) in
-    let m = made-turn (begun l o) (length l) (replies l o) (turn l o x) w ws (goes-so l o was) (is ∙ ap (λ (v : Ending). Some v) whole) in
+    let m = made-turn (begun l o) (kept l o) (length l) (replies l o) (turn l o x) w ws (goes-so l o was) (is ∙ ap (λ (v : Ending). Some v) whole) in
     let same : m.exchange ≡ b = some-is _ _ (sym (begun-keeps x l o m.exchange m.asked) ∙ opened) in
     let all : replies l o ++ record { number = length l; sending = m.sending; message = m.message } ∷ [] ≡ replies (x ∷ l) o =
     ap (λ (u : Turn). replies_by (length l) u (replies l o)) (sym m.is) in
@@ -268,4 +268,4 @@ pub fetched-in-order : (l : List Noted) (o e : ℕ) (b : Begun) (w : Response) (
 fetched-in-order [] o e b w ws legal opened h = cc
 fetched-in-order (x ∷ older) o e b w ws legal opened h =
     ordered-step x older o e b w ws legal opened (λ c is f. fetched-in-order older o e c w ws legal.0 is f)
-    (end_here (begun older o) (length older) (replies older o) (turn older o x)) refl (end_of older o) refl h
+    (end_here (begun older o) (kept older o) (length older) (replies older o) (turn older o x)) refl (end_of older o) refl h

@@ -19,7 +19,7 @@ use Rattle.ask_model.specs.Requests.{CoapRequest, block_message, carried_by}
 use Rattle.history_laws.specs.Readings.{Noted, before}
 use Rattle.history_laws.specs.Progress.{Reply, messages, NotUnderstood, Progress, Fetches, Gives, Ends, answered_so, progress, next_message, step}
 use Rattle.history_laws.specs.Exchanges.{Begun, begun, replies, End, end_of, goes_to, waits_for}
-use Rattle.history_laws.specs.Observing.{observes}
+use Rattle.history_laws.specs.Observing.{manner}
 use Rattle.history_laws.specs.Justified.{Legal, MayBeFirst}
 use Rattle.history_laws.specs.Laws.{IsFirst, IsSending, IsPart, block_sent, brings, bytes_sent}
 use Rattle.history_laws.proofs.Copying.{at-still, before-twice}
@@ -160,8 +160,8 @@ module _ (l : List Noted) (o : ℕ) (b : Begun) (legal : Legal l) (opened : begu
   part-message t i p m f =
       let it = stands i (t, p, m, f) in
       let next = sends-next l t o i p m b legal f opened in
-      let given : next_message (observes (before l i) o) q (Gives (upload_in q (replies (before l i) o)) (replies (before l i) o)) m.mid m.token ≡ Some m =
-      ap (λ (u : Progress). next_message (observes (before l i) o) q u m.mid m.token) (sym it.given) ∙ next in
+      let given : next_message (manner (before l i) o) q (Gives (upload_in q (replies (before l i) o)) (replies (before l i) o)) m.mid m.token ≡ Some m =
+      ap (λ (u : Progress). next_message (manner (before l i) o) q u m.mid m.token) (sym it.given) ∙ next in
       sym (some-is _ _ given) ∙ ap (λ (u : Progress). block_message q (brings u) m.mid m.token) (sym it.given)
 
   block-is : (i : ℕ) → IsSending l o i → block_sent l o q i ≡ next_block (upload_in q (replies (before l i) o))

@@ -1,9 +1,9 @@
 -- The worked journals of a response in two pieces.
-use Rattle.std.proofs.Common.{◌≡◌, ℕ, List, [], ◌∷◌, Option, Some, None, refl, sym, ap, subst, arith, lit≤, false}
+use Rattle.std.proofs.Common.{inl, ◌≡◌, ℕ, List, [], ◌∷◌, Option, Some, None, refl, sym, ap, subst, arith, lit≤, false}
 use Rattle.coap_codec.specs.Spelling.{Entry, Content, Spells}
 use Rattle.coap_codec.specs.Reading.{message_at}
 use Rattle.coap_codec.specs.Reading as X
-use Rattle.ask_model.specs.Requests.{CoapRequest}
+use Rattle.ask_model.specs.Requests.{CoapRequest, Plainly}
 use Rattle.history_laws.specs.Exchanges.{Begun, replies}
 use Rattle.history_laws.specs.Justified.{Legal}
 use Rattle.history_laws.specs.Progress.{progress, next_message}
@@ -69,7 +69,7 @@ fetched-holds = (
   (
     (legal-next, lit≤ tt, (may-come _ refl refl, lit≤ tt, refl, record { spelled = rest-spelled; unheard = refl; remembered = refl; says = refl })),
     lit≤ tt,
-    (refl, refl, refl, (1, 5, _, _, refl, refl, refl), tt),
+    (refl, refl, refl, inl (1, 5, _, _, refl, refl, refl), tt),
   ),
   at-rest _ refl,
 )
@@ -107,8 +107,8 @@ other_asked-refused h =
     let may = h.2.1.1 in
     let opened : record { since = 0; request = get_light } ≡ record { since = may.since; request = may.request } = some-is _ _ may.opening in
     let asks : get_light ≡ may.request = ap (λ (b : Begun). b.request) opened in
-    let next : next_message false get_light (progress get_light (replies piece_heard 1)) (get_block 2).mid (get_block 2).token ≡ Some (get_block 2) =
-    subst (λ (q : CoapRequest). next_message false q (progress q (replies piece_heard 1)) (get_block 2).mid (get_block 2).token ≡ Some (get_block 2)) (sym asks)
+    let next : next_message Plainly get_light (progress get_light (replies piece_heard 1)) (get_block 2).mid (get_block 2).token ≡ Some (get_block 2) =
+    subst (λ (q : CoapRequest). next_message Plainly q (progress q (replies piece_heard 1)) (get_block 2).mid (get_block 2).token ≡ Some (get_block 2)) (sym asks)
     may.message in
     let other : 16 ≡ 32 = ap third_of next in
     absurd (omega (arith, other))

@@ -10,7 +10,7 @@ use Rattle.uri_map.specs.declared.peer.Peer.{Peer}
 use Rattle.ask_model.specs.Requests.{CoapRequest}
 use Rattle.history_laws.specs.Readings.{Noted, First, Says, Notice, before}
 use Rattle.history_laws.specs.Progress.{Reply, Ending, Reset, TimedOut}
-use Rattle.history_laws.specs.Exchanges.{Begun, begun_by, begun, opens_by, opened_by, openings, Turn, Nothing, Sent, Replied, Rejected, Expired, turn, waits_by, waits_for, replies_by, replies, End, end_here, end_by, end_of, is_going, goes_to, is_waiting, waiting, is_submitted_at, submitted_by, submitted, is_issued_at, issued_by, issued, rank}
+use Rattle.history_laws.specs.Exchanges.{Begun, begun_by, begun, opens_by, opened_by, openings, Turn, Nothing, Sent, Replied, Rejected, Expired, turn, waits_by, waits_for, replies_by, replies, End, kept, end_here, end_by, end_of, is_going, goes_to, is_waiting, waiting, is_submitted_at, submitted_by, submitted, is_issued_at, issued_by, issued, rank}
 use Rattle.history_laws.specs.Justified.{Legal}
 use Rattle.history_laws.specs.Laws.{IsFirst}
 use Rattle.history_laws.proofs.Elements.{all-filter, all-more, all-passes, any-of, contains-filter, contains-later, filtered-from, is-some}
@@ -232,8 +232,8 @@ begun-here x l o b none e = elim (eqb_tells (length l) o) [
 -- Who waits is in the queue.
 
 pub going-before : (x : Noted) (l : List Noted) (o : ℕ) → is_going (x ∷ l) o ≡ true
-    → (end_here (begun l o) (length l) (replies l o) (turn l o x) ≡ None) × (end_of l o ≡ None)
-going-before x l o e = by (end_here (begun l o) (length l) (replies l o) (turn l o x)) (end_of l o) (none-of (end_of (x ∷ l) o) e)
+    → (end_here (begun l o) (kept l o) (length l) (replies l o) (turn l o x) ≡ None) × (end_of l o ≡ None)
+going-before x l o e = by (end_here (begun l o) (kept l o) (length l) (replies l o) (turn l o x)) (end_of l o) (none-of (end_of (x ∷ l) o) e)
   where
     by : (how : Option Ending) (old : Option End) → end_by how (length l) old ≡ None → (how ≡ None) × (old ≡ None)
     by None old e = (refl, e)
@@ -248,7 +248,7 @@ waits-now x l p o legal e = by (begun l o) refl
     n : List Noted
     n = x ∷ l
 
-    going : (end_here (begun l o) (length l) (replies l o) (turn l o x) ≡ None) × (end_of l o ≡ None)
+    going : (end_here (begun l o) (kept l o) (length l) (replies l o) (turn l o x) ≡ None) × (end_of l o ≡ None)
     going = going-before x l o (and-left (is_going n o) _ (and-right (goes_to p (begun n o)) _ e))
 
     waited : (b : Begun) → begun l o ≡ Some b → (w : Option ℕ) → waits_for l o ≡ w → (u : Turn) → turn l o x ≡ u
@@ -265,8 +265,8 @@ waits-now x l p o legal e = by (begun l o) refl
       where
         never : (v : Option Begun) (j : ℕ) (m : Content) (place : Bool) → turn l o x ≡ Replied j m place → replies n o ≡ replies l o → submitted n o ≡ length l
         never v j m place here same = rw (here) (submitted-push o (replies l o) record { number = length l; sending = j; message = m })
-    waited b is (Some i) some Rejected here = absurd (none-is Reset (subst (λ (u : Turn). end_here (begun l o) (length l) (replies l o) u ≡ None) here going.0))
-    waited b is (Some i) some Expired here = absurd (none-is TimedOut (subst (λ (u : Turn). end_here (begun l o) (length l) (replies l o) u ≡ None) here going.0))
+    waited b is (Some i) some Rejected here = absurd (none-is Reset (subst (λ (u : Turn). end_here (begun l o) (kept l o) (length l) (replies l o) u ≡ None) here going.0))
+    waited b is (Some i) some Expired here = absurd (none-is TimedOut (subst (λ (u : Turn). end_here (begun l o) (kept l o) (length l) (replies l o) u ≡ None) here going.0))
 
     by : (v : Option Begun) → begun l o ≡ v → (is_waiting l p o ≡ true) ⊎ (submitted n o ≡ length l)
     by (Some b) is = waited b is (waits_for l o) refl (turn l o x) refl

@@ -1,5 +1,5 @@
 -- The worked journals of GETs that are asked by several.
-use Rattle.std.proofs.Common.{refl, lit≤}
+use Rattle.std.proofs.Common.{inl, refl, lit≤}
 use Rattle.std.proofs.lemmas.Bool.{false≢true}
 use Rattle.history_laws.specs.Justified.{Legal}
 use Rattle.history_laws.specs.Worked.{Holds, Refused}
@@ -18,12 +18,12 @@ legal-heard : Legal heard_for_both
 legal-heard = (
   (legal-joined, lit≤ tt, (may-come _ refl refl, lit≤ tt, refl, record { spelled = non-spelled; unheard = refl; remembered = refl; says = refl })),
   lit≤ tt,
-  (refl, refl, refl, (1, 7, _, _, refl, refl, refl), tt),
+  (refl, refl, refl, inl (1, 7, _, _, refl, refl, refl), tt),
 )
 
 legal-both : Legal both_answered
 legal-both = (
-  (legal-heard, lit≤ tt, (refl, refl, refl, (1, 7, _, _, refl, refl, refl), tt)),
+  (legal-heard, lit≤ tt, (refl, refl, refl, inl (1, 7, _, _, refl, refl, refl), tt)),
   lit≤ tt,
   (
     refl,
@@ -59,7 +59,7 @@ legal-between = (
   (
     (legal-let-go, lit≤ tt, (may-come _ refl refl, lit≤ tt, refl, record { spelled = changed-spelled; unheard = refl; remembered = refl; says = refl })),
     lit≤ tt,
-    (refl, refl, refl, (4, 9, _, _, refl, refl, refl), tt),
+    (refl, refl, refl, inl (4, 9, _, _, refl, refl, refl), tt),
   ),
   lit≤ tt,
   (may-come _ refl refl, refl, tt),

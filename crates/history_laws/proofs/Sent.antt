@@ -7,15 +7,18 @@ use Rattle.coap_codec.specs.Spelling.{Content, Spells}
 use Rattle.uri_map.specs.declared.peer.Peer.{Peer}
 use Rattle.coap_codec.specs.declared.block.Block.{Block}
 use Rattle.blockwise.specs.Uploads.{next_block}
-use Rattle.ask_model.specs.Requests.{CoapRequest, Sense, Requests, Refuses, asking, block_message}
+use Rattle.ask_model.specs.Requests.{CoapRequest, Sense, Requests, Refuses, Manner, Plainly, asking, block_message}
 use Rattle.ask_model.specs.Views.{Ask}
 use Rattle.journal_book.specs.Entries.{Deed, Opens, Asks, Sends, Hears, Passes, Answers, Shuts, Seals, Mark, Carries}
 use Rattle.journal_book.specs.Entries as D
-use Rattle.history_laws.specs.Readings.{Noted, Note, Begins, First, at, before, noted}
+use Rattle.history_laws.specs.Readings.{Noted, Note, Begins, Renews, First, at, before, noted}
 use Rattle.history_laws.specs.Progress.{Reply, Progress, Fetches, Gives, Ends, Ending, Reset, TimedOut, progress, block_after, next_message}
-use Rattle.history_laws.specs.Exchanges.{Begun, opens_by, begun_by, begun, Turn, Nothing, Sent, Replied, Rejected, Expired, turn, waits_by, waits_for, replies_by, replies, End, end_here, end_by, end_of, goes_to}
-use Rattle.history_laws.specs.Observing.{observes}
-use Rattle.history_laws.specs.Justified.{AskNote, MayBeFirst, Follows, Legal, CopiedNote}
+use Rattle.history_laws.specs.Exchanges.{Begun, opens_by, begun_by, begun, Turn, Nothing, Sent, Replied, Rejected, Expired, turn, waits_by, waits_for, replies_by, replies, End, kept, end_here, end_by, end_of, goes_to}
+use Rattle.resp_cache.specs.Stored.{Stored}
+use Rattle.history_laws.specs.Observing.{manner}
+use Rattle.history_laws.specs.Joining.{joins}
+use Rattle.history_laws.specs.Hearing.{has_room}
+use Rattle.history_laws.specs.Justified.{AskNote, MayBeFirst, SentNote, HeardNote, IsPlain, Follows, Legal, CopiedNote}
 use Rattle.history_laws.specs.Laws.{IsFirst}
 use Rattle.history_laws.proofs.Resting.{some-is}
 use Rattle.history_laws.proofs.Places.{at-cases, at-new, at-below, at-keeps, before-keeps, before-new}
@@ -25,24 +28,20 @@ use Rattle.history_laws.proofs.Members.{first-waits}
 
 -- the entry that opened an exchange
 abbrev pub Opening : List Noted → ℕ → Begun → Type 0
-Opening l o b = (d : Deed) × (at l o ≡ Some (noted b.since d (Begins b.request)))
+Opening l o b = (d : Deed) × (note : Note) × (at l o ≡ Some (noted b.since d note)) × (opens_by note ≡ Some b.request)
 
 Opening-keeps : (x : Noted) (l : List Noted) (o : ℕ) (b : Begun) → Opening l o b → Opening (x ∷ l) o b
-Opening-keeps x l o b h = (h.0, at-keeps x l o _ h.1)
-
-opens-begins : (n : Note) (q : CoapRequest) → opens_by n ≡ Some q → n ≡ Begins q
-opens-begins (Begins r) q e = ap Begins (some-is r q e)
-opens-begins n q e = cc
+Opening-keeps x l o b h = (h.0, h.1, at-keeps x l o _ h.2, h.3)
 
 opening-step : (l : List Noted) (o t : ℕ) (d : Deed) (note : Note) (b : Begun) → (begun l o ≡ Some b → Opening l o b)
     → (asked : Option CoapRequest) → opens_by note ≡ asked → (here : Bool) → eqb (length l) o ≡ here
     → begun_by asked here t (begun l o) ≡ Some b → Opening (noted t d note ∷ l) o b
 opening-step l o t d note b ih (Some q) is true same e =
     let made : record { since = t; request = q } ≡ b = some-is _ _ e in
-    let stands : at (noted t d note ∷ l) o ≡ Some (noted t d (Begins q)) =
-    subst (λ (o : ℕ). at (noted t d note ∷ l) o ≡ Some (noted t d (Begins q))) (eqb-same (length l) o same)
-    (at-new (noted t d note) l ∙ ap (λ (n : Note). Some (noted t d n)) (opens-begins note q is)) in
-    subst (Opening (noted t d note ∷ l) o) made (d, stands)
+    let stands : at (noted t d note ∷ l) o ≡ Some (noted t d note) =
+    subst (λ (o : ℕ). at (noted t d note ∷ l) o ≡ Some (noted t d note)) (eqb-same (length l) o same)
+    (at-new (noted t d note) l) in
+    subst (Opening (noted t d note ∷ l) o) made (d, note, stands, is)
 opening-step l o t d note b ih (Some q) is false same e = Opening-keeps (noted t d note) l o b (ih e)
 opening-step l o t d note b ih None is true same e = Opening-keeps (noted t d note) l o b (ih e)
 opening-step l o t d note b ih None is false same e = Opening-keeps (noted t d note) l o b (ih e)
@@ -54,7 +53,7 @@ begun-opening (x ∷ older) o b e =
     (opens_by x.note) refl (eqb (length older) o) refl e
 
 pub begun-below : (l : List Noted) (o : ℕ) (b : Begun) → begun l o ≡ Some b → o < length l
-begun-below l o b e = let h = begun-opening l o b e in at-below l o _ h.1
+begun-below l o b e = let h = begun-opening l o b e in at-below l o _ h.2
 
 not-here : (asked : Option CoapRequest) (t : ℕ) (old : Option Begun) → begun_by asked false t old ≡ old
 not-here None t old = refl
@@ -65,64 +64,109 @@ begun-keeps x l o b e =
     let below = begun-below l o b e in
     elim (eqb_tells (length l) o) [ inl w ↦ let a = w.1 in absurd (omega (arith, a, below)) | inr w ↦ rw (w.0) (not-here (opens_by x.note) x.written.moment (begun l o) ∙ e) ]
 
-pub opening-begun : (l : List Noted) (o t : ℕ) (d : Deed) (q : CoapRequest) → at l o ≡ Some (noted t d (Begins q))
+pub opens-begun : (l : List Noted) (o t : ℕ) (d : Deed) (note : Note) (q : CoapRequest) → opens_by note ≡ Some q → at l o ≡ Some (noted t d note)
     → begun l o ≡ Some (record { since = t; request = q })
-opening-begun [] o t d q e = cc
-opening-begun (x ∷ older) o t d q e =
+opens-begun [] o t d note q opens e = cc
+opens-begun (x ∷ older) o t d note q opens e =
     elim (at-cases x older o) [
       | inl w ↦
-          let is : x ≡ noted t d (Begins q) = some-is _ _ (sym w.1 ∙ e) in
-          let made : begun (noted t d (Begins q) ∷ older) (length older) ≡ Some (record { since = t; request = q }) =
-          rw (eqb-itself (length older)) refl in
+          let is : x ≡ noted t d note = some-is _ _ (sym w.1 ∙ e) in
+          let made : begun (noted t d note ∷ older) (length older) ≡ Some (record { since = t; request = q }) =
+          rw (eqb-itself (length older), opens) refl in
           subst (λ (x : Noted). begun (x ∷ older) o ≡ Some (record { since = t; request = q })) (sym is)
-          (subst (λ (o : ℕ). begun (noted t d (Begins q) ∷ older) o ≡ Some (record { since = t; request = q })) (sym w.0) made)
-      | inr w ↦ begun-keeps x older o _ (opening-begun older o t d q (sym w.1 ∙ e))
+          (subst (λ (o : ℕ). begun (noted t d note ∷ older) o ≡ Some (record { since = t; request = q })) (sym w.0) made)
+      | inr w ↦ begun-keeps x older o _ (opens-begun older o t d note q opens (sym w.1 ∙ e))
     ]
+
+pub opening-begun : (l : List Noted) (o t : ℕ) (d : Deed) (q : CoapRequest) → at l o ≡ Some (noted t d (Begins q))
+    → begun l o ≡ Some (record { since = t; request = q })
+opening-begun l o t d q e = opens-begun l o t d (Begins q) q refl e
 
 pub begun-before : (l : List Noted) (n o : ℕ) (b : Begun) → begun (before l n) o ≡ Some b → begun l o ≡ Some b
 begun-before l n o b e =
     let h = begun-opening (before l n) o b e in
-    opening-begun l o b.since h.0 b.request (at-before l n o _ h.1)
+    opens-begun l o b.since h.0 h.1 b.request h.3 (at-before l n o _ h.2)
+
+-- What a note that opens an exchange says of an ask: there was none to join, and there was room.
+pub record OpensSo (l : List Noted) (t : ℕ) (s : Sense) (q : CoapRequest) : Type 0 where
+  pub sense : s ≡ Requests q
+  pub alone : joins l q ≡ None
+  pub room : has_room l t q ≡ true
+
+pub opens-so : (l : List Noted) (t : ℕ) (s : Sense) (note : Note) (q : CoapRequest) → opens_by note ≡ Some q → AskNote l t s note → OpensSo l t s q
+opens-so l t (Requests r) (Begins u) q e h = subst (OpensSo l t (Requests r)) (sym h.0 ∙ some-is u q e) (record { sense = refl; alone = h.1; room = h.2 })
+opens-so l t (Requests r) (Renews u s) q e h = subst (OpensSo l t (Requests r)) (sym h.0 ∙ some-is u q e) (record { sense = refl; alone = h.1; room = h.2 })
+opens-so l t (Refuses cause status) (Begins u) q e h = absurd h
+opens-so l t (Refuses cause status) (Renews u s) q e h = absurd h
+opens-so l t s note q e h = cc
+
+plain-opens : (note : Note) (q : CoapRequest) → opens_by note ≡ Some q → IsPlain note → ⊥
+plain-opens (Begins r) q e h = h
+plain-opens (Renews r s) q e h = h
+plain-opens note q e h = cc
 
 -- what opens an exchange is an ask for it
-begins-ask : (l : List Noted) (t : ℕ) (d : Deed) (q : CoapRequest) → Follows l t d (Begins q)
+begins-ask : (l : List Noted) (t : ℕ) (d : Deed) (note : Note) (q : CoapRequest) → opens_by note ≡ Some q → Follows l t d note
     → (c : ℕ) × (a : Ask) × (d ≡ Asks c a) × (a.sense ≡ Requests q)
-begins-ask l t (Asks c a) q f = (c, a, refl, sense a.sense f.3)
+begins-ask l t (Asks c a) note q e f = (c, a, refl, (opens-so l t a.sense note q e f.3).sense)
+begins-ask l t (Opens c) note q e f = absurd (plain-opens note q e f.2)
+begins-ask l t (Sends p b w) note q e f = absurd (never note e f.1)
   where
-    sense : (s : Sense) → AskNote l t s (Begins q) → s ≡ Requests q
-    sense (Requests r) h = ap Requests (sym h.0)
-    sense (Refuses cause status) h = absurd h
-begins-ask l t (Opens c) q f = absurd f.2
-begins-ask l t (Sends p b w) q f = absurd f.1
-begins-ask l t (Hears p b) q f = absurd f.3
-begins-ask l t Passes q f = absurd f.1
-begins-ask l t (Answers c k g) q f = absurd f.4
-begins-ask l t (Shuts c) q f = absurd f.2
-begins-ask l t Seals q f = absurd f.2
-begins-ask l t (Carries k mark done) q f = absurd (never mark done f.2)
+    never : (note : Note) → opens_by note ≡ Some q → SentNote l t p b w note → ⊥
+    never (Begins r) e h = h
+    never (Renews r s) e h = h
+    never note e h = cc
+begins-ask l t (Hears p b) note q e f = absurd (never note e f.3)
   where
-    never : (mark : Mark) (done : D.Done) → CopiedNote l t mark done (Begins q) → ⊥
-    never D.Past (D.Sent p b w) h = h
-    never D.Past (D.Heard p b) h = h
-    never D.Ground (D.Asked c a) h = h
-    never D.Ground (D.Sent p b w) h = h
-    never D.Ground (D.Heard p b) h = h
-    never mark done h = h
+    never : (note : Note) → opens_by note ≡ Some q → HeardNote l t p b note → ⊥
+    never (Begins r) e h = h
+    never (Renews r s) e h = h
+    never note e h = cc
+begins-ask l t Passes note q e f = absurd (plain-opens note q e f.1)
+begins-ask l t (Answers c k g) note q e f = absurd (plain-opens note q e f.4)
+begins-ask l t (Shuts c) note q e f = absurd (plain-opens note q e f.2)
+begins-ask l t Seals note q e f = absurd (plain-opens note q e f.2)
+begins-ask l t (Carries k mark done) note q e f = absurd (never mark done note e f.2)
+  where
+    begins : (mark : Mark) (done : D.Done) (q : CoapRequest) → CopiedNote l t mark done (Begins q) → ⊥
+    begins D.Past (D.Sent p b w) q h = h
+    begins D.Past (D.Heard p b) q h = h
+    begins D.Ground (D.Asked c a) q h = h
+    begins D.Ground (D.Sent p b w) q h = h
+    begins D.Ground (D.Heard p b) q h = h
+    begins mark done q h = h
+
+    renews : (mark : Mark) (done : D.Done) (q : CoapRequest) (s : Stored) → CopiedNote l t mark done (Renews q s) → ⊥
+    renews D.Past (D.Sent p b w) q s h = h
+    renews D.Past (D.Heard p b) q s h = h
+    renews D.Ground (D.Asked c a) q s h = h
+    renews D.Ground (D.Sent p b w) q s h = h
+    renews D.Ground (D.Heard p b) q s h = h
+    renews mark done q s h = h
+
+    never : (mark : Mark) (done : D.Done) (note : Note) → opens_by note ≡ Some q → CopiedNote l t mark done note → ⊥
+    never mark done (Begins r) e h = begins mark done r h
+    never mark done (Renews r s) e h = renews mark done r s h
+    never mark done note e h = cc
 
 pub record AskedFor (l : List Noted) (o : ℕ) (b : Begun) : Type 0 where
   pub conn : ℕ
   pub ask : Ask
-  pub stands : at l o ≡ Some (noted b.since (Asks conn ask) (Begins b.request))
+  pub note : Note
+  pub stands : at l o ≡ Some (noted b.since (Asks conn ask) note)
+  pub opens : opens_by note ≡ Some b.request
   pub sense : ask.sense ≡ Requests b.request
 
 pub asked-for : (l : List Noted) (o : ℕ) (b : Begun) → Legal l → begun l o ≡ Some b → AskedFor l o b
 asked-for l o b legal e =
     let h = begun-opening l o b e in
-    let it = begins-ask (before l o) b.since h.0 b.request (follows-at l o _ legal h.1) in
+    let it = begins-ask (before l o) b.since h.0 h.1 b.request h.3 (follows-at l o _ legal h.2) in
     record {
       conn = it.0;
       ask = it.1;
-      stands = subst (λ (d : Deed). at l o ≡ Some (noted b.since d (Begins b.request))) it.2 h.1;
+      note = h.1;
+      stands = subst (λ (d : Deed). at l o ≡ Some (noted b.since d h.1)) it.2 h.2;
+      opens = h.3;
       sense = it.3;
     }
 
@@ -133,7 +177,7 @@ pub record SentFor (l : List Noted) (o i : ℕ) (p : Peer) (m : Content) (bytes 
   pub opened : begun l o ≡ Some exchange
   pub after : o < i
   pub peer : p ≡ exchange.request.peer
-  pub next : next_message (observes (before l i) o) exchange.request (progress exchange.request (replies (before l i) o)) m.mid m.token ≡ Some m
+  pub next : next_message (manner (before l i) o) exchange.request (progress exchange.request (replies (before l i) o)) m.mid m.token ≡ Some m
   pub spelled : Spells m bytes
 
 pub sent-for : (l : List Noted) (t o i : ℕ) (p : Peer) (m : Content) → Legal l → (f : IsFirst l t o i p m) → SentFor l o i p m f.bytes
@@ -150,15 +194,15 @@ sent-for l t o i p m legal f =
     }
 
 -- It is for a block of what that asks for, or of its body, or for all.
-pub asking-plain : (q : CoapRequest) (block : Option Block) (mid : ℕ) (token : List ℕ) → asking false q block mid token ≡ block_message q block mid token
+pub asking-plain : (q : CoapRequest) (block : Option Block) (mid : ℕ) (token : List ℕ) → asking Plainly q block mid token ≡ block_message q block mid token
 asking-plain q None mid token = refl
 asking-plain q (Some b) mid token = refl
 
-pub next-is : (f : Bool) (q : CoapRequest) (w : Progress) (mid : ℕ) (token : List ℕ) (m : Content) → next_message f q w mid token ≡ Some m
-    → (block : Option Block) × (observes : Bool) × (m ≡ asking observes q block mid token)
+pub next-is : (f : Manner) (q : CoapRequest) (w : Progress) (mid : ℕ) (token : List ℕ) (m : Content) → next_message f q w mid token ≡ Some m
+    → (block : Option Block) × (manner : Manner) × (m ≡ asking manner q block mid token)
 next-is f q (Fetches restarts pieces got) mid token m e = (block_after pieces, f, sym (some-is _ _ e))
 next-is f q (Gives upload got) mid token m e =
-    (next_block upload, false, sym (some-is _ _ e) ∙ sym (asking-plain q (next_block upload) mid token))
+    (next_block upload, Plainly, sym (some-is _ _ e) ∙ sym (asking-plain q (next_block upload) mid token))
 next-is f q (Ends how) mid token m e = cc
 
 -- After its first sending an exchange waits for the reply, or has ended, or has got a reply more.
@@ -175,17 +219,17 @@ stays-ended how n None h = absurd (false≢true (sym h))
 stays-ended None n (Some f) h = refl
 stays-ended (Some how) n (Some f) h = refl
 
-past-step : (b : Option Begun) (u : Turn) (n k : ℕ) (rs : List Reply) (w : Option ℕ) (e : Option End) → Past w e k (length rs)
-    → Past (waits_by u w) (end_by (end_here b n rs u) n e) k (length (replies_by n u rs))
-past-step b Nothing n k rs w e h = h
-past-step b (Sent i) n k rs w e h = (h.0, inl refl)
-past-step b (Replied i m place) n k rs w e h =
+past-step : (b : Option Begun) (v : Option Stored) (u : Turn) (n k : ℕ) (rs : List Reply) (w : Option ℕ) (e : Option End) → Past w e k (length rs)
+    → Past (waits_by u w) (end_by (end_here b v n rs u) n e) k (length (replies_by n u rs))
+past-step b v Nothing n k rs w e h = h
+past-step b v (Sent i) n k rs w e h = (h.0, inl refl)
+past-step b v (Replied i m place) n k rs w e h =
     let r : Reply = record { number = n; sending = i; message = m } in
     let more = length-append rs (r ∷ []) in
     let le = h.0 in
     (omega (arith, more, le), inr (inr (omega (arith, more, le))))
-past-step b Rejected n k rs w e h = (h.0, inr (inl (ended (Some Reset) n e refl)))
-past-step b Expired n k rs w e h = (h.0, inr (inl (ended (Some TimedOut) n e refl)))
+past-step b v Rejected n k rs w e h = (h.0, inr (inl (ended (Some Reset) n e refl)))
+past-step b v Expired n k rs w e h = (h.0, inr (inl (ended (Some TimedOut) n e refl)))
 
 past-new : (l : List Noted) (t o : ℕ) (p : Peer) (b : List ℕ) (w : Option ℕ) (m : Content)
     → Past (waits_for (noted t (Sends p b w) (First o m) ∷ l) o) (end_of (noted t (Sends p b w) (First o m) ∷ l) o)
@@ -205,7 +249,7 @@ past (x ∷ older) t o i p m f =
       | inr u ↦
           subst (λ (k : List Noted). Past (waits_for (x ∷ older) o) (end_of (x ∷ older) o) (length (replies k o)) (length (replies (x ∷ older) o)))
           (sym (before-keeps x older i (IsFirst-below older t o i p m u)))
-          (past-step (begun older o) (turn older o x) (length older) (length (replies (before older i) o)) (replies older o) (waits_for older o) (end_of older o)
+          (past-step (begun older o) (kept older o) (turn older o x) (length older) (length (replies (before older i) o)) (replies older o) (waits_for older o) (end_of older o)
           (past older t o i p m u))
     ]
 

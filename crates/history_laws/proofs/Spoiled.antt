@@ -1,13 +1,13 @@
 -- The spoiled journals are not legal: what the last entry owes is not so.
-use Rattle.std.proofs.Common.{◌≡◌, ℕ, List, ◌∷◌, Option, refl, sym, ap, subst, ◌∙◌, arith, inl, inr}
+use Rattle.std.proofs.Common.{◌≡◌, ℕ, List, [], ◌∷◌, Option, refl, sym, ap, subst, ◌∙◌, arith, inl, inr}
 use Rattle.std.specs.Prelude.{Some, None}
 use Rattle.std.proofs.lemmas.Bool.{false≢true}
 use Rattle.coap_codec.specs.Spelling.{Content}
-use Rattle.journal_book.specs.Entries.{Deed, Sends, Passes}
+use Rattle.journal_book.specs.Entries.{Deed, Live, Sends, Passes}
 use Rattle.history_laws.specs.Readings.{Noted, Plain, Notice, Says, noted}
 use Rattle.history_laws.specs.Progress.{Ending}
 use Rattle.history_laws.specs.Exchanges.{end_of}
-use Rattle.history_laws.specs.Justified.{Ends}
+use Rattle.history_laws.specs.Justified.{Ends, HasGrounds}
 use Rattle.history_laws.specs.Worked.{Refused}
 use Rattle.history_laws.specs.WorkedEndings.{copied_out}
 use Rattle.history_laws.specs.WorkedMessages.{answered}
@@ -65,9 +65,15 @@ pub rejected_late-refused : Refused rejected_late
 rejected_late-refused h = none-is _ (says-to _ _ _ _ _ h.2.3.says)
 
 pub crossed-refused : Refused crossed
-crossed-refused h =
-    let o = some-is 4 h.2.3.0 h.2.3.4 in
-    not-ended answered h.2.3.0 h.2.3.1 _ (subst (λ (o : ℕ). end_of answered o ≡ None) o refl) h.2.3.5
+crossed-refused h = by h.2.3
+  where
+    by : HasGrounds answered 5000 4 (Live (9 ∷ [])) → ⊥
+    by (inl it) =
+        let o = some-is 4 it.0 it.4 in
+        not-ended answered it.0 it.1 _ (subst (λ (o : ℕ). end_of answered o ≡ None) o refl) it.5
+    by (inr it) =
+        let o = some-is 4 it.0 it.4 in
+        not-ended answered it.0 it.1 _ (subst (λ (o : ℕ). end_of answered o ≡ None) o refl) it.5
 
 pub sealed_early-refused : Refused sealed_early
 sealed_early-refused h =

@@ -21,7 +21,7 @@ use Rattle.history_laws.specs.WorkedMessages.{get_light, all_answered}
 use Rattle.history_laws.specs.WorkedEndings.{non_message}
 use Rattle.history_laws.specs.WorkedCopies.{content_again}
 use Rattle.history_laws.specs.WorkedStore.{read_once, read_from_store, fetched_when_stale, fetched_though_fresh, read_expired, kept_late, get_bright, get_json, other_query, other_accept, read_outdated, read_twice, read_older}
-use Rattle.history_laws.proofs.Carrying.{uncarried}
+use Rattle.history_laws.proofs.Carrying.{no-renewed, uncarried, unrenewed-stored}
 use Rattle.history_laws.proofs.Copied.{get-again-spelled}
 use Rattle.history_laws.proofs.Elements.{contains-none, first-or-later}
 use Rattle.history_laws.proofs.Endings.{non-spelled}
@@ -41,7 +41,7 @@ legal-once = (
     (may-come _ refl refl, lit≤ tt, refl, record { spelled = non-spelled; unheard = refl; remembered = refl; says = refl }),
   ),
   lit≤ tt,
-  (refl, refl, refl, (1, 3, _, _, refl, refl, refl), tt),
+  (refl, refl, refl, inl (1, 3, _, _, refl, refl, refl), tt),
 )
 
 -- What may answer an ask was opened by one of the openings.
@@ -100,7 +100,7 @@ is-stored-once =
 pub read_from_store-holds : Holds read_from_store
 read_from_store-holds = (
   (
-    (legal-once, lit≤ tt, (may-come _ refl refl, refl, refl, (stored-once, inl is-stored-once, refl, refl), tt)),
+    (legal-once, lit≤ tt, (may-come _ refl refl, refl, refl, (stored-once, unrenewed-stored read_once get_light stored-once refl (inl is-stored-once), refl, refl), tt)),
     lit≤ tt,
     (refl, refl, refl, (0, _, refl), tt),
   ),
@@ -183,13 +183,14 @@ unused n key (inl s) lt =
   where
     unserved : Plain ≡ Serves s.replies → ⊥
     unserved e = cc
-unused n key (inr s) lt =
+unused n key (inr (inr s)) lt = absurd (no-renewed read_once s.opening n s.kept s.reply refl s.ended)
+unused n key (inr (inl s)) lt =
     let here = (ends-once s.opening n (Whole s.response (s.first ∷ s.more)) (begun-once s.opening (ap is_some s.opened)) (ended-once _ _ _ _ s.comes).ended).0 in
     absurd (omega (arith, here, lt))
 
 used-once : IsUse read_once 3 (asked_key get_light)
 used-once =
-    inr (record {
+    inr (inl (record {
       opening = 1;
       response = response_of non_message;
       first = reply-of-once;
@@ -203,10 +204,10 @@ used-once =
       current = refl;
       newest = refl;
       lasts = refl;
-    })
+    }))
 
 pub fetched_though_fresh-refused : Refused fetched_though_fresh
-fetched_though_fresh-refused h = let it = h.2.4 stored-once (inl is-stored-once) refl in by it.others it.many it.since
+fetched_though_fresh-refused h = let it = h.2.4 stored-once (unrenewed-stored read_once get_light stored-once refl (inl is-stored-once)) refl in by it.others it.many it.since
   where
     by : (keys : List CacheKey) → MAX_STORED ≤ length keys → AllByRecursion (IsUsedSince read_once (asked_key get_light)) keys → ⊥
     by [] many since = let none : 256 ≤ 0 = many in absurd (omega (arith, none))

@@ -1,9 +1,9 @@
 -- The worked journals of a body that goes in pieces.
-use Rattle.std.proofs.Common.{◌≡◌, ℕ, List, [], ◌∷◌, Option, Some, None, refl, sym, ap, subst, arith, lit≤, false}
+use Rattle.std.proofs.Common.{inl, ◌≡◌, ℕ, List, [], ◌∷◌, Option, Some, None, refl, sym, ap, subst, arith, lit≤, false}
 use Rattle.coap_codec.specs.Spelling.{Entry, Content, Spells}
 use Rattle.coap_codec.specs.Reading.{message_at}
 use Rattle.coap_codec.specs.Reading as X
-use Rattle.ask_model.specs.Requests.{CoapRequest}
+use Rattle.ask_model.specs.Requests.{CoapRequest, Plainly}
 use Rattle.history_laws.specs.Exchanges.{Begun, replies}
 use Rattle.history_laws.specs.Justified.{Legal}
 use Rattle.history_laws.specs.Progress.{progress, next_message}
@@ -106,7 +106,7 @@ uploaded-holds = (
   (
     (legal-rest, lit≤ tt, (may-come _ refl refl, lit≤ tt, refl, record { spelled = answer-spelled; unheard = refl; remembered = refl; says = refl })),
     lit≤ tt,
-    (refl, refl, refl, (1, 5, _, _, refl, refl, refl), tt),
+    (refl, refl, refl, inl (1, 5, _, _, refl, refl, refl), tt),
   ),
   at-rest _ refl,
 )
@@ -116,7 +116,7 @@ turned_down-holds = (
   (
     (legal-sent, lit≤ tt, (may-come _ refl refl, lit≤ tt, refl, record { spelled = too_large-spelled; unheard = refl; remembered = refl; says = refl })),
     lit≤ tt,
-    (refl, refl, refl, (1, 3, _, _, refl, refl, refl), tt),
+    (refl, refl, refl, inl (1, 3, _, _, refl, refl, refl), tt),
   ),
   at-rest _ refl,
 )
@@ -154,7 +154,7 @@ overlapping-refused h =
     let may = h.2.1.1 in
     let opened : record { since = 0; request = put_file } ≡ record { since = may.since; request = may.request } = some-is _ _ may.opening in
     let asks : put_file ≡ may.request = ap (λ (b : Begun). b.request) opened in
-    let next : next_message false put_file (progress put_file (replies piece_taken 1)) again.mid again.token ≡ Some again =
-    subst (λ (q : CoapRequest). next_message false q (progress q (replies piece_taken 1)) again.mid again.token ≡ Some again) (sym asks) may.message in
+    let next : next_message Plainly put_file (progress put_file (replies piece_taken 1)) again.mid again.token ≡ Some again =
+    subst (λ (q : CoapRequest). next_message Plainly q (progress q (replies piece_taken 1)) again.mid again.token ≡ Some again) (sym asks) may.message in
     let other : 68 ≡ 60 = ap third_of next in
     absurd (omega (arith, other))

@@ -8,7 +8,7 @@ use Rattle.coap_codec.specs.Reading.{message_at}
 use Rattle.coap_codec.specs.Reading as X
 use Rattle.cache_key.specs.Keys.{same_key}
 use Rattle.resp_cache.specs.Stored.{Stored}
-use Rattle.ask_model.specs.Requests.{CoapRequest, request_message}
+use Rattle.ask_model.specs.Requests.{CoapRequest, Plainly, Observing, request_message}
 use Rattle.ask_model.specs.Sharing.{asked_key, is_get}
 use Rattle.history_laws.specs.Confirmations.{empty}
 use Rattle.history_laws.specs.Responses.{Response, joined}
@@ -16,11 +16,11 @@ use Rattle.history_laws.specs.Readings.{Noted, Note, Says, Observation, Updates,
 use Rattle.history_laws.specs.Progress.{Reply, numbers, Ending, Whole, next_message, progress}
 use Rattle.history_laws.specs.Exchanges.{Begun, begun, End, end_of}
 use Rattle.history_laws.specs.Joining.{asks_the_same, is_joinable}
-use Rattle.history_laws.specs.Storing.{ComesSo, IsBrought, MissesAlone, UpdatesSo}
+use Rattle.history_laws.specs.Storing.{IsAsHeard, ComesSo, IsBrought, MissesAlone, UpdatesSo}
 use Rattle.history_laws.specs.Justified.{Legal}
 use Rattle.history_laws.specs.Worked.{Holds, Refused, server, empty_rst, token}
 use Rattle.history_laws.specs.WorkedWatches.{get_t, put_t, get_bytes, get_message, registers_bytes, registers_message, greatest_bytes, greatest, least_bytes, least, sent, registered, updated, outrun_late, served, unasked, left_out, not_newer, older_served, put_bytes, put_message, changed_bytes, changed_message, written, rejected, served_after, counted_after, forgotten}
-use Rattle.history_laws.proofs.Carrying.{uncarried}
+use Rattle.history_laws.proofs.Carrying.{heard-of, uncarried, unrenewed-stored}
 use Rattle.history_laws.proofs.Elements.{contains-none, first-or-later}
 use Rattle.history_laws.proofs.Joining.{shared-is}
 use Rattle.history_laws.proofs.Missing.{none-stored}
@@ -113,7 +113,7 @@ legal-registered : Legal registered
 legal-registered = (
   (legal-sent, lit≤ tt, (may-come _ refl refl, lit≤ tt, refl, record { spelled = registers-spelled; unheard = refl; remembered = refl; says = refl })),
   lit≤ tt,
-  (refl, refl, refl, (1, 3, _, _, refl, refl, refl), tt),
+  (refl, refl, refl, inl (1, 3, _, _, refl, refl, refl), tt),
 )
 
 legal-updated : Legal updated
@@ -218,7 +218,7 @@ is-last-stored = record {
 
 legal-served : Legal served
 legal-served = (
-  (legal-outrun-late, lit≤ tt, (may-come _ refl refl, refl, refl, (last-stored, inl is-last-stored, refl, refl), tt)),
+  (legal-outrun-late, lit≤ tt, (may-come _ refl refl, refl, refl, (last-stored, unrenewed-stored outrun_late get_t last-stored refl (inl is-last-stored), refl, refl), tt)),
   lit≤ tt,
   (refl, refl, refl, (1, _, refl), tt),
 )
@@ -228,16 +228,23 @@ served-holds = (legal-served, at-rest _ refl)
 
 -- a write
 
-never-shared : (l : List Noted) (q : CoapRequest) (o : ℕ) → is_get q ≡ false → is_joinable l q o ≡ true → ⊥
-never-shared l q o write may = by (begun l o) (and_parts (asks_the_same q (begun l o)) _ may).0
+never-same : (l : List Noted) (q : CoapRequest) (o : ℕ) → is_get q ≡ false → asks_the_same q (begun l o) ≡ true → ⊥
+never-same l q o write same = by (begun l o) same
   where
     by : (b : Option Begun) → asks_the_same q b ≡ true → ⊥
     by None e = false≢true e
     by (Some b) e = false≢true (sym write ∙ (and_parts (is_get q) _ e).0)
 
+never-shared : (l : List Noted) (q : CoapRequest) (o : ℕ) → is_get q ≡ false → is_joinable l q o ≡ true → ⊥
+never-shared l q o write may = never-same l q o write (and_parts (asks_the_same q (begun l o)) _ may).0
+
 misses-put : (l : List Noted) (t : ℕ) → MissesAlone l t put_t
-misses-put l t s (inl is) fresh = absurd (never-shared l put_t is.opening refl is.shared)
-misses-put l t s (inr is) fresh = absurd (false≢true (and_parts (is_get put_t) (is_get is.carries.exchange.request && same_key (asked_key put_t) (asked_key is.carries.exchange.request)) is.same).0)
+misses-put l t s (inr it) fresh = absurd (never-same l put_t it.renewal.opening refl it.renewal.same)
+misses-put l t s (inl u) fresh = absurd (never-heard (heard-of l put_t s u))
+  where
+    never-heard : IsAsHeard l put_t s → ⊥
+    never-heard (inl is) = never-shared l put_t is.opening refl is.shared
+    never-heard (inr is) = false≢true (and_parts (is_get put_t) (is_get is.carries.exchange.request && same_key (asked_key put_t) (asked_key is.carries.exchange.request)) is.same).0
 
 legal-written : Legal written
 legal-written = (
@@ -278,7 +285,7 @@ legal-written = (
     (may-come _ refl refl, lit≤ tt, refl, record { spelled = changed-t-spelled; unheard = refl; remembered = refl; says = refl }),
   ),
   lit≤ tt,
-  (refl, refl, refl, (12, 14, _, _, refl, refl, refl), tt),
+  (refl, refl, refl, inl (12, 14, _, _, refl, refl, refl), tt),
 )
 
 legal-rejected : Legal rejected
@@ -327,8 +334,8 @@ pub unasked-refused : Refused unasked
 unasked-refused h =
     let may = h.2.1.1 in
     let opened : record { since = 0; request = get_t } ≡ record { since = may.since; request = may.request } = some-is _ _ may.opening in
-    let next : next_message false get_t (progress get_t []) 0 (token 0) ≡ Some get_message =
-    subst (λ (q : CoapRequest). next_message false q (progress q []) 0 (token 0) ≡ Some get_message) (sym (ap (λ (b : Begun). b.request) opened)) may.message in
+    let next : next_message Plainly get_t (progress get_t []) 0 (token 0) ≡ Some get_message =
+    subst (λ (q : CoapRequest). next_message Plainly q (progress q []) 0 (token 0) ≡ Some get_message) (sym (ap (λ (b : Begun). b.request) opened)) may.message in
     let other : 11 ≡ 6 = ap second next in
     absurd (omega (arith, other))
 
@@ -336,8 +343,8 @@ pub left_out-refused : Refused left_out
 left_out-refused h =
     let may = h.2.1.1 in
     let opened : record { since = 0; request = get_t } ≡ record { since = may.since; request = may.request } = some-is _ _ may.opening in
-    let next : next_message true get_t (progress get_t []) 0 (token 0) ≡ Some (request_message get_t 0 (token 0)) =
-    subst (λ (q : CoapRequest). next_message true q (progress q []) 0 (token 0) ≡ Some (request_message get_t 0 (token 0))) (sym (ap (λ (b : Begun). b.request) opened)) may.message in
+    let next : next_message Observing get_t (progress get_t []) 0 (token 0) ≡ Some (request_message get_t 0 (token 0)) =
+    subst (λ (q : CoapRequest). next_message Observing q (progress q []) 0 (token 0) ≡ Some (request_message get_t 0 (token 0))) (sym (ap (λ (b : Begun). b.request) opened)) may.message in
     let other : 6 ≡ 11 = ap second next in
     absurd (omega (arith, other))
 

@@ -8,25 +8,28 @@ use Rattle.coap_codec.specs.declared.message.MsgType.{MsgType}
 use Rattle.coap_codec.specs.declared.message.MsgType.TheVariants.{Con, Non, Ack, Rst}
 use Rattle.coap_codec.specs.Spelling.{Content}
 use Rattle.uri_map.specs.declared.peer.Peer.{Peer}
-use Rattle.ask_model.specs.Requests.{CoapRequest, Sense, Requests, Refuses, observe_message}
+use Rattle.ask_model.specs.Requests.{CoapRequest, Sense, Requests, Refuses, Manner, Observing, observing_if, observe_message}
 use Rattle.ask_model.specs.Sharing.{asked_key, is_get}
+use Rattle.ask_model.specs.Views.{Ask}
+use Rattle.resp_cache.specs.Stored.{Stored}
 use Rattle.ask_model.specs.Observing.{is_named, may_observe}
 use Rattle.journal_book.specs.Entries.{Deed, Asks, Hears, Passes}
 use Rattle.observe_share.specs.declared.registration.Registration.{Registration}
 use Rattle.observe_share.specs.declared.notice.Notice as Shared
 use Rattle.observe_share.specs.declared.notice.Notice.TheVariants.{Update, Other}
 use Rattle.observe_share.specs.Watches.{counted, counts_for, first_changed}
-use Rattle.history_laws.specs.Readings.{Noted, Note, Begins, Says, Notice, Observation, Unobserved, Registers, Updates, Outdates, Cancels, noted, at, before}
+use Rattle.history_laws.specs.Readings.{Noted, Note, Begins, Renews, Says, Notice, Observation, Unobserved, Registers, Updates, Outdates, Cancels, noted, at, before}
 use Rattle.history_laws.specs.Progress.{Reply, progress, next_message}
 use Rattle.history_laws.specs.Transmissions.{FirstSending, first_at}
-use Rattle.history_laws.specs.Exchanges.{Begun, begun, Turn, Nothing, Sent, Replied, Rejected, Expired, turn, waits_for, replies_by, replies, answered_by}
-use Rattle.history_laws.specs.Observing.{Watch, asked_again, asked_by, current_by, held_by, idles, is_current, is_for, is_under, notice_in, observes, registered, registered_of, told_by, unless_replied, wants_in, watch_for, watches, watches_by}
+use Rattle.history_laws.specs.Exchanges.{Begun, begun, opens_by, Turn, Nothing, Sent, Replied, Rejected, Expired, turn, waits_for, replies_by, replies, answered_by}
+use Rattle.history_laws.specs.Observing.{Watch, asked_again, asked_by, current_by, held_by, idles, is_current, is_for, is_under, manner, manner_by, notice_in, observes, tag_of, registered, registered_of, told_by, unless_replied, wants_in, watch_for, watches, watches_by}
 use Rattle.history_laws.specs.Hearing.{answers, answers_by}
 use Rattle.history_laws.specs.Justified.{Follows, Legal}
 use Rattle.history_laws.specs.Laws.{IsFirst, IsObserved}
 use Rattle.history_laws.proofs.Copying.{at-still, before-twice}
 use Rattle.history_laws.proofs.Elements.{all-filter, all-more, all-of}
 use Rattle.history_laws.proofs.Facts.{eqb-itself, IsFirst-keeps, legal-before, length-before}
+use Rattle.history_laws.proofs.Kept.{at-kept}
 use Rattle.history_laws.proofs.Firsts.{first-is}
 use Rattle.history_laws.proofs.Members.{all-join}
 use Rattle.history_laws.proofs.Order.{quiet-since, sends-next}
@@ -45,6 +48,7 @@ pub record WatchFits (l : List Noted) (w : Watch) : Type 0 where
   pub first : IsFirst l moment w.held.opening w.sending exchange.request.peer (observe_message exchange.request mid w.held.token)
   pub opened : begun l w.held.opening ≡ Some exchange
   pub for_it : AskedFor l w.held.opening exchange
+  pub begins : for_it.note ≡ Begins exchange.request
   pub may : may_observe for_it.ask.rules exchange.request ≡ true
   pub key : w.held.key ≡ asked_key exchange.request
   pub reply : Reply
@@ -68,7 +72,15 @@ WatchFits-keeps x l w h = record {
   mid = h.mid;
   first = IsFirst-keeps x l h.moment w.held.opening w.sending h.exchange.request.peer _ h.first;
   opened = begun-keeps x l w.held.opening h.exchange h.opened;
-  for_it = record { conn = h.for_it.conn; ask = h.for_it.ask; stands = at-keeps x l w.held.opening _ h.for_it.stands; sense = h.for_it.sense };
+  for_it = record {
+    conn = h.for_it.conn;
+    ask = h.for_it.ask;
+    note = h.for_it.note;
+    stands = at-keeps x l w.held.opening _ h.for_it.stands;
+    opens = h.for_it.opens;
+    sense = h.for_it.sense;
+  };
+  begins = h.begins;
   may = h.may;
   key = h.key;
   reply = h.reply;
@@ -84,6 +96,7 @@ touched l w t h = record {
   first = h.first;
   opened = h.opened;
   for_it = h.for_it;
+  begins = h.begins;
   may = h.may;
   key = h.key;
   reply = h.reply;
@@ -99,6 +112,7 @@ renewed l w v t h = record {
   first = h.first;
   opened = h.opened;
   for_it = h.for_it;
+  begins = h.begins;
   may = h.may;
   key = h.key;
   reply = h.reply;
@@ -137,7 +151,7 @@ not-rst l p m i response e = by m.kind (eqb m.code 0) refl (leb 32 m.code) respo
     by Rst false is true y e = absurd (none-some i e)
     by Rst false is false y e = absurd (none-some i e)
 
-first-asks : (q : CoapRequest) (mid : ℕ) (token : List ℕ) → eqb q.method 1 ≡ true → next_message true q (progress q []) mid token ≡ Some (observe_message q mid token)
+first-asks : (q : CoapRequest) (mid : ℕ) (token : List ℕ) → eqb q.method 1 ≡ true → next_message Observing q (progress q []) mid token ≡ Some (observe_message q mid token)
 first-asks q mid token get = rw (get) refl
 
 no-replies : (wants : Bool) (rs : List Reply) → unless_replied wants rs ≡ true → (rs ≡ []) × (wants ≡ true)
@@ -153,6 +167,12 @@ turn-replies l o t p b m i notice waited response kind = rw (waited, eqb-itself 
     by Non h = rw (response) refl
     by Ack h = rw (response) refl
     by Rst h = absurd h
+
+wants-begins : (l : List Noted) (c : ℕ) (a : Ask) (note : Note) (q : CoapRequest) → opens_by note ≡ Some q → wants_in l (Some (noted 0 (Asks c a) note)) ≡ true
+    → note ≡ Begins q
+wants-begins l c a (Begins r) q e f = ap Begins (some-is r q e)
+wants-begins l c a (Renews r s) q e f = absurd (false≢true f)
+wants-begins l c a note q e f = cc
 
 registered-fits : (l : List Noted) (t : ℕ) (p : Peer) (b : List ℕ) (m : Content) (i : ℕ) (notice : Notice) → Legal l
     → answers l p m ≡ Some i → (it : IsRegistering l m i)
@@ -173,21 +193,29 @@ registered-fits l t p b m i notice legal to it =
     let token : c.token ≡ m.token = sym (ap (λ (g : FirstSending). g.message.token) is) ∙ heard.token in
     let none = no-replies (wants_in (before l o) (at l o)) (replies l o) it.observing in
     let ask = asked-for l o it.exchange legal it.opened in
+    let begins : ask.note ≡ Begins q =
+    wants-begins (before l o) ask.conn ask.ask ask.note q ask.opens
+    (subst (λ (v : Option Noted). wants_in (before l o) v ≡ true) ask.stands none.1) in
+    let asked : at l o ≡ Some (noted it.exchange.since (Asks ask.conn ask.ask) (Begins q)) =
+    subst (λ (n : Note). at l o ≡ Some (noted it.exchange.since (Asks ask.conn ask.ask) n)) begins ask.stands in
     let wants : wants_in (before l o) (Some (noted it.exchange.since (Asks ask.conn ask.ask) (Begins q))) ≡ true =
-    subst (λ (v : Option Noted). wants_in (before l o) v ≡ true) ask.stands none.1 in
+    subst (λ (v : Option Noted). wants_in (before l o) v ≡ true) asked none.1 in
     let may = (and_parts (may_observe ask.ask.rules q) _ wants).0 in
     let get = (and_parts (eqb q.method 1) _ (and_parts (is_get q) (is_named ask.ask.rules.observed q.target.host) may).0).0 in
     let quiet : replies (before l i) o ≡ [] = quiet-since l o i it.waited ∙ none.0 in
-    let still = at-still l i o _ _ f.stands sent.after ask.stands in
+    let still = at-still l i o _ _ f.stands sent.after asked in
     let twice = before-twice l i o _ f.stands sent.after in
     let wanted : wants_in (before (before l i) o) (at (before l i) o) ≡ true =
     ap (λ (v : Option Noted). wants_in (before (before l i) o) v) still
     ∙ (ap (λ (k : List Noted). wants_in k (Some (noted it.exchange.since (Asks ask.conn ask.ask) (Begins q)))) twice ∙ wants) in
     let observing : observes (before l i) o ≡ true =
     ap (λ (rs : List Reply). unless_replied (wants_in (before (before l i) o) (at (before l i) o)) rs) quiet ∙ wanted in
-    let next : next_message true q (progress q []) c.mid c.token ≡ Some c =
-    subst (λ (rs : List Reply). next_message true q (progress q rs) c.mid c.token ≡ Some c) quiet
-    (subst (λ (f : Bool). next_message f q (progress q (replies (before l i) o)) c.mid c.token ≡ Some c) observing
+    let how : manner (before l i) o ≡ Observing =
+    ap (λ (v : Option Stored). manner_by (tag_of v (replies (before l i) o)) (observes (before l i) o)) (at-kept (before l i) o _ still)
+    ∙ ap observing_if observing in
+    let next : next_message Observing q (progress q []) c.mid c.token ≡ Some c =
+    subst (λ (rs : List Reply). next_message Observing q (progress q rs) c.mid c.token ≡ Some c) quiet
+    (subst (λ (f : Manner). next_message f q (progress q (replies (before l i) o)) c.mid c.token ≡ Some c) how
     (sends-next l w.0 o i w.1 c it.exchange legal f it.opened)) in
     let asks : c ≡ observe_message q c.mid c.token = some-is _ _ (sym next ∙ first-asks q c.mid c.token get) in
     let message : c ≡ observe_message q c.mid m.token = asks ∙ ap (observe_message q c.mid) token in
@@ -201,7 +229,15 @@ registered-fits l t p b m i notice legal to it =
       mid = c.mid;
       first = IsFirst-keeps x l w.0 o i q.peer _ own;
       opened = begun-keeps x l o it.exchange it.opened;
-      for_it = record { conn = ask.conn; ask = ask.ask; stands = at-keeps x l o _ ask.stands; sense = ask.sense };
+      for_it = record {
+        conn = ask.conn;
+        ask = ask.ask;
+        note = ask.note;
+        stands = at-keeps x l o _ ask.stands;
+        opens = ask.opens;
+        sense = ask.sense;
+      };
+      begins = begins;
       may = may;
       key = refl;
       reply = record { number = length l; sending = i; message = m };
@@ -250,6 +286,7 @@ fits-by l t (Asks c a) note legal follows all = by a.sense note
 
     by : (s : Sense) (n : Note) → AllByRecursion P (asked_by t s n (watches l))
     by (Requests q) (Begins r) = all-filter P (λ (w : Watch). not (is_for q w)) (watches l) all
+    by (Requests q) (Renews r s) = all-filter P (λ (w : Watch). not (is_for q w)) (watches l) all
     by (Requests q) n = all-mapped P (asked_again q t) (λ w h. asked-fits _ q t w h) (watches l) all
     by (Refuses cause status) n = all
 fits-by l t (Hears p b) (Says m (Some i) notice) legal follows all = told-fits l t p b m i notice legal follows all
@@ -308,6 +345,7 @@ few-by l t (Asks c a) note follows le = by a.sense note
   where
     by : (s : Sense) (n : Note) → length (asked_by t s n (watches l)) ≤ 64
     by (Requests q) (Begins r) = filter-few (λ (w : Watch). not (is_for q w)) (watches l) 64 le
+    by (Requests q) (Renews r s) = filter-few (λ (w : Watch). not (is_for q w)) (watches l) 64 le
     by (Requests q) n = let same = map-len (asked_again q t) (watches l) in omega (arith, same, le)
     by (Refuses cause status) n = le
 few-by l t (Hears p b) (Says m (Some i) notice) follows le = told-few l t p b m i notice follows le
@@ -334,7 +372,7 @@ observed-asked l w legal has =
       conn = h.for_it.conn;
       ask = h.for_it.ask;
       request = h.exchange.request;
-      asked = h.for_it.stands;
+      asked = subst (λ (n : Note). at l w.held.opening ≡ Some (noted h.exchange.since (Asks h.for_it.conn h.for_it.ask) n)) h.begins h.for_it.stands;
       sense = h.for_it.sense;
       may = h.may;
       key = h.key;

@@ -10,8 +10,10 @@ use Rattle.uri_map.specs.declared.peer.Peer.{Peer}
 use Rattle.uri_map.specs.Peers.{same_peer}
 use Rattle.ask_model.specs.Requests.{CoapRequest}
 use Rattle.journal_book.specs.Entries.{Deed, Sends, Hears, Passes}
-use Rattle.history_laws.specs.Readings.{Noted, Note, Begins, First, Says, before}
-use Rattle.history_laws.specs.Progress.{Reply, Ending, NotUnderstood, Reset, TimedOut, progress, ended_by}
+use Rattle.resp_cache.specs.Stored.{Stored}
+use Rattle.history_laws.specs.Responses.{confirms}
+use Rattle.history_laws.specs.Readings.{Noted, Note, Begins, Renews, First, Says, before}
+use Rattle.history_laws.specs.Progress.{Reply, Ending, Renewed, NotUnderstood, Reset, TimedOut, progress, ended_by}
 use Rattle.history_laws.specs.Transmissions.{transmission, given_up}
 
 -- when it was opened, and for what
@@ -21,6 +23,7 @@ pub record Begun : Type 0 where
 
 abbrev pub opens_by : Note → Option CoapRequest
 opens_by (Begins q) = Some q
+opens_by (Renews q s) = Some q
 opens_by _ = None
 
 abbrev pub begun_by : Option CoapRequest → Bool → ℕ → Option Begun → Option Begun
@@ -31,6 +34,15 @@ abbrev pub begun : List Noted → ℕ → Option Begun
 begun [] o = None
 begun (x ∷ older) o =
     begun_by (opens_by x.note) (length older == o) x.written.moment (begun older o)
+
+-- what it keeps from its opening on
+abbrev pub kept_by : Note → Option Stored
+kept_by (Renews q s) = Some s
+kept_by _ = None
+
+abbrev pub kept : List Noted → ℕ → Option Stored
+kept [] o = None
+kept (x ∷ older) o = if length older == o then kept_by x.note else kept older o
 
 -- the openings, in order
 abbrev pub opened_by : ℕ → Option CoapRequest → List ℕ → List ℕ
@@ -117,13 +129,21 @@ abbrev pub replied_end : Option Begun → Bool → List Reply → Option Ending
 replied_end None place rs = Some NotUnderstood
 replied_end (Some b) place rs = ended_by place (progress b.request rs)
 
+-- By the first reply it ends so, where that says that what it keeps is valid still, and else as
+-- said here.
+abbrev pub unless_renewed : Option Stored → List Reply → Reply → Option Ending → Option Ending
+unless_renewed (Some s) [] r other =
+    if confirms s.response.etag r.message then Some (Renewed s r) else other
+unless_renewed old rs r other = other
+
 -- how it ends by this turn of the entry with this number, if it does
-abbrev pub end_here : Option Begun → ℕ → List Reply → Turn → Option Ending
-end_here b n rs (Replied i m place) =
-    replied_end b place (rs ++ record { number = n; sending = i; message = m } ∷ [])
-end_here b n rs Rejected = Some Reset
-end_here b n rs Expired = Some TimedOut
-end_here b n rs _ = None
+abbrev pub end_here : Option Begun → Option Stored → ℕ → List Reply → Turn → Option Ending
+end_here b old n rs (Replied i m place) =
+    unless_renewed old rs (record { number = n; sending = i; message = m })
+    (replied_end b place (rs ++ record { number = n; sending = i; message = m } ∷ []))
+end_here b old n rs Rejected = Some Reset
+end_here b old n rs Expired = Some TimedOut
+end_here b old n rs _ = None
 
 abbrev pub or_else : Option End → End → Option End
 or_else (Some e) other = Some e
@@ -136,7 +156,8 @@ end_by (Some how) n old = or_else old (record { number = n; how = how })
 abbrev pub end_of : List Noted → ℕ → Option End
 end_of [] o = None
 end_of (x ∷ older) o =
-    end_by (end_here (begun older o) (length older) (replies older o) (turn older o x))
+    end_by
+    (end_here (begun older o) (kept older o) (length older) (replies older o) (turn older o x))
     (length older) (end_of older o)
 
 abbrev pub is_going : List Noted → ℕ → Bool

@@ -6,7 +6,7 @@ use Rattle.limits.specs.declared.TheConstants.{ACK_TIMEOUT, LONGEST_ACK_TIMEOUT,
 use Rattle.coap_codec.specs.Spelling.{Content, Spells}
 use Rattle.uri_map.specs.declared.peer.Peer.{Peer}
 use Rattle.coap_codec.specs.declared.block.Block.{Block}
-use Rattle.ask_model.specs.Requests.{CoapRequest, Sense, Requests, Refuses, asking}
+use Rattle.ask_model.specs.Requests.{CoapRequest, Sense, Requests, Refuses, Manner, asking}
 use Rattle.ask_model.specs.Sharing.{asks_same, is_get}
 use Rattle.ask_model.specs.Views.{Ask}
 use Rattle.resp_cache.specs.Stored.{Stored, is_fresh}
@@ -16,15 +16,15 @@ use Rattle.journal_book.specs.Entries.{Grounds, Live, Kept, Fault, Mark, Ground,
 use Rattle.history_laws.specs.Responses.{Response}
 use Rattle.history_laws.specs.Confirmations.{empty, Confirmation}
 use Rattle.history_laws.specs.Causes.{IsRefusal}
-use Rattle.history_laws.specs.Readings.{Noted, Note, Plain, Begins, Joins, Serves, First, Copies, Confirms, Says, Repeats, Garbled, Bygone, Recalls, noted, are_copies, entries, at, newest, ticked}
+use Rattle.history_laws.specs.Readings.{Noted, Note, Plain, Begins, Renews, Joins, Serves, First, Copies, Confirms, Says, Repeats, Garbled, Bygone, Recalls, noted, are_copies, entries, at, newest, ticked}
 use Rattle.history_laws.specs.Connections.{is_open, asks_of, answers_of, is_sealed, opened, has_opened}
-use Rattle.history_laws.specs.Progress.{Reply, numbers, Ending, Whole, NotUnderstood, Reset, TimedOut, Turned, progress, next_message}
+use Rattle.history_laws.specs.Progress.{Reply, numbers, Ending, Whole, Renewed, NotUnderstood, Reset, TimedOut, Turned, progress, next_message}
 use Rattle.history_laws.specs.Transmissions.{FirstSending, firsts, sent_last, bears_token, bears_mid, Transmission, transmission, due, outstanding}
 use Rattle.history_laws.specs.Exchanges.{Begun, begun, is_late, waits_for, replies, end_of, is_going, open_exchanges, waiting}
 use Rattle.history_laws.specs.Joining.{joins}
-use Rattle.history_laws.specs.Observing.{Watch, idles, watches, observes}
+use Rattle.history_laws.specs.Observing.{Watch, idles, watches, manner, would_observe}
 use Rattle.history_laws.specs.Carrying.{carried, replied_by}
-use Rattle.history_laws.specs.Storing.{IsStored, MissesAlone}
+use Rattle.history_laws.specs.Storing.{IsStored, MissesAlone, pieces_of, renewed_list}
 use Rattle.history_laws.specs.Hearing.{IsReplyKind, is_such, knows, repeated, can_be_remembered, answers, notice_of, has_room}
 use Rattle.history_laws.specs.Confirming.{owed}
 use Rattle.history_laws.specs.Sealing.{MaySeal}
@@ -43,6 +43,7 @@ Ends l o e how = end_of l o ≡ Some (record { number = e; how = how })
 -- which exchange an ask reads: the one that it opened, or that it joined
 abbrev pub reads_by : ℕ → Note → Option ℕ
 reads_by k (Begins q) = Some k
+reads_by k (Renews q s) = Some k
 reads_by k (Joins o) = Some o
 reads_by k _ = None
 
@@ -92,20 +93,27 @@ Caused l t k cause n = IsRefusal cause × (n ≡ k) × IsRefused l k cause
 
 -- what the answer, at this moment, to an ask rests on
 abbrev pub HasGrounds : List Noted → ℕ → ℕ → Grounds → Type 0
+-- The exchange that it reads ended with a whole response, or what that keeps was renewed.
 HasGrounds l t k (Live js) =
-    (o : ℕ) × (e : ℕ) × (w : Response) × (rs : List Reply)
-    × (reads l k ≡ Some o) × Ends l o e (Whole w rs) × (js ≡ numbers rs)
+    ((o : ℕ) × (e : ℕ) × (w : Response) × (rs : List Reply)
+    × (reads l k ≡ Some o) × Ends l o e (Whole w rs) × (js ≡ numbers rs))
+    ⊎ ((o : ℕ) × (e : ℕ) × (s : Stored) × (r : Reply)
+    × (reads l k ≡ Some o) × Ends l o e (Renewed s r) × (js ≡ renewed_list s r.number))
 -- In this moment the ask was given what is stored.
 HasGrounds l t k (Kept js) = (c : ℕ) × (a : Ask) × (at l k ≡ Some (noted t (Asks c a) (Serves js)))
 HasGrounds l t k (Fault cause n) = Caused l t k cause n
 
 -- A GET is served a stored response while it is fresh, or joins the exchange of an equal one.
--- Whatever else asks for something opens an exchange, but where there is no room.
+-- Whatever else asks for something opens an exchange, but where there is no room. One that asks
+-- whether a stored response is valid still needs one with an ETag, which isn't fresh.
 abbrev pub AskNote : List Noted → ℕ → Sense → Note → Type 0
 AskNote l t (Requests q) (Serves js) = (s : Stored) × IsStored l q s × (is_fresh t s ≡ true)
     × (s.list ≡ js)
 AskNote l t (Requests q) (Joins o) = joins l q ≡ Some o
 AskNote l t (Requests q) (Begins r) = (r ≡ q) × (joins l q ≡ None) × (has_room l t q ≡ true)
+AskNote l t (Requests q) (Renews r kept) = (r ≡ q) × (joins l q ≡ None) × (has_room l t q ≡ true)
+    × (is_get q ≡ true) × (s : Stored) × IsStored l q s × (kept ≡ pieces_of l s)
+    × (is_fresh t kept ≡ false) × (is_some kept.response.etag ≡ true)
 AskNote l t (Requests q) Plain = (joins l q ≡ None) × (has_room l t q ≡ false)
 AskNote l t (Refuses cause status) Plain = ⊤
 AskNote l t _ _ = ⊥
@@ -115,6 +123,12 @@ abbrev pub UnservedNote : List Noted → ℕ → Sense → Note → Type 0
 UnservedNote l t (Requests q) (Serves js) = ⊤
 UnservedNote l t (Requests q) note = MissesAlone l t q
 UnservedNote l t (Refuses cause status) note = ⊤
+
+-- Nor does one that would observe ask whether something is valid still.
+abbrev pub MissNote : List Noted → ℕ → Ask → Note → Type 0
+MissNote l t a (Renews q s) =
+    UnservedNote l t a.sense (Renews q s) × (would_observe l a q ≡ false)
+MissNote l t a note = UnservedNote l t a.sense note
 
 -- What a first sending owes: it is the next message of an exchange whose turn it is at its peer,
 -- under a token and an ID of its own.
@@ -128,7 +142,7 @@ pub record MayBeFirst
   pub first : waiting l p ≡ o ∷ others
   pub free : outstanding l p ≡ None
   pub peer : p ≡ request.peer
-  pub message : next_message (observes l o) request (progress request (replies l o)) m.mid m.token
+  pub message : next_message (manner l o) request (progress request (replies l o)) m.mid m.token
       ≡ Some m
   pub spelled : Spells m bytes
   pub token_size : length m.token ≡ 8
@@ -265,9 +279,9 @@ pub record IsSentForCopied (l : List Noted) (o : ℕ) (p : Peer) (m : Content) :
   pub exchange : Begun
   pub asked : carried l o ≡ Some exchange
   pub peer : p ≡ exchange.request.peer
-  pub observes : Bool
+  pub manner : Manner
   pub block : Option Block
-  pub asks : m ≡ asking observes exchange.request block m.mid m.token
+  pub asks : m ≡ asking manner exchange.request block m.mid m.token
 
 -- What a copy of a reply owes: the message to which it came is copied too, and was sent for such an
 -- ask.
@@ -317,7 +331,7 @@ abbrev pub Follows : List Noted → ℕ → Deed → Note → Type 0
 Follows l t (Opens c) note = MayCome l × IsNextConn (has_opened l) (opened l) c × IsPlain note
 Follows l t (Asks c a) note =
     MayCome l × (is_open l c ≡ true) × (length (asks_of l c) ≡ length (answers_of l c))
-    × AskNote l t a.sense note × UnservedNote l t a.sense note
+    × AskNote l t a.sense note × MissNote l t a note
 Follows l t (Sends p bytes w) note = (is_sealed l ≡ false) × SentNote l t p bytes w note
 -- It comes from a peer that something was sent to.
 Follows l t (Hears p bytes) note =

@@ -1,5 +1,5 @@
 -- What holds of every legal reading of a history.
-use Rattle.std.specs.Prelude.{◌≡◌, ◌≢◌, ◌↔◌, ◌⊎◌, ℕ, ◌+◌, ◌<◌, ◌≤◌, Bool, true, false, List, [], ◌∷◌, length, take, Option, Some, None, is_some, ⊤}
+use Rattle.std.specs.Prelude.{◌≡◌, ◌≢◌, ◌↔◌, ◌⊎◌, ℕ, ◌+◌, ◌<◌, ◌≤◌, true, false, List, [], ◌∷◌, length, take, Option, Some, None, is_some, ⊤}
 use Rattle.std.specs.List.{Contains}
 use Rattle.limits.specs.declared.TheConstants.{MAX_RETRANSMIT, MESSAGE_ID_LIFETIME}
 use Rattle.coap_codec.specs.declared.message.MsgType.{MsgType}
@@ -9,26 +9,24 @@ use Rattle.coap_codec.specs.declared.block.Block.{Block}
 use Rattle.uri_map.specs.declared.peer.Peer.{Peer}
 use Rattle.ask_model.specs.declared.cause.Cause.{Cause}
 use Rattle.ask_model.specs.declared.cause.Cause.TheVariants as C
-use Rattle.ask_model.specs.Requests.{CoapRequest, Sense, Requests, Refuses, asking, block_message, carried_by, observe_message}
+use Rattle.ask_model.specs.Requests.{CoapRequest, Sense, Requests, Refuses, Manner, asking, block_message, carried_by, observe_message}
 use Rattle.ask_model.specs.Sharing.{asked_key, asked_place, asks_same}
 use Rattle.ask_model.specs.Observing.{may_observe}
 use Rattle.ask_model.specs.Views.{Ask}
 use Rattle.resp_cache.specs.Stored.{Stored, is_fresh}
-use Rattle.journal_book.specs.Entries.{Grounds, Live, Kept, Fault, Ground, Deed, Asks, Sends, Hears, Passes, Answers, Shuts, Carries}
-use Rattle.journal_book.specs.Entries as D
+use Rattle.journal_book.specs.Entries.{Grounds, Kept, Fault, Deed, Asks, Sends, Hears, Passes, Answers, Shuts}
 use Rattle.history_laws.specs.Confirmations.{empty}
-use Rattle.history_laws.specs.Readings.{Noted, Note, Begins, First, Copies, Says, Recalls, Answered, Notice, noted, at, before, ticked}
+use Rattle.history_laws.specs.Readings.{Noted, Note, Begins, First, Copies, Says, Notice, noted, at, before, ticked}
 use Rattle.history_laws.specs.Responses.{Response}
 use Rattle.history_laws.specs.Connections.{is_open, asks_of, answers_of, is_sealed}
 use Rattle.blockwise.specs.Reading.{offset_in}
 use Rattle.blockwise.specs.Uploads.{next_block}
 use Rattle.history_laws.specs.Progress.{Reply, Ending, Whole, Progress, Gives, progress, next_message, Point, first_point, block_for, point_after}
 use Rattle.history_laws.specs.Transmissions.{FirstSending, firsts, Transmission, transmission, due, outstanding}
-use Rattle.history_laws.specs.Exchanges.{Begun, begun, turn, waits_for, replies, end_here, end_of, open_exchanges}
+use Rattle.history_laws.specs.Exchanges.{Begun, begun, kept, turn, waits_for, replies, end_here, end_of, open_exchanges}
 use Rattle.history_laws.specs.Joining.{outrun, is_joinable, joins}
-use Rattle.history_laws.specs.Observing.{Watch, most_watches, observes, watches}
-use Rattle.history_laws.specs.Carrying.{carried, carried_replies}
-use Rattle.history_laws.specs.Storing.{IsBrought, IsCarried, IsStored, MissesAlone}
+use Rattle.history_laws.specs.Observing.{Watch, most_watches, manner, watches}
+use Rattle.history_laws.specs.Storing.{IsStored, MissesAlone}
 use Rattle.history_laws.specs.Hearing.{IsReplyKind, repeated, has_room}
 use Rattle.history_laws.specs.Justified.{IsAsk, Ends, reads, Legal, AtRest}
 
@@ -126,7 +124,8 @@ abbrev pub EndsFirst : Type 0
 EndsFirst =
     (l : List Noted) (o e : ℕ) (how : Ending) → Ends l o e how
     → (x : Noted) × (at l e ≡ Some x) × (end_of (before l e) o ≡ None)
-    × (end_here (begun (before l e) o) e (replies (before l e) o) (turn (before l e) o x)
+    × (end_here (begun (before l e) o) (kept (before l e) o) e (replies (before l e) o)
+    (turn (before l e) o x)
     ≡ Some how)
 
 -- After an exchange's end nothing goes out for it but copies: its first sending stands before that.
@@ -164,7 +163,7 @@ SendsNext =
     (l : List Noted) (t o i : ℕ) (p : Peer) (m : Content) (b : Begun) → Legal l
     → IsFirst l t o i p m
     → begun l o ≡ Some b
-    → next_message (observes (before l i) o) b.request
+    → next_message (manner (before l i) o) b.request
     (progress b.request (replies (before l i) o)) m.mid m.token ≡ Some m
 
 -- The reply came to a message for this block: one of its representation, or of its body.
@@ -174,8 +173,8 @@ pub record IsFetched (l : List Noted) (o : ℕ) (q : CoapRequest) (block : Optio
   pub moment : ℕ
   pub mid : ℕ
   pub token : List ℕ
-  pub observes : Bool
-  pub first : IsFirst l moment o r.sending q.peer (asking observes q block mid token)
+  pub manner : Manner
+  pub first : IsFirst l moment o r.sending q.peer (asking manner q block mid token)
 
 -- So did each of these, to one for the block after those before.
 abbrev pub AreFetched : List Noted → ℕ → CoapRequest → Point → List Reply → Type 0
@@ -229,147 +228,6 @@ WritesInOrder =
 abbrev pub ReadsOpened : Type 0
 ReadsOpened = (l : List Noted) (k o : ℕ) → Legal l → reads l k ≡ Some o → (o ≤ k)
     × (is_some (begun l o) ≡ true)
-
--- The entry with this number is a reply to the exchange that the ask reads, and came to a message
--- that asks just what the ask means, sent after that was opened.
-pub record RestsOn (l : List Noted) (k j : ℕ) : Type 0 where
-  pub conn : ℕ
-  pub ask : Ask
-  pub request : CoapRequest
-  pub asked : IsAsk l k conn ask
-  pub sense : ask.sense ≡ Requests request
-  pub opening : ℕ
-  pub reads : reads l k ≡ Some opening
-  pub not_later : opening ≤ k
-  pub reply : Reply
-  pub number : reply.number ≡ j
-  pub fits : IsReplyTo l opening reply
-  pub after : opening < reply.sending
-  pub moment : ℕ
-  pub mid : ℕ
-  pub token : List ℕ
-  pub block : Option Block
-  pub observes : Bool
-  pub first : IsFirst l moment opening reply.sending request.peer
-      (asking observes request block mid token)
-
--- An answer rests on replies to the exchange that its ask reads alone.
-abbrev pub RestsOnItsOwn : Type 0
-RestsOnItsOwn =
-    (l : List Noted) (n c k j : ℕ) (js : List ℕ) → Legal l → IsAnswer l n c k (Live js)
-    → Contains js j → RestsOn l k j
-
--- What was stored before the ask for a request equal to it, fresh at its moment, has this reply,
--- which came to a message that asks just what the ask means, sent after the exchange for that was
--- opened.
-pub record RestsOnStored (l : List Noted) (k j : ℕ) : Type 0 where
-  pub conn : ℕ
-  pub ask : Ask
-  pub request : CoapRequest
-  pub asked : IsAsk l k conn ask
-  pub sense : ask.sense ≡ Requests request
-  pub stored : Stored
-  pub is : IsBrought (before l k) request stored
-  pub fresh : is_fresh asked.moment stored ≡ true
-  pub listed : Contains stored.list j
-  pub reply : Reply
-  pub number : reply.number ≡ j
-  pub earlier : j < k
-  pub fits : IsReplyTo l is.opening reply
-  pub after : is.opening < reply.sending
-  pub moment : ℕ
-  pub mid : ℕ
-  pub token : List ℕ
-  pub block : Option Block
-  pub observes : Bool
-  pub first : IsFirst l moment is.opening reply.sending request.peer
-      (asking observes request block mid token)
-
--- The reply is a copy of one to a message of which a copy stands before it: to one that asked for
--- this, or for a block of it, under its token. It was sent for the ask that the entry o copies.
-pub record IsCarriedReply (l : List Noted) (o : ℕ) (q : CoapRequest) (r : Reply) : Type 0 where
-  pub observes : Bool
-  pub block : Option Block
-  pub mid : ℕ
-  pub sent_at : ℕ
-  pub old : ℕ
-  pub text : List ℕ
-  pub timeout : Option ℕ
-  pub sent : at l r.sending
-      ≡ Some (noted sent_at (Carries old Ground (D.Sent q.peer text timeout))
-      (First o (asking observes q block mid r.message.token)))
-  pub asks : Spells (asking observes q block mid r.message.token) text
-  pub opened : o < r.sending
-  pub moment : ℕ
-  pub number : ℕ
-  pub bytes : List ℕ
-  pub answer : Answered
-  pub heard : at l r.number
-      ≡ Some (noted moment (Carries number Ground (D.Heard q.peer bytes))
-      (Recalls r.message answer))
-  pub spelled : Spells r.message bytes
-  pub after : r.sending < r.number
-  pub response : 32 ≤ r.message.code
-  pub kind : IsReplyKind r.message.kind r.message.mid mid
-
-abbrev pub CarriedRepliesFit : Type 0
-CarriedRepliesFit =
-    (l : List Noted) (o : ℕ) (b : Begun) (r : Reply) → Legal l → carried l o ≡ Some b
-    → Contains (carried_replies l o) r → IsCarriedReply l o b.request r
-
--- What the journal began with, and was stored before the ask for a request equal to it, fresh at
--- its moment, has this reply, which came to a message that asks just what the ask means.
-pub record RestsOnCarried (l : List Noted) (k j : ℕ) : Type 0 where
-  pub conn : ℕ
-  pub ask : Ask
-  pub request : CoapRequest
-  pub asked : IsAsk l k conn ask
-  pub sense : ask.sense ≡ Requests request
-  pub stored : Stored
-  pub is : IsCarried (before l k) request stored
-  pub fresh : is_fresh asked.moment stored ≡ true
-  pub listed : Contains stored.list j
-  pub reply : Reply
-  pub number : reply.number ≡ j
-  pub earlier : j < k
-  pub fits : IsCarriedReply l is.opening is.carries.exchange.request reply
-
--- An answer from the store rests on a response that is stored for what its ask means, and is given
--- in the moment of the ask.
-abbrev pub RestsOnTheStore : Type 0
-RestsOnTheStore =
-    (l : List Noted) (n t c k j : ℕ) (note : Note) (js : List ℕ) → Legal l
-    → at l n ≡ Some (noted t (Answers c k (Kept js)) note)
-    → Contains js j
-    → ((r : RestsOnStored l k j) × (r.asked.moment ≡ t) × (r.stored.list ≡ js))
-    ⊎ ((r : RestsOnCarried l k j) × (r.asked.moment ≡ t) × (r.stored.list ≡ js))
-
--- The exchange of a request that isn't a GET ended at this entry: what was read of the resource
--- before may be out of date from here on.
-pub record IsWriteEnd (l : List Noted) (p : Peer) (path : List (List ℕ)) (e : ℕ) : Type 0 where
-  pub opening : ℕ
-  pub write : Begun
-  pub opened : begun l opening ≡ Some write
-  pub changes : write.request.method ≢ 1
-  pub place : (write.request.peer ≡ p) × (write.request.target.path ≡ path)
-  pub how : Ending
-  pub ended : Ends l opening e how
-
--- the replies that an answer rests on
-abbrev pub replies_in : Grounds → List ℕ
-replies_in (Live js) = js
-replies_in (Kept js) = js
-replies_in (Fault cause n) = []
-
--- No answer to a GET, live or kept, rests on a token that was issued before the end of a write to
--- its resource, where that lies before the ask.
-abbrev pub NothingOutrun : Type 0
-NothingOutrun =
-    (l : List Noted) (n c k j e : ℕ) (g : Grounds) (a : Ask) (q : CoapRequest) → Legal l
-    → IsAnswer l n c k g → Contains (replies_in g) j
-    → IsAsk l k c a → a.sense ≡ Requests q → q.method ≡ 1 → IsWriteEnd l q.peer q.target.path e
-    → e < k
-    → (o : ℕ) × (r : Reply) × IsReplyTo l o r × (r.number ≡ j) × (e < r.sending)
 
 -- Of the open exchanges, a GET may join one at most.
 abbrev pub OneJoinable : Type 0
@@ -470,8 +328,8 @@ pub record IsAskSent (l : List Noted) (i : ℕ) (p : Peer) (bytes : List ℕ) : 
   pub sense : asked.sense ≡ Requests request
   pub peer : p ≡ request.peer
   pub block : Option Block
-  pub observes : Bool
-  pub carries : message ≡ asking observes request block message.mid message.token
+  pub manner : Manner
+  pub carries : message ≡ asking manner request block message.mid message.token
   pub spelled : Spells message bytes
 
 -- These bytes are an empty ACK or RST to the peer of the datagram that was heard just before.

@@ -16,6 +16,7 @@ pub mod Confirming
 pub mod Sealing
 pub mod Justified
 pub mod Laws
+pub mod Grounds
 pub mod Worked
 pub mod WorkedMessages
 pub mod WorkedReaders
@@ -24,6 +25,7 @@ pub mod WorkedLate
 pub mod WorkedSpoiled
 pub mod WorkedCopies
 pub mod WorkedStore
+pub mod WorkedRenewed
 pub mod WorkedCarried
 pub mod WorkedPieces
 pub mod WorkedUploads

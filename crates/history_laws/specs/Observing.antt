@@ -7,19 +7,22 @@ use Rattle.coap_codec.specs.Spelling.{Content}
 use Rattle.coap_codec.specs.Recognition.{value_of}
 use Rattle.coap_codec.specs.Values.{uint}
 use Rattle.cache_key.specs.Keys.{CacheKey}
-use Rattle.ask_model.specs.Requests.{CoapRequest, Sense, Requests, Refuses}
+use Rattle.ask_model.specs.Requests.{CoapRequest, Sense, Requests, Refuses, Manner, Validating, observing_if}
 use Rattle.ask_model.specs.Sharing.{asked_key, is_get}
 use Rattle.ask_model.specs.Observing.{may_observe}
+use Rattle.ask_model.specs.Requests as Q
+use Rattle.ask_model.specs.Views.{Ask}
+use Rattle.resp_cache.specs.Stored.{Stored}
 use Rattle.journal_book.specs.Entries.{Deed, Asks, Hears, Passes}
 use Rattle.blockwise.specs.Downloads.{no_pieces}
 use Rattle.observe_share.specs.declared.registration.Registration.{Registration}
 use Rattle.observe_share.specs.declared.notice.Notice as Shared
 use Rattle.observe_share.specs.declared.notice.Notice.TheVariants.{Update, Other}
 use Rattle.observe_share.specs.Watches.{is_of, is_idle, heard_by, first_changed, without}
-use Rattle.history_laws.specs.Readings.{Noted, Note, Begins, Joins, Says, Observation, Unobserved, Registers, Updates, Outdates, Cancels, at, before}
+use Rattle.history_laws.specs.Readings.{Noted, Note, Begins, Renews, Joins, Says, Observation, Unobserved, Registers, Updates, Outdates, Cancels, at, before}
 use Rattle.history_laws.specs.Progress.{Reply, Whole, Progress, Fetches, Ends, step}
 use Rattle.history_laws.specs.Transmissions.{FirstSending, first_at}
-use Rattle.history_laws.specs.Exchanges.{Begun, begun, replies}
+use Rattle.history_laws.specs.Exchanges.{Begun, begun, kept, replies}
 use Rattle.history_laws.specs.Joining.{outrun}
 
 -- The number by which notifications are ordered: an Observe option (RFC 7641 section 3.4).
@@ -70,12 +73,14 @@ asked_again q t w = if is_for q w then (record w { held = record w.held { asked 
 
 abbrev pub asked_by : ℕ → Sense → Note → List Watch → List Watch
 asked_by t (Requests q) (Begins r) ws = without (is_for q) ws
+asked_by t (Requests q) (Renews r s) ws = without (is_for q) ws
 asked_by t (Requests q) note ws = map (asked_again q t) ws
 asked_by t (Refuses cause status) note ws = ws
 
 -- when an ask last read the exchange
 abbrev pub asked_last_by : ℕ → ℕ → ℕ → Note → ℕ → ℕ
 asked_last_by o n t (Begins q) old = if n == o then t else old
+asked_last_by o n t (Renews q s) old = if n == o then t else old
 asked_last_by o n t (Joins p) old = if p == o then t else old
 asked_last_by o n t note old = old
 
@@ -146,9 +151,12 @@ watches (x ∷ older) =
 
 -- The first message of an exchange asks to observe where its server may be observed, and fewer
 -- other resources are than may be (RFC 7641 section 3.1).
-abbrev pub wants_by : List Noted → Deed → Note → Bool
-wants_by l (Asks c a) (Begins q) =
+abbrev pub would_observe : List Noted → Ask → CoapRequest → Bool
+would_observe l a q =
     may_observe a.rules q && nat_lt (length (without (is_for q) (watches l))) most_watches
+
+abbrev pub wants_by : List Noted → Deed → Note → Bool
+wants_by l (Asks c a) (Begins q) = would_observe l a q
 wants_by l deed note = false
 
 abbrev pub wants_in : List Noted → Option Noted → Bool
@@ -161,6 +169,21 @@ unless_replied wants (r ∷ rs) = false
 
 abbrev pub observes : List Noted → ℕ → Bool
 observes l o = unless_replied (wants_in (before l o) (at l o)) (replies l o)
+
+-- One that keeps something asks by its ETag, in its first message, whether it is valid still (RFC
+-- 7252 section 5.10.6.2).
+abbrev pub tag_of : Option Stored → List Reply → Option (List ℕ)
+tag_of (Some s) [] = s.response.etag
+tag_of old rs = None
+
+abbrev pub manner_by : Option (List ℕ) → Bool → Manner
+manner_by None observes = observing_if observes
+manner_by (Some tag) true = Q.Observing
+manner_by (Some tag) false = Validating tag
+
+-- the manner of its next message
+abbrev pub manner : List Noted → ℕ → Manner
+manner l o = manner_by (tag_of (kept l o) (replies l o)) (observes l o)
 
 -- the first sendings under whose tokens notifications come
 abbrev pub sending_of : Watch → ℕ

@@ -3,7 +3,7 @@ use Rattle.std.specs.Prelude.{ℕ, ◌+◌, ◌/◌, Bool, true, false, List, []
 use Rattle.coap_codec.specs.Spelling.{Content}
 use Rattle.coap_codec.specs.Recognition.{is_forwardable}
 use Rattle.coap_codec.specs.declared.block.Block.{Block}
-use Rattle.ask_model.specs.Requests.{CoapRequest, asking, block_message}
+use Rattle.ask_model.specs.Requests.{CoapRequest, Manner, asking, block_message}
 use Rattle.blockwise.specs.Reading.{size_of}
 use Rattle.blockwise.specs.Downloads.{PiecesValue, no_pieces, Judged, judged, with_piece}
 use Rattle.blockwise.specs.Uploads.{UploadValue, begun, answer_to, next_block, next_of}
@@ -13,6 +13,7 @@ use Rattle.blockwise.specs.declared.fault.BlockFault.TheVariants.{Changed}
 use Rattle.blockwise.specs.declared.pieces.Step.TheVariants.{Next, Last}
 use Rattle.blockwise.specs.declared.upload.Answered.{Answered}
 use Rattle.blockwise.specs.declared.upload.Answered.TheVariants as A
+use Rattle.resp_cache.specs.Stored.{Stored}
 use Rattle.history_laws.specs.Responses.{Response, response_of, joined, is_tellable}
 
 -- a reply to an exchange: the entry heard, the first sending that it replies to, the message
@@ -31,6 +32,8 @@ messages rs = map (λ (r : Reply). r.message) rs
 pub data Ending : Type 0 where
   -- these of its replies are a whole response
   Whole : (response : Response) → (replies : List Reply) → Ending
+  -- what it keeps is valid still, as this reply says
+  Renewed : (kept : Stored) → (reply : Reply) → Ending
   -- the last reply is none that the exchange can go on with
   NotUnderstood : Ending
   -- its latest message was rejected by a Reset message
@@ -114,13 +117,13 @@ block_at p first = record { num = p.len / size_of p.szx; more = false; szx = p.s
 abbrev pub block_after : PiecesValue → Option Block
 block_after p = option_map (block_at p) p.of
 
--- the next message, with this ID and token, where there is one: a GET may ask to observe
-abbrev pub next_message : Bool → CoapRequest → Progress → ℕ → List ℕ → Option Content
-next_message observes q (Fetches restarts pieces got) mid token =
-    Some (asking observes q (block_after pieces) mid token)
-next_message observes q (Gives upload got) mid token =
+-- the next message, with this ID and token, where there is one: a GET is asked in this manner
+abbrev pub next_message : Manner → CoapRequest → Progress → ℕ → List ℕ → Option Content
+next_message manner q (Fetches restarts pieces got) mid token =
+    Some (asking manner q (block_after pieces) mid token)
+next_message manner q (Gives upload got) mid token =
     Some (block_message q (next_block upload) mid token)
-next_message observes q (Ends how) mid token = None
+next_message manner q (Ends how) mid token = None
 
 -- what is known of the pieces so far: of those of a representation, which come, or of a body, which
 -- go

@@ -4,6 +4,7 @@ use Rattle.coap_codec.specs.Spelling.{Content}
 use Rattle.ask_model.specs.Requests.{CoapRequest}
 use Rattle.std.specs.List.{list_all}
 use Rattle.journal_book.specs.Entries.{Written, Deed, Passes, Carries}
+use Rattle.resp_cache.specs.Stored.{Stored}
 
 -- what a response is to the observation of its resource (RFC 7641)
 pub data Observation : Type 0 where
@@ -39,6 +40,8 @@ pub data Note : Type 0 where
   Plain : Note
   -- it opens an exchange, for this request
   Begins : (request : CoapRequest) → Note
+  -- it opens one too, which asks whether what is kept of an equal request is valid still
+  Renews : (request : CoapRequest) → (kept : Stored) → Note
   -- it reads the exchange that the entry with this number opened
   Joins : (opening : ℕ) → Note
   -- it is served from a stored response, which was heard in the entries with these numbers

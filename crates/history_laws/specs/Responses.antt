@@ -1,6 +1,7 @@
 -- When the replies to an exchange are a whole response, and which.
-use Rattle.std.specs.Prelude.{Bool, ◌&&◌, List, [], ◌∷◌, length, Option, Some, None, option_map, is_some, ◌==◌, if◌then◌else◌}
+use Rattle.std.specs.Prelude.{ℕ, Bool, false, ◌&&◌, List, [], ◌∷◌, length, Option, Some, None, option_map, is_some, ◌==◌, if◌then◌else◌}
 use Rattle.std.specs.List.{list_all}
+use Rattle.std.specs.Str.{bytes_eq}
 use Rattle.coap_codec.specs.Spelling.{Content}
 use Rattle.coap_codec.specs.Recognition.{is_final, is_forwardable, value_of, values_of}
 use Rattle.coap_codec.specs.Values.{uint}
@@ -26,6 +27,34 @@ response_of m =
       max_age = option_map uint (value_of 14 m);
       location = record { path = values_of 8 m; query = values_of 20 m };
       body = m.payload;
+    }
+
+-- 2.03 Valid
+abbrev pub valid : ℕ
+valid = 67
+
+abbrev pub has_tag : List ℕ → Option (List ℕ) → Bool
+has_tag tag None = false
+has_tag tag (Some other) = bytes_eq other tag
+
+-- It says that what has this ETag is valid still: it is a 2.03 with that ETag (RFC 7252 section
+-- 5.9.1.3).
+abbrev pub confirms : Option (List ℕ) → Content → Bool
+confirms None m = false
+confirms (Some tag) m =
+    is_forwardable m.options && ((m.code == valid) && has_tag tag (value_of 4 m))
+
+-- By that the response is renewed: its Max-Age is that of the 2.03, and so is its format where the
+-- 2.03 has one.
+abbrev pub first_some : Option ℕ → Option ℕ → Option ℕ
+first_some None other = other
+first_some (Some n) other = Some n
+
+abbrev pub renewed_response : Response → Content → Response
+renewed_response w m =
+    record w {
+      format = first_some (option_map uint (value_of 12 m)) w.format;
+      max_age = option_map uint (value_of 14 m);
     }
 
 -- What pieces of a representation say together: the last one, with the Max-Age of the first, since

@@ -1,8 +1,8 @@
 -- Which response a store has for a GET (RFC 7252 section 5.6): the latest whole 2.05 to an equal
 -- one, or in a notification of what that reads, to whose place no write has ended since that was
 -- asked for, and after which no notification came that counts (RFC 7641 section 3.4); or one that
--- the journal begins with.
-use Rattle.std.specs.Prelude.{◌≡◌, ◌≢◌, ◌⊎◌, ℕ, ◌<◌, ◌≤◌, Bool, true, false, ◌==◌, List, [], ◌∷◌, length, Some, ⊤}
+-- the journal begins with; or either of these as a 2.03 has renewed it.
+use Rattle.std.specs.Prelude.{◌≡◌, ◌≢◌, ◌⊎◌, ℕ, ◌<◌, ◌≤◌, Bool, true, false, not, ◌==◌, List, [], ◌∷◌, ◌++◌, length, filter, Option, Some, None, ⊤}
 use Rattle.std.specs.List.{AllByRecursion}
 use Rattle.limits.specs.declared.TheConstants.{MAX_STORED}
 use Rattle.cache_key.specs.Keys.{CacheKey}
@@ -13,11 +13,11 @@ use Rattle.coap_codec.specs.Spelling.{Content}
 use Rattle.uri_map.specs.declared.peer.Peer.{Peer}
 use Rattle.journal_book.specs.Entries.{Asks, Hears}
 use Rattle.resp_cache.specs.Stored.{Stored, lifetime, is_fresh}
-use Rattle.history_laws.specs.Responses.{Response}
-use Rattle.history_laws.specs.Readings.{Noted, Serves, Says, Updates, noted, at, before}
-use Rattle.history_laws.specs.Progress.{Reply, numbers, Whole, Ends}
+use Rattle.history_laws.specs.Responses.{Response, valid, renewed_response}
+use Rattle.history_laws.specs.Readings.{Noted, Note, Serves, Says, Updates, noted, at, before}
+use Rattle.history_laws.specs.Progress.{Reply, numbers, Whole, Renewed, Ends}
 use Rattle.history_laws.specs.Exchanges.{begun, end_of}
-use Rattle.history_laws.specs.Joining.{outrun, is_joinable}
+use Rattle.history_laws.specs.Joining.{outrun, is_joinable, asks_the_same}
 use Rattle.history_laws.specs.Carrying.{CarriesSo}
 use Rattle.history_laws.specs.Observing.{Watch, watch_under, as_first, outdated}
 
@@ -92,8 +92,70 @@ pub record IsCarried (l : List Noted) (q : CoapRequest) (s : Stored) : Type 0 wh
   pub origin : s.opening ≡ opening
   pub list : s.list ≡ numbers (first ∷ more)
 
+abbrev pub IsAsHeard : List Noted → CoapRequest → Stored → Type 0
+IsAsHeard l q s = IsBrought l q s ⊎ IsCarried l q s
+
+-- Of what is stored an exchange keeps the entries of its pieces alone: a 2.03 that renewed it
+-- before goes.
+abbrev pub says_valid : Note → Bool
+says_valid (Says m to notice) = m.code == valid
+says_valid _ = false
+
+abbrev pub is_valid_in : Option Noted → Bool
+is_valid_in None = false
+is_valid_in (Some x) = says_valid x.note
+
+abbrev pub pieces_in : List Noted → List ℕ → List ℕ
+pieces_in l js = filter (λ (j : ℕ). not (is_valid_in (at l j))) js
+
+abbrev pub pieces_of : List Noted → Stored → Stored
+pieces_of l s = record s { list = pieces_in l s.list }
+
+-- The 2.03 that renews this is the last of the list from then on.
+abbrev pub renewed_list : Stored → ℕ → List ℕ
+renewed_list s n = s.list ++ n ∷ []
+
+abbrev pub first_in : List ℕ → ℕ
+first_in [] = 0
+first_in (j ∷ js) = j
+
+-- In this entry something was renewed for an equal GET. No write to the place has ended since the
+-- exchange was opened that it came of first, and no notification that counts came since its first
+-- reply.
+pub record IsRenewal (l : List Noted) (q : CoapRequest) (e : ℕ) : Type 0 where
+  pub opening : ℕ
+  pub kept : Stored
+  pub reply : Reply
+  pub ended : end_of l opening ≡ Some (record { number = e; how = Renewed kept reply })
+  pub same : asks_the_same q (begun l opening) ≡ true
+  pub current : outrun l (asked_place q) kept.opening ≡ false
+  pub newest : outdated l (asked_key q) (first_in kept.list) ≡ false
+
+-- So a GET may be answered with that, where nothing that may answer it came later. It counts from
+-- the 2.03.
+pub record IsRenewed (l : List Noted) (q : CoapRequest) (s : Stored) : Type 0 where
+  pub ending : ℕ
+  pub renewal : IsRenewal l q ending
+  pub latest : (o e : ℕ) (w : Response) (r : Reply) (rs : List Reply) → ComesSo l o e w (r ∷ rs)
+      → is_joinable l q o ≡ true → outdated l (asked_key q) r.number ≡ false
+      → e ≤ ending
+  pub last : (e : ℕ) → IsRenewal l q e → e ≤ ending
+  pub entry : Noted
+  pub heard_in : at l renewal.reply.number ≡ Some entry
+  pub heard : s.heard ≡ entry.written.moment
+  pub origin : s.opening ≡ renewal.kept.opening
+  pub list : s.list ≡ renewed_list renewal.kept renewal.reply.number
+  pub response : s.response
+      ≡ renewed_response renewal.kept.response renewal.reply.message
+
+-- What is stored is as it was heard, where nothing was renewed since; or it was renewed.
+abbrev pub IsUnrenewed : List Noted → CoapRequest → Stored → Type 0
+IsUnrenewed l q s =
+    ((is : IsBrought l q s) × ((e : ℕ) → IsRenewal l q e → e ≤ is.ending))
+    ⊎ (IsCarried l q s × ((e : ℕ) → IsRenewal l q e → ⊥))
+
 abbrev pub IsStored : List Noted → CoapRequest → Stored → Type 0
-IsStored l q s = IsBrought l q s ⊎ IsCarried l q s
+IsStored l q s = IsUnrenewed l q s ⊎ IsRenewed l q s
 
 -- What is stored under a key is used when it is stored, and each time when it is served.
 pub record IsServing (l : List Noted) (n : ℕ) (key : CacheKey) : Type 0 where
@@ -123,8 +185,23 @@ pub record IsStoring (l : List Noted) (n : ℕ) (key : CacheKey) : Type 0 where
   pub newest : outdated (before l n) key first.number ≡ false
   pub lasts : (lifetime response.max_age == 0) ≡ false
 
+-- So is what is renewed, on the same terms.
+pub record IsRenewing (l : List Noted) (n : ℕ) (key : CacheKey) : Type 0 where
+  pub opening : ℕ
+  pub kept : Stored
+  pub reply : Reply
+  pub ended : end_of l opening ≡ Some (record { number = n; how = Renewed kept reply })
+  pub since : ℕ
+  pub request : CoapRequest
+  pub opened : begun l opening ≡ Some (record { since = since; request = request })
+  pub get : is_get request ≡ true
+  pub is : asked_key request ≡ key
+  pub current : outrun (before l n) key.place kept.opening ≡ false
+  pub newest : outdated (before l n) key (first_in kept.list) ≡ false
+  pub lasts : (lifetime (renewed_response kept.response reply.message).max_age == 0) ≡ false
+
 abbrev pub IsUse : List Noted → ℕ → CacheKey → Type 0
-IsUse l n key = IsServing l n key ⊎ IsStoring l n key
+IsUse l n key = IsServing l n key ⊎ (IsStoring l n key ⊎ IsRenewing l n key)
 
 -- A response under the key is what the journal begins with; and none was used since.
 pub record IsCarriedUnder (l : List Noted) (key : CacheKey) : Type 0 where

@@ -16,10 +16,6 @@ ghost use Rattle.history_laws.specs.Laws.{
   SendsNext,
   NoneAfterEnd,
   RepliesFit,
-  CarriedRepliesFit,
-  RestsOnItsOwn,
-  RestsOnTheStore,
-  NothingOutrun,
   AskedOnce,
   SentAtOnce,
   AnsweredAtOnce,
@@ -29,6 +25,13 @@ ghost use Rattle.history_laws.specs.Laws.{
   ReadsOpened,
   ObservesAsked,
   ObservesFew,
+};
+ghost use Rattle.history_laws.specs.Grounds.{
+  CarriedRepliesFit,
+  RestsOnItsOwn,
+  ConfirmedAsAsked,
+  RestsOnTheStore,
+  NothingOutrun,
 };
 
 /// Tokens and message IDs keep the proxy's messages apart (RFC 7252 sections 4.4, 5.3.1): a token is
@@ -91,13 +94,19 @@ pub fn readers_join_one()
 {}
 
 /// An answer rests on replies to the exchange that its ask reads alone, or on those of a response that
-/// was stored for what it asks and is fresh (RFC 7252 section 5.6). They came to messages that ask just
+/// was stored for what it asks and is fresh, or that the exchange has renewed (RFC 7252 section 5.6). They came to messages that ask just
 /// what it means; so no answer to a GET is older than a write to its resource that had ended when it was
 /// asked.
 pub fn rests_on_its_own()
     ensures own { RestsOnItsOwn }
     ensures store { RestsOnTheStore }
     ensures outrun { NothingOutrun }
+{}
+
+/// What is stored is renewed by the reply to a message that asks for that by its ETag (RFC 7252 section
+/// 5.9.1.3).
+pub fn confirmed_as_asked()
+    ensures { ConfirmedAsAsked }
 {}
 
 /// An ask for what is stored and fresh is served that, in its own step. Each other one opens one exchange

@@ -8,6 +8,7 @@ ghost use Rattle.history_laws.specs.WorkedLate as L;
 ghost use Rattle.history_laws.specs.WorkedMessages as M;
 ghost use Rattle.history_laws.specs.WorkedPieces as P;
 ghost use Rattle.history_laws.specs.WorkedReaders as R;
+ghost use Rattle.history_laws.specs.WorkedRenewed as V;
 ghost use Rattle.history_laws.specs.WorkedSpoiled as S;
 ghost use Rattle.history_laws.specs.WorkedStore as K;
 ghost use Rattle.history_laws.specs.WorkedUploads as U;
@@ -83,6 +84,24 @@ pub fn worked_store()
     ensures accept { Refused K.other_accept }
     ensures outdated { Refused K.read_outdated }
     ensures older { Refused K.read_older }
+{}
+
+/// A GET that asks by an ETag whether what was stored is valid still, as a 2.03 says that it is; one that
+/// is served that, in the last millisecond in which it is fresh, counted from the 2.03; one that asks
+/// once more; a 2.03 with another ETag, and one to a later message, which aren't understood. And what is
+/// wrong there: that these renew; asking while it is fresh, after a write to the place, or by a later
+/// message.
+pub fn worked_renewed()
+    ensures renewed { Holds V.renewed }
+    ensures served { Holds V.served_renewed }
+    ensures again { Holds V.renewed_again }
+    ensures unknown { Holds V.unknown_tag }
+    ensures late_unknown { Holds V.late_unknown }
+    ensures other_tag { Refused V.other_tag }
+    ensures late { Refused V.valid_late }
+    ensures fresh { Refused V.asked_while_fresh }
+    ensures outrun { Refused V.asked_outrun }
+    ensures tagged_late { Refused V.tagged_late }
 {}
 
 /// What goes out wrongly: too often, under another or a used message ID, or before its turn.

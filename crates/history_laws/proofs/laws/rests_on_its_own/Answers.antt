@@ -1,4 +1,4 @@
-use Rattle.history_laws.proofs.Basis.{rests-on-its-own}
+use Rattle.history_laws.proofs.Own.{rests-on-its-own}
 use Rattle.history_laws.proofs.Storing.{rests-on-the-store, nothing-outrun}
 use Rattle.history_laws.proofs.laws.rests_on_its_own.Goals as goal
 
