@@ -7,7 +7,7 @@ pub use Rattle.history_links.proofs.Mids.{Falling, firsts-falling, none-recent}
 pub use Rattle.history_links.proofs.Nexts.{next-follows}
 pub use Rattle.history_links.proofs.OtherPeers.{ask-elsewhere, copy-elsewhere, send-elsewhere}
 pub use Rattle.history_links.proofs.Passing.{going-passed, pass-agrees, passed-quiet, waits-passed}
-pub use Rattle.history_links.proofs.Queueing.{asked-expects, awaited-same, given-kept, queued-agrees}
+pub use Rattle.history_links.proofs.Queueing.{asked-expects, awaited-same, begun-here, given-kept, kept-here, manner-here, opens-for, queued-agrees, wants-here}
 pub use Rattle.history_links.proofs.Remembering.{count-kept, none-before, repeats-kept}
 pub use Rattle.history_links.proofs.Repeating.{garbled-agrees, repeat-agrees}
 pub use Rattle.history_links.proofs.Replying.{ends_by, ends_what, going-still, hit, is_to, issued-none, none-goes, queue-after, still-after, waits-after}
@@ -15,5 +15,5 @@ pub use Rattle.history_links.proofs.GoingOn.{goes-last, goes-on-agrees, onward, 
 pub use Rattle.history_links.proofs.Saying.{awaits-after, judge, said-so, says-agrees}
 pub use Rattle.history_links.proofs.Sent.{ends-sent, sent, sent-quiet, waits-sent}
 pub use Rattle.history_links.proofs.Silence.{silent-agrees, still}
-pub use Rattle.history_links.proofs.Still.{first_at-still, observes-keep, Still}
+pub use Rattle.history_links.proofs.Still.{first_at-still, kept-keeps, manner-keep, manner-same, observes-keep, Still}
 pub use Rattle.history_links.proofs.Tokens.{one-token}

@@ -16,7 +16,7 @@ use Rattle.history_laws.specs.Numbering.{token_number}
 use Rattle.message_layer.specs.Values.{LinkState}
 use Rattle.message_layer.specs.declared.state.Outstanding.{Outstanding}
 use Rattle.message_layer.specs.declared.state.Waiting.{Waiting}
-use Rattle.history_laws.specs.Readings.{Noted, First, Copies, at, newest, noted}
+use Rattle.history_laws.specs.Readings.{Noted, Note, First, Copies, at, newest, noted}
 use Rattle.journal_book.specs.Entries.{Sends}
 use Rattle.history_laws.specs.Transmissions.{FirstSending, firsts, first_at, last_sent, if_outstanding, is_recent, mids_used, transmission, outstanding}
 use Rattle.history_laws.specs.Exchanges.{Begun, begun, openings, goes_to, waits_for, is_going, is_waiting, waiting, submitted, rank}
@@ -24,7 +24,7 @@ use Rattle.history_laws.specs.Hearing.{went_under, went_as, recalls}
 use Rattle.history_laws.specs.Justified.{Legal}
 use Rattle.history_laws.proofs.CallerLemmas.{and-left, at-below, at-keeps, eqb-itself, find-some, listed-below, none-submitted, opened-queued, queue-same, rank-apart, some-is, submitted-apart, waiting-all, waiting-goes, waiting-unsent}
 use Rattle.history_links.specs.Agrees.{Start, IsLast, TurnIn, IsWaitingFor, WaitIn, awaits, awaits_ack, Agrees}
-use Rattle.history_links.specs.Steps.{AskElsewhere, FirstElsewhere, CopyElsewhere, IsUnnoticed}
+use Rattle.history_links.specs.Steps.{AskElsewhere, FirstElsewhere, CopyElsewhere, IsOpening, IsUnnoticed}
 use Rattle.history_links.proofs.Facts.{waits-below}
 use Rattle.history_links.proofs.Mids.{count-cons}
 use Rattle.history_links.proofs.Still.{since, waiting-keeps, waits-all, waits-one, heard-at, heard-still, rest-still}
@@ -32,7 +32,7 @@ use Rattle.history_links.proofs.Copying.{is-last, still-copy, unheard-sent}
 use Rattle.history_links.proofs.Sent.{sent, sent-quiet, waits-sent, waiting-sent, not-waiting, one-awaited, first-other}
 use Rattle.history_links.proofs.Notices.{expects-other}
 use Rattle.history_links.proofs.Tokens.{found-first}
-use Rattle.history_links.proofs.Queueing.{asked, begun-here, others-wait, awaited-same, turn-kept, asked-expects}
+use Rattle.history_links.proofs.Queueing.{asked, begun-here, opens-for, others-wait, awaited-same, turn-kept, asked-expects}
 
 -- what is outstanding
 
@@ -198,31 +198,33 @@ first-elsewhere {start = start} l t p r s b u o m w legal later a other waits mi
 
 -- an ask that opens an exchange with another peer
 
-not-here : (l : List Noted) (t c : ℕ) (a : Ask) (q : CoapRequest) (p : Peer) → same_peer q.peer p ≡ false → is_waiting (asked t c a q ∷ l) p (length l) ≡ false
-not-here l t c a q p e = rw (begun-here l t c a q) (rw (e) refl)
+not-here : (l : List Noted) (t c : ℕ) (a : Ask) (q : CoapRequest) (note : Note) (p : Peer) → IsOpening q note → same_peer q.peer p ≡ false → is_waiting (asked t c a note ∷ l) p (length l) ≡ false
+not-here l t c a q note p i e = rw (begun-here l t c a q note i) (rw (e) refl)
 
-waiting-elsewhere : (l : List Noted) (t c : ℕ) (a : Ask) (q : CoapRequest) (p : Peer) → Legal l → same_peer q.peer p ≡ false → waiting (asked t c a q ∷ l) p ≡ waiting l p
-waiting-elsewhere l t c a q p legal e =
-    queue-same (asked t c a q) l p (opened-queued (asked t c a q) l p q legal refl (λ o. tt) false (not-here l t c a q p e)) (others-wait l t c a q p)
+waiting-elsewhere : (l : List Noted) (t c : ℕ) (a : Ask) (q : CoapRequest) (note : Note) (p : Peer) → Legal l → IsOpening q note → same_peer q.peer p ≡ false
+    → waiting (asked t c a note ∷ l) p ≡ waiting l p
+waiting-elsewhere l t c a q note p legal i e =
+    queue-same (asked t c a note) l p (opened-queued (asked t c a note) l p q legal (opens-for q note i) (λ o. tt) false (not-here l t c a q note p i e))
+    (λ o. others-wait l t c a q note p o i)
 
-pub asked-elsewhere : {start : Start} (l : List Noted) (t : ℕ) (p : Peer) (s : LinkState) (c : ℕ) (a : Ask) (q : CoapRequest) → Legal l → newest l ≤ t → Agrees start l p s
-    → same_peer q.peer p ≡ false → IsUnnoticed l (asked t c a q) p → Agrees start (asked t c a q ∷ l) p s
-asked-elsewhere {start = start} l t p s c a q legal later g e same =
-    let n = asked t c a q ∷ l in
+pub asked-elsewhere : {start : Start} (l : List Noted) (t : ℕ) (p : Peer) (s : LinkState) (c : ℕ) (a : Ask) (q : CoapRequest) (note : Note) → Legal l → newest l ≤ t → Agrees start l p s
+    → same_peer q.peer p ≡ false → IsOpening q note → IsUnnoticed l (asked t c a note) p → Agrees start (asked t c a note ∷ l) p s
+asked-elsewhere {start = start} l t p s c a q note legal later g e i same =
+    let n = asked t c a note ∷ l in
     record {
-      turn = turn-kept l n p s.outstanding (λ i x h. at-keeps (asked t c a q) l i x h) refl (λ i. refl) g.turn;
+      turn = turn-kept l n p s.outstanding (λ i x h. at-keeps (asked t c a note) l i x h) refl (λ i. refl) g.turn;
       known = g.known;
       last = λ u after. g.last u (since l later after);
       count_up = λ u after. g.count_up u (since l later after);
       given = λ u after. g.given u (since l later after);
-      waits = subst (λ (v : List ℕ). WaitIn start n v s.waiting) (sym (waiting-elsewhere l t c a q p legal e)) (waits-all start (asked t c a q) l p refl (waiting l p) s.waiting (waiting-all l p) g.waits);
-      awaits = λ token. g.awaits token ∙ sym (asked-expects l t c a q p token legal ∙ ap (λ (b : Bool). awaits l p token || b) (same token));
-      acks = λ mid token. g.acks mid token ∙ sym (rw (awaited-same l t c a q legal) refl);
+      waits = subst (λ (v : List ℕ). WaitIn start n v s.waiting) (sym (waiting-elsewhere l t c a q note p legal i e)) (waits-all start (asked t c a note) l p refl (waiting l p) s.waiting (waiting-all l p) g.waits);
+      awaits = λ token. g.awaits token ∙ sym (asked-expects l t c a q note p token legal i ∙ ap (λ (b : Bool). awaits l p token || b) (same token));
+      acks = λ mid token. g.acks mid token ∙ sym (rw (awaited-same l t c a q note legal i) refl);
       heard = heard-still l n p s.heard (record {
         later = later;
         before = λ u mid. refl;
         live = λ u. refl;
-        below = λ u mid j h. heard-at (asked t c a q) l u p mid j h;
+        below = λ u mid j h. heard-at (asked t c a note) l u p mid j h;
       }) g.heard;
     }
 
@@ -280,7 +282,7 @@ copied-elsewhere l t p r s b i g later a e other =
     (λ f last. rw (number-differs l p i g f e other last) refl) s.outstanding a.turn) refl refl refl refl refl
 
 pub ask-elsewhere : AskElsewhere
-ask-elsewhere start l t p s c a q b e same = asked-elsewhere l t p s c a q b.legal b.later b.agrees e same
+ask-elsewhere start l t p s c a q note b e i same = asked-elsewhere l t p s c a q note b.legal b.later b.agrees e i same
 
 pub send-elsewhere : FirstElsewhere
 send-elsewhere start l t p r s d u o m w b e waits mine token = first-elsewhere l t p r s d u o m w b.legal b.later b.agrees e waits mine token

@@ -5,14 +5,15 @@ use Rattle.std.specs.List.{filter_map, list_any}
 use Rattle.std.proofs.lemmas.List.Sums.{length-filter}
 use Rattle.std.proofs.lemmas.Bool.{lt-ltb, ltb-true}
 use Rattle.std.proofs.lemmas.Bool.Decides.{eqb_tells}
-use Rattle.std.proofs.lemmas.Bool.{false≢true}
+use Rattle.std.proofs.lemmas.Bool.{and_parts, false≢true}
 use Rattle.std.proofs.lemmas.Map.Views.{any-filter_same}
 use Rattle.std.proofs.lemmas.Slice.Eq.{bytes_eq-Decides}
 use Rattle.std.specs.Str.{bytes_eq}
 use Rattle.std.proofs.lemmas.List.Elements.{filter_map-append}
 use Rattle.uri_map.specs.declared.peer.Peer.{Peer}
 use Rattle.uri_map.specs.Peers.{same_peer}
-use Rattle.ask_model.specs.Requests.{CoapRequest, opening_message}
+use Rattle.resp_cache.specs.Stored.{Stored}
+use Rattle.ask_model.specs.Requests.{CoapRequest, Manner, Plainly, opening_message}
 use Rattle.ask_model.specs.Views.{Ask}
 use Rattle.uri_map.proofs.CallerLemmas.{same_peer-itself}
 use Rattle.journal_book.specs.Entries.{Asks}
@@ -23,16 +24,16 @@ use Rattle.message_layer.specs.declared.state.Awaited.{Awaited}
 use Rattle.message_layer.specs.declared.state.Waiting.{Waiting}
 use Rattle.message_layer.specs.declared.state.Outstanding.{Outstanding}
 use Rattle.message_layer.proofs.Effects.{filter-kept}
-use Rattle.history_laws.specs.Readings.{Noted, Begins, at, noted, before}
+use Rattle.history_laws.specs.Readings.{Noted, Note, Begins, Renews, at, noted, before}
 use Rattle.history_laws.specs.Transmissions.{FirstSending, firsts, if_outstanding, transmission, last_sent, first_at}
 use Rattle.history_laws.specs.Progress.{Reply, progress, next_message}
-use Rattle.history_laws.specs.Exchanges.{begun, openings, waits_for, replies, awaited, is_waiting, is_submitted_at, waiting}
-use Rattle.history_laws.specs.Observing.{observes, unless_replied, wants_by, wants_in}
+use Rattle.history_laws.specs.Exchanges.{begun, kept, kept_by, opened_by, openings, opens_by, waits_for, replies, awaited, is_waiting, is_submitted_at, waiting}
+use Rattle.history_laws.specs.Observing.{manner, manner_by, observes, tag_of, unless_replied, wants_by, wants_in}
 use Rattle.history_laws.specs.Hearing.{went_under, went_as}
 use Rattle.history_laws.specs.Justified.{Legal}
 use Rattle.history_laws.proofs.CallerLemmas.{all-more, asks-first, at-keeps, begun-below, eqb-itself, filter-all, not-yet, opened-queued, opened-rank, replies-none, unbegun, waiting-all, waiting-begun, and-right, at-new, before-new}
 use Rattle.history_links.specs.Agrees.{Start, TurnIn, IsWaitingFor, WaitIn, awaits, awaits_ack, expects, notified}
-use Rattle.history_links.specs.Steps.{QueuedAgrees, but_gone, Forgets}
+use Rattle.history_links.specs.Steps.{QueuedAgrees, IsOpening, but_gone, first_manner, Forgets}
 use Rattle.history_links.proofs.Still.{since, waits-all, heard-at, heard-still}
 
 -- lists with one more
@@ -79,33 +80,42 @@ pruned-count t u n given later = by (ltb (length given + n) 32768)
 
 -- an ask that opens an exchange
 
-abbrev pub asked : ℕ → ℕ → Ask → CoapRequest → Noted
-asked t c a q = noted t (Asks c a) (Begins q)
+abbrev pub asked : ℕ → ℕ → Ask → Note → Noted
+asked t c a note = noted t (Asks c a) note
 
-begun-other : (l : List Noted) (t c : ℕ) (a : Ask) (q : CoapRequest) (o : ℕ) → o < length l → begun (asked t c a q ∷ l) o ≡ begun l o
-begun-other l t c a q o lt = elim (eqb_tells (length l) o) [ inl e ↦ let same = e.1 in absurd (omega (arith, lt, same)) | inr e ↦ rw (e.0) refl ]
+pub opens-for : (q : CoapRequest) (note : Note) → IsOpening q note → opens_by note ≡ Some q
+opens-for q (Begins r) i = ap (λ (v : CoapRequest). Some v) i
+opens-for q (Renews r s) i = ap (λ (v : CoapRequest). Some v) i.0
+opens-for q note i = absurd i
 
-pub begun-here : (l : List Noted) (t c : ℕ) (a : Ask) (q : CoapRequest) → begun (asked t c a q ∷ l) (length l) ≡ Some (record { since = t; request = q })
-begun-here l t c a q = rw (eqb-itself (length l)) refl
+begun-other : (l : List Noted) (t c : ℕ) (a : Ask) (q : CoapRequest) (note : Note) (o : ℕ) → IsOpening q note → o < length l → begun (asked t c a note ∷ l) o ≡ begun l o
+begun-other l t c a q note o i lt = elim (eqb_tells (length l) o) [
+  | inl e ↦ let same = e.1 in absurd (omega (arith, lt, same))
+  | inr e ↦ rw (opens-for q note i, e.0) refl
+]
 
-it-waits : (l : List Noted) (t c : ℕ) (a : Ask) (q : CoapRequest) (p : Peer) → Legal l → q.peer ≡ p → is_waiting (asked t c a q ∷ l) p (length l) ≡ true
-it-waits l t c a q p legal to =
+pub begun-here : (l : List Noted) (t c : ℕ) (a : Ask) (q : CoapRequest) (note : Note) → IsOpening q note → begun (asked t c a note ∷ l) (length l) ≡ Some (record { since = t; request = q })
+begun-here l t c a q note i = rw (opens-for q note i, eqb-itself (length l)) refl
+
+it-waits : (l : List Noted) (t c : ℕ) (a : Ask) (q : CoapRequest) (note : Note) (p : Peer) → Legal l → IsOpening q note → q.peer ≡ p → is_waiting (asked t c a note ∷ l) p (length l) ≡ true
+it-waits l t c a q note p legal i to =
     let none = unbegun l (length l) legal (not-yet l) in
     let peer : same_peer q.peer p ≡ true = subst (λ (r : Peer). same_peer q.peer r ≡ true) to (same_peer-itself q.peer) in
-    rw (begun-here l t c a q, none.0, none.1) (rw (peer) refl)
+    rw (begun-here l t c a q note i, none.0, none.1) (rw (peer) refl)
 
-pub others-wait : (l : List Noted) (t c : ℕ) (a : Ask) (q : CoapRequest) (p : Peer) (o : ℕ) → is_waiting l p o ≡ true → is_waiting (asked t c a q ∷ l) p o ≡ true
-others-wait l t c a q p o e =
+pub others-wait : (l : List Noted) (t c : ℕ) (a : Ask) (q : CoapRequest) (note : Note) (p : Peer) (o : ℕ) → IsOpening q note → is_waiting l p o ≡ true → is_waiting (asked t c a note ∷ l) p o ≡ true
+others-wait l t c a q note p o i e =
     let b = waiting-begun l p o e in
-    rw (begun-other l t c a q o (begun-below l o b.0 b.1)) e
+    rw (begun-other l t c a q note o i (begun-below l o b.0 b.1)) e
 
-pub waits-more : (l : List Noted) (t c : ℕ) (a : Ask) (q : CoapRequest) (p : Peer) → Legal l → q.peer ≡ p → waiting (asked t c a q ∷ l) p ≡ waiting l p ++ length l ∷ []
-waits-more l t c a q p legal to =
-    let x = asked t c a q in
+pub waits-more : (l : List Noted) (t c : ℕ) (a : Ask) (q : CoapRequest) (note : Note) (p : Peer) → Legal l → IsOpening q note → q.peer ≡ p
+    → waiting (asked t c a note ∷ l) p ≡ waiting l p ++ length l ∷ []
+waits-more l t c a q note p legal i to =
+    let x = asked t c a note in
     let old = filter-all (is_waiting (x ∷ l) p) (waiting l p)
-    (all-more (λ (o : ℕ). is_waiting l p o ≡ true) (λ (o : ℕ). is_waiting (x ∷ l) p o ≡ true) (others-wait l t c a q p) (waiting l p) (waiting-all l p)) in
+    (all-more (λ (o : ℕ). is_waiting l p o ≡ true) (λ (o : ℕ). is_waiting (x ∷ l) p o ≡ true) (λ o. others-wait l t c a q note p o i) (waiting l p) (waiting-all l p)) in
     ap (λ (v : List ℕ). v ++ filter (is_submitted_at (x ∷ l) p (length l)) (openings (x ∷ l))) old
-    ∙ ap (λ (v : List ℕ). waiting l p ++ v) (opened-queued x l p q legal refl (λ o. tt) true (it-waits l t c a q p legal to))
+    ∙ ap (λ (v : List ℕ). waiting l p ++ v) (opened-queued x l p q legal (opens-for q note i) (λ o. tt) true (it-waits l t c a q note p legal i to))
 
 pub wait-push : (start : Start) (n : List Noted) (os : List ℕ) (ws : List Waiting) (o : ℕ) (w : Waiting) → WaitIn start n os ws → IsWaitingFor start n o w → WaitIn start n (os ++ o ∷ []) (ws ++ w ∷ [])
 wait-push start n [] [] o w a i = (i, tt)
@@ -113,25 +123,39 @@ wait-push start n [] (v ∷ ws) o w a i = absurd a
 wait-push start n (q ∷ os) [] o w a i = absurd a
 wait-push start n (q ∷ os) (v ∷ ws) o w a i = (a.0, wait-push start n os ws o w a.1 i)
 
-pub awaited-same : (l : List Noted) (t c : ℕ) (a : Ask) (q : CoapRequest) → Legal l → awaited (asked t c a q ∷ l) ≡ awaited l
-awaited-same l t c a q legal = none-more (waits_for l) (openings l) (length l) (unbegun l (length l) legal (not-yet l)).0
+pub awaited-same : (l : List Noted) (t c : ℕ) (a : Ask) (q : CoapRequest) (note : Note) → Legal l → IsOpening q note → awaited (asked t c a note ∷ l) ≡ awaited l
+awaited-same l t c a q note legal i =
+    ap (filter_map (waits_for l)) (ap (λ (v : Option CoapRequest). opened_by (length l) v (openings l)) (opens-for q note i))
+    ∙ none-more (waits_for l) (openings l) (length l) (unbegun l (length l) legal (not-yet l)).0
 
-replied : (l : List Noted) (t c : ℕ) (a : Ask) (q : CoapRequest) → Legal l → replies (asked t c a q ∷ l) (length l) ≡ []
-replied l t c a q legal = (replies-none l (length l) legal (not-yet l)).1
+pub replied : (l : List Noted) (t c : ℕ) (a : Ask) (note : Note) → Legal l → replies (asked t c a note ∷ l) (length l) ≡ []
+replied l t c a note legal = (replies-none l (length l) legal (not-yet l)).1
 
--- Its first message asks to observe where that is wanted, and then it is a GET.
-wants-here : (l : List Noted) (t c : ℕ) (a : Ask) (q : CoapRequest) → Legal l → observes (asked t c a q ∷ l) (length l) ≡ wants_by l (Asks c a) (Begins q)
-wants-here l t c a q legal =
-    let n = asked t c a q ∷ l in
-    ap (λ (rs : List Reply). unless_replied (wants_in (before n (length l)) (at n (length l))) rs) (replied l t c a q legal)
-    ∙ (ap (λ (v : Option Noted). wants_in (before n (length l)) v) (at-new (asked t c a q) l) ∙ ap (λ (h : List Noted). wants_by h (Asks c a) (Begins q)) (before-new (asked t c a q) l))
+pub kept-here : (l : List Noted) (t c : ℕ) (a : Ask) (note : Note) → kept (asked t c a note ∷ l) (length l) ≡ kept_by note
+kept-here l t c a note = rw (eqb-itself (length l)) refl
 
-wants-get : (l : List Noted) (c : ℕ) (a : Ask) (q : CoapRequest) → eqb q.method 1 ≡ false → wants_by l (Asks c a) (Begins q) ≡ false
-wants-get l c a q e = rw (e) refl
+-- Its first message asks to observe where that is wanted, or about what is kept, and then it is a GET.
+pub wants-here : (l : List Noted) (t c : ℕ) (a : Ask) (note : Note) → Legal l → observes (asked t c a note ∷ l) (length l) ≡ wants_by l (Asks c a) note
+wants-here l t c a note legal =
+    let n = asked t c a note ∷ l in
+    ap (λ (rs : List Reply). unless_replied (wants_in (before n (length l)) (at n (length l))) rs) (replied l t c a note legal)
+    ∙ (ap (λ (v : Option Noted). wants_in (before n (length l)) v) (at-new (asked t c a note) l) ∙ ap (λ (h : List Noted). wants_by h (Asks c a) note) (before-new (asked t c a note) l))
 
-pub asked-expects : (l : List Noted) (t c : ℕ) (a : Ask) (q : CoapRequest) (p : Peer) (token : List ℕ) → Legal l
-    → expects (asked t c a q ∷ l) p token ≡ (awaits l p token || notified (asked t c a q ∷ l) p token)
-asked-expects l t c a q p token legal = rw (awaited-same l t c a q legal) refl
+pub manner-here : (l : List Noted) (t c : ℕ) (a : Ask) (note : Note) → Legal l → manner (asked t c a note ∷ l) (length l) ≡ first_manner l (Asks c a) note
+manner-here l t c a note legal =
+    let n = asked t c a note ∷ l in
+    ap (λ (v : Option Stored). manner_by (tag_of v (replies n (length l))) (observes n (length l))) (kept-here l t c a note)
+    ∙ (ap (λ (rs : List Reply). manner_by (tag_of (kept_by note) rs) (observes n (length l))) (replied l t c a note legal)
+    ∙ ap (manner_by (tag_of (kept_by note) [])) (wants-here l t c a note legal))
+
+plainly : (l : List Noted) (c : ℕ) (a : Ask) (q : CoapRequest) (note : Note) → IsOpening q note → eqb q.method 1 ≡ false → first_manner l (Asks c a) note ≡ Plainly
+plainly l c a q (Begins r) i e = rw (i, e) refl
+plainly l c a q (Renews r s) i e = absurd (false≢true (sym e ∙ (and_parts (eqb q.method 1) _ i.1).0))
+plainly l c a q note i e = absurd i
+
+pub asked-expects : (l : List Noted) (t c : ℕ) (a : Ask) (q : CoapRequest) (note : Note) (p : Peer) (token : List ℕ) → Legal l → IsOpening q note
+    → expects (asked t c a note ∷ l) p token ≡ (awaits l p token || notified (asked t c a note ∷ l) p token)
+asked-expects l t c a q note p token legal i = rw (awaited-same l t c a q note legal i) refl
 
 -- What the link lets go of is awaited no more, and nothing else.
 pub but-awaits : (gone : List ℕ → Bool) (token : List ℕ) (xs : List Awaited)
@@ -182,44 +206,42 @@ acks-kept l x p gone forgets mid token same = by (awaits_ack l p mid token) refl
         absurd (false≢true (sym (kept-still l x p gone forgets token (acks-awaits (x ∷ l) p mid token (same ∙ e))) ∙ f))
 
 pub queued-agrees : QueuedAgrees
-queued-agrees start l t p s c a q token text word gone b to spelled size apart number forgets =
+queued-agrees start l t p s c a q note token text word gone b to i spelled size apart number forgets =
     let legal = b.legal in
     let later = b.later in
     let g = b.agrees in
-    let n = asked t c a q ∷ l in
+    let n = asked t c a note ∷ l in
     let w = waits token text word in
-    let wants = wants_by l (Asks c a) (Begins q) in
-    let observed : observes n (length l) ≡ wants = wants-here l t c a q legal in
-    let gets : eqb q.method 1 ≡ false → wants ≡ false = λ e. wants-get l c a q e in
+    let how = first_manner l (Asks c a) note in
     record {
-      turn = turn-kept l n p s.outstanding (λ i x e. at-keeps (asked t c a q) l i x e) refl (λ i. refl) g.turn;
+      turn = turn-kept l n p s.outstanding (λ i x e. at-keeps (asked t c a note) l i x e) refl (λ i. refl) g.turn;
       known = g.known;
       last = λ u after. g.last u (since l later after);
       count_up = λ u after. g.count_up u (since l later after);
       given = λ u after. pruned-count t u (length s.waiting) s.given after.1 ∙ g.given u (since l later after);
-      waits = subst (λ (v : List ℕ). WaitIn start n v (s.waiting ++ w ∷ [])) (sym (waits-more l t c a q p legal to))
-          (wait-push start n (waiting l p) s.waiting (length l) w (waits-all start (asked t c a q) l p refl (waiting l p) s.waiting (waiting-all l p) g.waits) record {
+      waits = subst (λ (v : List ℕ). WaitIn start n v (s.waiting ++ w ∷ [])) (sym (waits-more l t c a q note p legal i to))
+          (wait-push start n (waiting l p) s.waiting (length l) w (waits-all start (asked t c a note) l p refl (waiting l p) s.waiting (waiting-all l p) g.waits) record {
             since = t;
             request = q;
-            opening = begun-here l t c a q;
-            message = opening_message wants q 0 token;
-            next = ap (λ (f : Bool). next_message f q (progress q (replies n (length l))) 0 token) observed
-                ∙ (ap (λ (rs : List Reply). next_message wants q (progress q rs) 0 token) (replied l t c a q legal) ∙ asks-first wants q 0 token gets);
+            opening = begun-here l t c a q note i;
+            message = opening_message how q 0 token;
+            next = ap (λ (f : Manner). next_message f q (progress q (replies n (length l))) 0 token) (manner-here l t c a note legal)
+                ∙ (ap (λ (rs : List Reply). next_message how q (progress q rs) 0 token) (replied l t c a note legal) ∙ asks-first how q 0 token (plainly l c a q note i));
             spelled = spelled;
             token_size = size;
             token_apart = apart;
-            numbered = number ∙ sym (ap (λ (k : ℕ). start.issued + k) (opened-rank (asked t c a q) l legal));
+            numbered = number ∙ sym (ap (λ (k : ℕ). start.issued + k) (opened-rank (asked t c a note) l legal));
             least = omega arith;
             greatest = omega arith;
           });
       awaits = λ token. but-awaits gone token s.awaited ∙ (ap (λ (b : Bool). not (gone token) && b) (g.awaits token) ∙ sym (forgets token));
       acks = λ mid token.
           but-acks gone mid token s.awaited
-          ∙ (ap (λ (b : Bool). not (gone token) && b) (g.acks mid token) ∙ acks-kept l (asked t c a q) p gone forgets mid token (rw (awaited-same l t c a q legal) refl));
+          ∙ (ap (λ (b : Bool). not (gone token) && b) (g.acks mid token) ∙ acks-kept l (asked t c a note) p gone forgets mid token (rw (awaited-same l t c a q note legal i) refl));
       heard = heard-still l n p s.heard (record {
         later = later;
         before = λ u mid. refl;
         live = λ u. refl;
-        below = λ u mid j e. heard-at (asked t c a q) l u p mid j e;
+        below = λ u mid j e. heard-at (asked t c a note) l u p mid j e;
       }) g.heard;
     }

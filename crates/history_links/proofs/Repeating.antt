@@ -12,7 +12,7 @@ use Rattle.history_laws.specs.Confirmations.{answer_by, given, rejects_bytes}
 use Rattle.message_layer.specs.Values.{LinkState}
 use Rattle.message_layer.specs.Hearing.{is_repeat, heard_verdict, verdict_by, reset_for}
 use Rattle.message_layer.specs.declared.state.Heard.{Heard}
-use Rattle.history_laws.specs.Readings.{Noted, Note, Plain, Begins, Joins, Serves, First, Copies, Confirms, Says, Repeats, Garbled, at, Bygone, Recalls, Acknowledged, Rejected, Ignored}
+use Rattle.history_laws.specs.Readings.{Noted, Note, Plain, Begins, Renews, Joins, Serves, First, Copies, Confirms, Says, Repeats, Garbled, at, Bygone, Recalls, Acknowledged, Rejected, Ignored}
 use Rattle.history_laws.specs.Hearing.{is_such, heard_before}
 use Rattle.history_laws.specs.Confirming.{answered, answered_as, answered_again}
 use Rattle.history_laws.proofs.CallerLemmas.{some-is}
@@ -44,6 +44,7 @@ confirming-note : (note : Note) → IsConfirming (answered note)
 confirming-note (Says m to notice) = confirming-by m.kind _ (is_rejected m) _
 confirming-note Plain = tt
 confirming-note (Begins q) = tt
+confirming-note (Renews q s) = tt
 confirming-note (Joins o) = tt
 confirming-note (Serves js) = tt
 confirming-note (First o m) = tt

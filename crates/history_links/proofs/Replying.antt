@@ -11,7 +11,7 @@ use Rattle.uri_map.specs.declared.peer.Peer.{Peer}
 use Rattle.journal_book.specs.Entries.{Hears}
 use Rattle.history_laws.specs.Readings.{Noted, Says, Notice, noted}
 use Rattle.history_laws.specs.Transmissions.{transmission}
-use Rattle.history_laws.specs.Exchanges.{Turn, Nothing, Replied, answered_by, heard_turn, turn, waits_by, waits_for, openings, replies, end_here, end_by, end_of, is_going, is_waiting, is_submitted_at, is_issued_at, issued, submitted, waiting, begun}
+use Rattle.history_laws.specs.Exchanges.{Turn, Nothing, Replied, answered_by, heard_turn, turn, waits_by, waits_for, openings, replies, end_here, end_by, end_of, is_going, is_waiting, is_submitted_at, is_issued_at, issued, submitted, waiting, begun, kept}
 use Rattle.history_laws.proofs.CallerLemmas.{all-more, filter-all, filter-none, waiting-all, waiting-goes, waiting-unsent}
 use Rattle.history_links.specs.Steps.{NoneGoesOn}
 
@@ -102,7 +102,7 @@ still-after l t p d m to u q e = turn-is l t p d m to u q ∙ (effect to m u.pla
 pub going-still : (l : List Noted) (t : ℕ) (p : Peer) (d : List ℕ) (m : Content) (to : Option ℕ) (u : Notice) (q : ℕ)
     → hit to m (waits_for l q) ≡ false → end_of (says t p d m to u ∷ l) q ≡ end_of l q
 going-still l t p d m to u q e =
-    ap (λ (v : Turn). end_by (end_here (begun l q) (length l) (replies l q) v) (length l) (end_of l q)) (still-after l t p d m to u q e)
+    ap (λ (v : Turn). end_by (end_here (begun l q) (kept l q) (length l) (replies l q) v) (length l) (end_of l q)) (still-after l t p d m to u q e)
 
 -- Who waits for a turn waits on.
 pub waiting-on : (l : List Noted) (t : ℕ) (p r : Peer) (d : List ℕ) (m : Content) (to : Option ℕ) (u : Notice) (q : ℕ)

@@ -5,7 +5,7 @@ use Rattle.limits.specs.declared.TheConstants.{MAX_MESSAGE_IDS}
 use Rattle.coap_codec.specs.Spelling.{Content, Spells}
 use Rattle.uri_map.specs.declared.peer.Peer.{Peer}
 use Rattle.uri_map.specs.Peers.{same_peer}
-use Rattle.ask_model.specs.Requests.{CoapRequest, request_message, block_message, asking, observe_message}
+use Rattle.ask_model.specs.Requests.{CoapRequest, request_message, block_message, asking, observe_message, validate_message, Manner, Plainly, Observing, Validating}
 use Rattle.uri_map.proofs.CallerLemmas.{same_peer-same}
 use Rattle.message_layer.specs.Values.{LinkState}
 use Rattle.message_layer.specs.Sending.{next_mid, first_sent}
@@ -17,7 +17,7 @@ use Rattle.blockwise.specs.Uploads.{next_block}
 use Rattle.history_laws.specs.Progress.{Progress, Ends, progress, next_message, Fetches, Gives, block_after}
 use Rattle.history_laws.specs.Transmissions.{mids_used}
 use Rattle.history_laws.specs.Exchanges.{Begun, begun, replies, goes_to, is_waiting, waiting}
-use Rattle.history_laws.specs.Observing.{observes}
+use Rattle.history_laws.specs.Observing.{manner}
 use Rattle.history_laws.specs.Justified.{Legal, MayBeFirst}
 use Rattle.history_links.specs.Agrees.{Start, IsFrom, TurnIn, IsWaitingFor, WaitIn, Agrees}
 use Rattle.history_laws.proofs.CallerLemmas.{and-left, none-some, some-is, waiting-all}
@@ -64,13 +64,14 @@ block-under q None token mid m e = ap (λ (n : Content). Some (record n { mid = 
 block-under q (Some b) token mid m e =
     ap (λ (n : Content). Some (record n { mid = mid; token = token })) (some-is (block_message q (Some b) 0 token) m e)
 
-asking-under : (f : Bool) (q : CoapRequest) (block : Option Block) (token : List ℕ) (mid : ℕ) (m : Content) → Some (asking f q block 0 token) ≡ Some m
+asking-under : (f : Manner) (q : CoapRequest) (block : Option Block) (token : List ℕ) (mid : ℕ) (m : Content) → Some (asking f q block 0 token) ≡ Some m
     → Some (asking f q block mid token) ≡ Some (record m { mid = mid; token = token })
-asking-under true q None token mid m e = ap (λ (n : Content). Some (record n { mid = mid; token = token })) (some-is (observe_message q 0 token) m e)
-asking-under false q None token mid m e = ap (λ (n : Content). Some (record n { mid = mid; token = token })) (some-is (request_message q 0 token) m e)
+asking-under Observing q None token mid m e = ap (λ (n : Content). Some (record n { mid = mid; token = token })) (some-is (observe_message q 0 token) m e)
+asking-under Plainly q None token mid m e = ap (λ (n : Content). Some (record n { mid = mid; token = token })) (some-is (request_message q 0 token) m e)
+asking-under (Validating etag) q None token mid m e = ap (λ (n : Content). Some (record n { mid = mid; token = token })) (some-is (validate_message etag q 0 token) m e)
 asking-under f q (Some b) token mid m e = block-under q (Some b) token mid m e
 
-next-under : (f : Bool) (q : CoapRequest) (pr : Progress) (token : List ℕ) (mid : ℕ) (m : Content) → next_message f q pr 0 token ≡ Some m
+next-under : (f : Manner) (q : CoapRequest) (pr : Progress) (token : List ℕ) (mid : ℕ) (m : Content) → next_message f q pr 0 token ≡ Some m
     → next_message f q pr mid token ≡ Some (record m { mid = mid; token = token })
 next-under f q (Fetches restarts pieces got) token mid m e = asking-under f q (block_after pieces) token mid m e
 next-under f q (Gives upload got) token mid m e = block-under q (next_block upload) token mid m e
@@ -86,7 +87,7 @@ may-be-first l t p s w ws h legal from a few free =
     let mid = next_mid s.last_mid w.first_mid in
     let progressed = progress h.waits.request (replies l h.opening) in
     let waiting_one : Content = record h.waits.message { token = w.token } in
-    let same : h.waits.message ≡ record waiting_one { mid = 0 } = some-is _ _ (sym h.waits.next ∙ next-under (observes l h.opening) h.waits.request progressed w.token 0 h.waits.message h.waits.next) in
+    let same : h.waits.message ≡ record waiting_one { mid = 0 } = some-is _ _ (sym h.waits.next ∙ next-under (manner l h.opening) h.waits.request progressed w.token 0 h.waits.message h.waits.next) in
     record {
       since = h.waits.since;
       request = h.waits.request;
@@ -95,7 +96,7 @@ may-be-first l t p s w ws h legal from a few free =
       first = h.is;
       free = subst (TurnIn l p) free a.turn;
       peer = sym (same_peer-same h.waits.request.peer p peer);
-      message = next-under (observes l h.opening) h.waits.request progressed w.token mid h.waits.message h.waits.next;
+      message = next-under (manner l h.opening) h.waits.request progressed w.token mid h.waits.message h.waits.next;
       spelled = sent-spells waiting_one w.datagram mid (subst (λ (m : Content). Spells m w.datagram) same h.waits.spelled);
       token_size = h.waits.token_size;
       token_apart = h.waits.token_apart;

@@ -6,10 +6,11 @@ use Rattle.std.proofs.lemmas.Bool.{false≢true, lt-ltb, le-ltb, ltb-true, ltb-f
 use Rattle.std.proofs.lemmas.Bool.Decides.{eqb_tells}
 use Rattle.coap_codec.specs.Spelling.{Content}
 use Rattle.uri_map.specs.declared.peer.Peer.{Peer}
+use Rattle.resp_cache.specs.Stored.{Stored}
 use Rattle.journal_book.specs.Entries.{Sends}
 use Rattle.history_laws.specs.Readings.{Noted, First, noted}
 use Rattle.history_laws.specs.Progress.{Reply}
-use Rattle.history_laws.specs.Exchanges.{Begun, Sent, Nothing, End, end_here, end_by, end_of, turn, waits_by, waits_for, replies, goes_to, begun, is_waiting}
+use Rattle.history_laws.specs.Exchanges.{Begun, Sent, Nothing, End, end_here, end_by, end_of, turn, waits_by, waits_for, replies, goes_to, begun, kept, is_waiting}
 use Rattle.history_laws.proofs.CallerLemmas.{none-some, NoReply}
 use Rattle.history_links.proofs.Mids.{count-cons}
 use Rattle.history_laws.specs.Transmissions.{first_at}
@@ -19,12 +20,12 @@ sent t p b w o m = noted t (Sends p b w) (First o m)
 
 -- exchanges
 
-none-ended : (a : Option Begun) (n : ℕ) (rs : List Reply) (b : Bool) (old : Option End) → end_by (end_here a n rs (cond b (Sent n) Nothing)) n old ≡ old
-none-ended a n rs true old = refl
-none-ended a n rs false old = refl
+none-ended : (a : Option Begun) (s : Option Stored) (n : ℕ) (rs : List Reply) (b : Bool) (old : Option End) → end_by (end_here a s n rs (cond b (Sent n) Nothing)) n old ≡ old
+none-ended a s n rs true old = refl
+none-ended a s n rs false old = refl
 
 pub ends-sent : (l : List Noted) (t : ℕ) (p : Peer) (b : List ℕ) (w : Option ℕ) (o : ℕ) (m : Content) (q : ℕ) → end_of (sent t p b w o m ∷ l) q ≡ end_of l q
-ends-sent l t p b w o m q = none-ended (begun l q) (length l) (replies l q) (eqb o q) (end_of l q)
+ends-sent l t p b w o m q = none-ended (begun l q) (kept l q) (length l) (replies l q) (eqb o q) (end_of l q)
 
 awaits-by : (n : ℕ) (b : Bool) (old : Option ℕ) → waits_by (cond b (Sent n) Nothing) old ≡ cond b (Some n) old
 awaits-by n true old = refl

@@ -4,7 +4,7 @@ use Rattle.std.specs.Prelude.{map, ⊤}
 use Rattle.uri_map.specs.declared.peer.Peer.{Peer}
 use Rattle.ask_model.specs.Requests.{Sense, Requests, Refuses}
 use Rattle.journal_book.specs.Entries.{Deed, Opens, Asks, Sends, Hears, Answers, Shuts, Seals}
-use Rattle.history_laws.specs.Readings.{Noted, Note, Plain, Joins, Serves, Confirms, Repeats, Garbled, newest, noted, Begins}
+use Rattle.history_laws.specs.Readings.{Noted, Note, Plain, Joins, Serves, Confirms, Repeats, Garbled, newest, noted, Begins, Renews}
 use Rattle.history_laws.specs.Transmissions.{firsts, transmission}
 use Rattle.history_laws.specs.Exchanges.{begun, openings, turn, waits_for, end_of}
 use Rattle.history_laws.specs.Observing.{Watch, asked_again, asked_by, is_for, sending_of, watched, watches}
@@ -27,11 +27,13 @@ IsNothing x l =
 -- An ask that opens no exchange leaves the watches, but for its moment.
 abbrev OpensNone : Note → Type 0
 OpensNone (Begins q) = ⊥
+OpensNone (Renews q s) = ⊥
 OpensNone note = ⊤
 
 asked-still : (t : ℕ) (s : Sense) (note : Note) → OpensNone note → (ws : List Watch) → map sending_of (asked_by t s note ws) ≡ map sending_of ws
 asked-still t (Refuses cause status) note none ws = refl
 asked-still t (Requests q) (Begins r) none ws = absurd none
+asked-still t (Requests q) (Renews r s) none ws = absurd none
 asked-still t (Requests q) note none ws = all ws
   where
     one : (w : Watch) (b : Bool) → (cond b (record w { held = record w.held { asked = t } }) w).sending ≡ w.sending

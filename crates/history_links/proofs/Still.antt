@@ -2,7 +2,10 @@
 use Rattle.std.proofs.Common.{◌≡◌, ℕ, ◌≤◌, ◌<◌, Bool, inl, inr, length, arith, is_some, true, false, ◌+◌, ◌&&◌, List, [], ◌∷◌, Option, Some, None, refl, sym, ap, subst, ◌∙◌, cond}
 use Rattle.std.specs.Prelude.{option_map, ◌||◌}
 use Rattle.std.specs.List.{AllByRecursion, list_any, filter_map}
+use Rattle.std.proofs.lemmas.Bool.Decides.{eqb_tells}
 use Rattle.uri_map.specs.declared.peer.Peer.{Peer}
+use Rattle.resp_cache.specs.Stored.{Stored}
+use Rattle.ask_model.specs.Requests.{Manner}
 use Rattle.message_layer.specs.Values.{LinkState}
 use Rattle.message_layer.specs.declared.state.Waiting.{Waiting}
 use Rattle.message_layer.specs.declared.state.Heard.{Heard}
@@ -10,12 +13,12 @@ use Rattle.message_layer.specs.declared.state.Reply.{Reply}
 use Rattle.history_laws.specs.Readings.{Noted, at, newest, before}
 use Rattle.history_laws.specs.Transmissions.{bears_token, firsts, first_at}
 use Rattle.history_laws.specs.Progress.{Reply as ExchangeReply, progress, next_message}
-use Rattle.history_laws.specs.Exchanges.{Begun, begun, openings, turn, waits_for, replies, end_of, awaited, is_waiting, waiting, issued, rank}
+use Rattle.history_laws.specs.Exchanges.{Begun, begun, kept, openings, turn, waits_for, replies, end_of, awaited, is_waiting, waiting, issued, rank}
 use Rattle.history_laws.specs.Hearing.{went_under, went_as, is_like, heard_before, live_heard, recalls}
 use Rattle.history_laws.specs.Confirming.{answered_as}
 use Rattle.history_laws.proofs.CallerLemmas.{all-more, at-cases, at-keeps, begun-keeps, issued-same, none-submitted, NoReply, queue-same, rank-keeps, replies-stay, waiting-all, waiting-begun, waiting-stays, before-keeps, begun-below}
 use Rattle.history_links.specs.Agrees.{Start, IsWaitingFor, TurnIn, WaitIn, reply_of, awaits, awaits_ack, HeardIn, Agrees, notified, expects}
-use Rattle.history_laws.specs.Observing.{observes, unless_replied, wants_in, watched}
+use Rattle.history_laws.specs.Observing.{manner, manner_by, observes, tag_of, unless_replied, wants_in, watched}
 
 -- From the newest entry on is from an older one on.
 pub since : {s : ℕ} (l : List Noted) {t u : ℕ} → newest l ≤ t → (s ≤ u) × (t ≤ u) → (s ≤ u) × (newest l ≤ u)
@@ -41,6 +44,7 @@ pub record Still (l n : List Noted) : Type 0 where
   pub issued_are : issued n ≡ issued l
   pub watched_are : watched n ≡ watched l
   pub observes_are : (o : ℕ) {b : Begun} → begun l o ≡ Some b → observes n o ≡ observes l o
+  pub kept_are : (o : ℕ) {b : Begun} → begun l o ≡ Some b → kept n o ≡ kept l o
 
 pub first_at-still : (l n : List Noted) → Still l n → (i : ℕ) → first_at n i ≡ first_at l i
 first_at-still l n e i = rw (e.firsts_are) refl
@@ -53,7 +57,7 @@ pub record Keeps (l n : List Noted) (o : ℕ) : Type 0 where
   pub begun_is : (b : Begun) → begun l o ≡ Some b → begun n o ≡ Some b
   pub replies_are : replies n o ≡ replies l o
   pub rank_is : rank n o ≡ rank l o
-  pub observes_is : observes n o ≡ observes l o
+  pub manner_is : manner n o ≡ manner l o
 
 pub waits-one : {start : Start} (l n : List Noted) (o : ℕ) (w : Waiting) → Keeps l n o → (bears_token l w.token ≡ false → bears_token n w.token ≡ false)
     → IsWaitingFor start l o w → IsWaitingFor start n o w
@@ -62,8 +66,8 @@ waits-one {start = start} l n o w keeps apart a = record {
   request = a.request;
   opening = keeps.begun_is (record { since = a.since; request = a.request }) a.opening;
   message = a.message;
-  next = ap (λ (f : Bool). next_message f a.request (progress a.request (replies n o)) 0 w.token) keeps.observes_is
-      ∙ (ap (λ (rs : List ExchangeReply). next_message (observes l o) a.request (progress a.request rs) 0 w.token) keeps.replies_are ∙ a.next);
+  next = ap (λ (f : Manner). next_message f a.request (progress a.request (replies n o)) 0 w.token) keeps.manner_is
+      ∙ (ap (λ (rs : List ExchangeReply). next_message (manner l o) a.request (progress a.request rs) 0 w.token) keeps.replies_are ∙ a.next);
   spelled = a.spelled;
   token_size = a.token_size;
   token_apart = apart a.token_apart;
@@ -90,6 +94,19 @@ observes-keep x l o b begins same =
     here : at (x ∷ l) o ≡ at l o
     here = elim (at-cases x l o) [ inl w ↦ let place = w.0 in let lt = below in absurd (omega (arith, place, lt)) | inr w ↦ w.1 ]
 
+-- It keeps what it kept, and so its next message asks in the same manner.
+pub kept-keeps : (x : Noted) (l : List Noted) (o : ℕ) → o < length l → kept (x ∷ l) o ≡ kept l o
+kept-keeps x l o below = elim (eqb_tells (length l) o) [ inl e ↦ let same = e.1 in absurd (omega (arith, below, same)) | inr e ↦ rw (e.0) refl ]
+
+pub manner-same : (l n : List Noted) (o : ℕ) → kept n o ≡ kept l o → replies n o ≡ replies l o → observes n o ≡ observes l o → manner n o ≡ manner l o
+manner-same l n o keeps replied same =
+    ap (λ (v : Option Stored). manner_by (tag_of v (replies n o)) (observes n o)) keeps
+    ∙ (ap (λ (rs : List ExchangeReply). manner_by (tag_of (kept l o) rs) (observes n o)) replied ∙ ap (manner_by (tag_of (kept l o) (replies l o))) same)
+
+pub manner-keep : (x : Noted) (l : List Noted) (o : ℕ) (b : Begun) → begun l o ≡ Some b → replies (x ∷ l) o ≡ replies l o → manner (x ∷ l) o ≡ manner l o
+manner-keep x l o b begins same =
+    manner-same l (x ∷ l) o (kept-keeps x l o (begun-below l o b begins)) same (observes-keep x l o b begins same)
+
 -- Who waits keeps it, whatever comes.
 pub waiting-keeps : (x : Noted) (l : List Noted) (p : Peer) (o : ℕ) → is_waiting l p o ≡ true → Keeps l (x ∷ l) o
 waiting-keeps x l p o e =
@@ -99,7 +116,7 @@ waiting-keeps x l p o e =
       begun_is = λ c is. begun-keeps x l o c is;
       replies_are = same;
       rank_is = rank-keeps x l o b.0 b.1 same;
-      observes_is = observes-keep x l o b.0 b.1 same;
+      manner_is = manner-keep x l o b.0 b.1 same;
     }
 
 pub waits-all : (start : Start) (x : Noted) (l : List Noted) (p : Peer) → firsts (x ∷ l) ≡ firsts l → (os : List ℕ) (ws : List Waiting)
@@ -126,6 +143,7 @@ still-by x l later firsts_are openings_are begun_are waits_are ends_are quiet ow
   issued_are = issued-same x l openings_are (λ o goes. quiet o);
   watched_are = watched_are;
   observes_are = λ o {b} e. observes-keep x l o b e (replied o);
+  kept_are = λ o {b} e. kept-keeps x l o (begun-below l o b e);
 }
   where
     replied : (o : ℕ) → replies (x ∷ l) o ≡ replies l o
@@ -202,7 +220,7 @@ rest-still {start = start} l n p s r e h a turn waiting_is last_is given_is awai
     keeps : (l n : List Noted) → Still l n → (p : Peer) (o : ℕ) → is_waiting l p o ≡ true → Keeps l n o
     keeps l n e p o w =
         let b = waiting-begun l p o w in
-        record { begun_is = λ c is. e.begun_are o ∙ is; replies_are = e.replies_are o; rank_is = e.ranks_are o b.1; observes_is = e.observes_are o b.1 }
+        record { begun_is = λ c is. e.begun_are o ∙ is; replies_are = e.replies_are o; rank_is = e.ranks_are o b.1; manner_is = manner-same l n o (e.kept_are o b.1) (e.replies_are o) (e.observes_are o b.1) }
 
     awaits-still : (l n : List Noted) → Still l n → (p : Peer) (token : List ℕ) → awaits n p token ≡ awaits l p token
     awaits-still l n e p token =

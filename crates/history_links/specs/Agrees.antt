@@ -22,7 +22,7 @@ use Rattle.history_laws.specs.Readings.{Noted, First, noted, at, newest}
 use Rattle.history_laws.specs.Transmissions.{FirstSending, firsts, first_at, last_sent, is_recent, bears_token, mids_used, Transmission, transmission, outstanding}
 use Rattle.history_laws.specs.Progress.{progress, next_message}
 use Rattle.history_laws.specs.Exchanges.{begun, replies, rank, awaited, waiting}
-use Rattle.history_laws.specs.Observing.{observes, watched}
+use Rattle.history_laws.specs.Observing.{manner, watched}
 use Rattle.history_laws.specs.Hearing.{knows, went_under, went_as, heard_before, live_heard}
 use Rattle.history_laws.specs.Confirming.{answered_as}
 
@@ -79,7 +79,7 @@ pub record IsWaitingFor (start : Start) (l : List Noted) (o : ℕ) (w : Waiting)
   pub request : CoapRequest
   pub opening : begun l o ≡ Some (record { since = since; request = request })
   pub message : Content
-  pub next : next_message (observes l o) request (progress request (replies l o)) 0 w.token ≡ Some message
+  pub next : next_message (manner l o) request (progress request (replies l o)) 0 w.token ≡ Some message
   pub spelled : Spells message w.datagram
   pub token_size : length w.token ≡ 8
   pub token_apart : bears_token l w.token ≡ false

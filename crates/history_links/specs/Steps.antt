@@ -1,11 +1,12 @@
 -- What the calls of a link leave in a history.
-use Rattle.std.specs.Prelude.{◌≡◌, ℕ, ◌+◌, ◌<◌, ◌≤◌, Bool, true, false, not, ◌&&◌, ◌==◌, nat_le, List, ◌∷◌, length, filter, Option, Some, None, if◌then◌else◌, ⊤}
+use Rattle.std.specs.Prelude.{◌≡◌, ℕ, ◌+◌, ◌<◌, ◌≤◌, Bool, true, false, not, ◌&&◌, ◌==◌, nat_le, List, [], ◌∷◌, length, filter, Option, Some, None, if◌then◌else◌, ⊤}
 use Rattle.std.specs.List.{list_any}
 use Rattle.limits.specs.declared.TheConstants.{MAX_MESSAGE_IDS, MAX_RETRANSMIT}
 use Rattle.coap_codec.specs.Spelling.{Content, Spells}
 use Rattle.uri_map.specs.declared.peer.Peer.{Peer}
 use Rattle.uri_map.specs.Peers.{same_peer}
-use Rattle.ask_model.specs.Requests.{CoapRequest, opening_message}
+use Rattle.ask_model.specs.Requests.{CoapRequest, Manner, opening_message}
+use Rattle.ask_model.specs.Sharing.{is_get}
 use Rattle.ask_model.specs.Views.{Ask}
 use Rattle.journal_book.specs.Entries.{Deed, Opens, Asks, Sends, Hears, Passes, Answers, Shuts, Seals}
 use Rattle.history_laws.specs.Confirmations.{Confirmation}
@@ -20,12 +21,12 @@ use Rattle.message_layer.specs.declared.state.Waiting.{Waiting}
 use Rattle.message_layer.specs.declared.verdict.News.{News}
 use Rattle.message_layer.specs.declared.verdict.News.TheVariants.{Quiet, Response, Reset, Lost}
 use Rattle.message_layer.specs.declared.verdict.Verdict.{Verdict}
-use Rattle.history_laws.specs.Readings.{Noted, Note, Plain, Begins, Joins, Serves, First, Copies, Confirms, Says, Repeats, Garbled, Notice, newest, ticked, noted}
+use Rattle.history_laws.specs.Readings.{Noted, Note, Plain, Begins, Renews, Joins, Serves, First, Copies, Confirms, Says, Repeats, Garbled, Notice, newest, ticked, noted}
 use Rattle.history_laws.specs.Connections.{is_sealed}
 use Rattle.history_laws.specs.Transmissions.{FirstSending, first_at, bears_token, mids_used}
 use Rattle.history_laws.specs.Progress.{progress, next_message}
-use Rattle.history_laws.specs.Exchanges.{begun, openings, replies, issued, is_issued_at, is_late, expires, waits_for, is_waiting, waiting}
-use Rattle.history_laws.specs.Observing.{observes, wants_by}
+use Rattle.history_laws.specs.Exchanges.{begun, kept_by, openings, replies, issued, is_issued_at, is_late, expires, waits_for, is_waiting, waiting}
+use Rattle.history_laws.specs.Observing.{manner, manner_by, tag_of, wants_by}
 use Rattle.history_laws.specs.Hearing.{went_under, repeated, can_be_remembered, answers, notice_of}
 use Rattle.history_laws.specs.Confirming.{owed}
 use Rattle.history_laws.specs.Justified.{Legal, Follows}
@@ -107,15 +108,26 @@ Forgets l x p gone = (token : List ℕ) → expects (x ∷ l) p token ≡ (not (
 abbrev pub IsUnnoticed : List Noted → Noted → Peer → Type 0
 IsUnnoticed l x p = (token : List ℕ) → notified (x ∷ l) p token ≡ notified l p token
 
+-- By it an ask opens an exchange for the request. Of a GET alone something may be kept.
+abbrev pub IsOpening : CoapRequest → Note → Type 0
+IsOpening q (Begins r) = r ≡ q
+IsOpening q (Renews r s) = (r ≡ q) × (is_get q ≡ true)
+IsOpening q _ = ⊥
+
+-- how the first message of that asks
+abbrev pub first_manner : List Noted → Deed → Note → Manner
+first_manner l d note = manner_by (tag_of (kept_by note) []) (wants_by l d note)
+
 -- Its message waits last where an ask opens an exchange with the peer. By that a watch for the same may end.
 abbrev pub QueuedAgrees : Type 0
 QueuedAgrees =
     (start : Start) (l : List Noted) (t : ℕ) (p : Peer) (s : LinkState)
-    (c : ℕ) (a : Ask) (q : CoapRequest) (token text : List ℕ) (word : ℕ) (gone : List ℕ → Bool)
-    → Before start l t p s → q.peer ≡ p → Spells (opening_message (wants_by l (Asks c a) (Begins q)) q 0 token) text
+    (c : ℕ) (a : Ask) (q : CoapRequest) (note : Note) (token text : List ℕ) (word : ℕ) (gone : List ℕ → Bool)
+    → Before start l t p s → q.peer ≡ p → IsOpening q note
+    → Spells (opening_message (first_manner l (Asks c a) note) q 0 token) text
     → length token ≡ 8 → bears_token l token ≡ false → token_number token ≡ start.issued + issued l
-    → Forgets l (noted t (Asks c a) (Begins q)) p gone
-    → Agrees start (noted t (Asks c a) (Begins q) ∷ l) p (queued t (waits token text word) (lets_go gone s))
+    → Forgets l (noted t (Asks c a) note) p gone
+    → Agrees start (noted t (Asks c a) note ∷ l) p (queued t (waits token text word) (lets_go gone s))
 
 -- What is heard asks for just what the link answers (RFC 7252 sections 4.2, 4.3, 4.5), which is this after it.
 pub record Heeds
@@ -189,7 +201,7 @@ pub record GoesOn (start : Start) (l : List Noted) (x : Noted) (o : ℕ) (token 
   pub request : CoapRequest
   pub opening : begun l o ≡ Some (record { since = since; request = request })
   pub message : Content
-  pub next : next_message (observes (x ∷ l) o) request (progress request (replies (x ∷ l) o)) 0 token ≡ Some message
+  pub next : next_message (manner (x ∷ l) o) request (progress request (replies (x ∷ l) o)) 0 token ≡ Some message
   pub spelled : Spells message text
   pub token_size : length token ≡ 8
   pub token_apart : bears_token l token ≡ false
@@ -243,10 +255,10 @@ PassAgrees =
 -- waited, a copy of one, and what is heard from it.
 abbrev pub AskElsewhere : Type 0
 AskElsewhere =
-    (start : Start) (l : List Noted) (t : ℕ) (p : Peer) (s : LinkState) (c : ℕ) (a : Ask) (q : CoapRequest)
-    → Before start l t p s → same_peer q.peer p ≡ false
-    → IsUnnoticed l (noted t (Asks c a) (Begins q)) p
-    → Agrees start (noted t (Asks c a) (Begins q) ∷ l) p s
+    (start : Start) (l : List Noted) (t : ℕ) (p : Peer) (s : LinkState) (c : ℕ) (a : Ask) (q : CoapRequest) (note : Note)
+    → Before start l t p s → same_peer q.peer p ≡ false → IsOpening q note
+    → IsUnnoticed l (noted t (Asks c a) note) p
+    → Agrees start (noted t (Asks c a) note ∷ l) p s
 
 abbrev pub FirstElsewhere : Type 0
 FirstElsewhere =
