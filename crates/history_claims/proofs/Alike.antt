@@ -1,28 +1,28 @@
 -- Requests that one message asks: what was sent for the one was sent for the other.
-use Rattle.std.proofs.Common.{◌≡◌, ℕ, ◌⊎◌, Bool, true, false, eqb, inl, inr, List, [], Option, None, refl, sym, ap, subst, ◌∙◌}
+use Rattle.std.proofs.Common.{◌≡◌, ℕ, ◌⊎◌, true, eqb, inl, inr, List, [], Option, None, refl, sym, ap, subst, ◌∙◌}
 use Rattle.std.proofs.lemmas.Bool.{and_parts}
 use Rattle.coap_codec.specs.Spelling.{Content}
 use Rattle.coap_codec.specs.declared.block.Block.{Block}
 use Rattle.uri_map.specs.declared.peer.Peer.{Peer}
-use Rattle.ask_model.specs.Requests.{CoapRequest, asking}
+use Rattle.ask_model.specs.Requests.{CoapRequest, Manner, Plainly, asking}
 use Rattle.ask_model.specs.Sharing.{is_get, asks_same}
 use Rattle.ask_model.proofs.CallerLemmas.{asks-alike}
 use Rattle.journal_book.specs.Entries.{Written}
 use Rattle.resp_cache.specs.Stored.{Stored}
 use Rattle.history_laws.specs.Readings.{Noted}
 use Rattle.history_laws.specs.Storing.{IsStored}
-use Rattle.history_laws.proofs.CallerLemmas.{asking-alike, eqb-same, reader-alike, Reader, shared-is}
+use Rattle.history_laws.proofs.CallerLemmas.{asking-alike, eqb-same, reader-alike, Reader, renewal-shared, shared-is}
 use Rattle.history_claims.specs.Headline.{IsFirstSending, IsSentFor, IsResponse, IsNew, IsUnanswered, IsHeardFor, IsSameGet}
 
 pub record IsLike (r q : CoapRequest) : Type 0 where
   pub peer : r.peer ≡ q.peer
-  pub message : (observes : Bool) (mid : ℕ) (token : List ℕ) → asking observes r None mid token ≡ asking observes q None mid token
+  pub message : (manner : Manner) (mid : ℕ) (token : List ℕ) → asking manner r None mid token ≡ asking manner q None mid token
 
 pub like-method : (r q : CoapRequest) → IsLike r q → r.method ≡ q.method
-like-method r q like = ap (λ (m : Content). m.code) (like.message false 0 [])
+like-method r q like = ap (λ (m : Content). m.code) (like.message Plainly 0 [])
 
 pub like-get : (r q : CoapRequest) → IsLike r q → q.method ≡ 1 → IsSameGet q r
-like-get r q like get = (get, sym like.peer, λ observes mid token. sym (like.message observes mid token))
+like-get r q like get = (get, sym like.peer, λ manner mid token. sym (like.message manner mid token))
 
 pub sent-like : (h : List Written) (o : ℕ) (r q : CoapRequest) (block : Option Block) (i : ℕ) (m : Content) → IsLike r q
     → IsSentFor h o r block i m → IsSentFor h o q block i m
@@ -58,19 +58,20 @@ same-get q r e = get-method q (and_parts (is_get q) _ e).0
 
 -- nor is anything else answered with what is stored
 pub stored-get : (l : List Noted) (q : CoapRequest) (s : Stored) → IsStored l q s → is_get q ≡ true
-stored-get l q s (inl is) = (and_parts (is_get q) _ (shared-is l q is.opening is.shared).same).0
-stored-get l q s (inr is) = (and_parts (is_get q) _ is.same).0
+stored-get l q s (inl (inl is)) = (and_parts (is_get q) _ (shared-is l q is.0.opening is.0.shared).same).0
+stored-get l q s (inl (inr is)) = (and_parts (is_get q) _ is.0.same).0
+stored-get l q s (inr it) = (and_parts (is_get q) _ (renewal-shared l q it.renewal.opening it.renewal.same).2).0
 
 pub asks-like : (q r : CoapRequest) → asks_same q r ≡ true → IsLike r q
 asks-like q r e =
     let alike = asks-alike q r e in
-    record { peer = sym alike.0; message = λ observes mid token. sym (alike.1 observes mid token) }
+    record { peer = sym alike.0; message = λ manner mid token. sym (alike.1 manner mid token) }
 
 -- an exchange is for what its reader asks, which is a GET if it joined
 pub reader-like : (l : List Noted) (k o : ℕ) (it : Reader l k o) → IsLike it.exchange.request it.request
 reader-like l k o it =
     let alike = reader-alike l k o it in
-    record { peer = sym alike.0; message = λ observes mid token. sym (alike.1 observes mid token) }
+    record { peer = sym alike.0; message = λ manner mid token. sym (alike.1 manner mid token) }
 
 pub reader-get : (l : List Noted) (k o : ℕ) (it : Reader l k o) → (o ≡ k) ⊎ (it.request.method ≡ 1)
 reader-get l k o it =

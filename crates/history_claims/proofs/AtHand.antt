@@ -1,5 +1,5 @@
 -- An ask that can be answered by what is stored is.
-use Rattle.std.proofs.Common.{◌≡◌, ℕ, zero, suc, ◌+◌, ◌<◌, ◌≤◌, true, false, inl, inr, List, Some, refl, sym, ap, subst, ◌∙◌, arith}
+use Rattle.std.proofs.Common.{◌≡◌, ℕ, zero, suc, ◌+◌, ◌<◌, ◌≤◌, true, false, inl, inr, List, Option, Some, refl, sym, ap, subst, ◌∙◌, arith}
 use Rattle.std.proofs.lemmas.Bool.Decides.{leb_tells}
 use Rattle.coap_codec.specs.Spelling.{Content}
 use Rattle.uri_map.specs.declared.peer.Peer.{Peer}
@@ -10,14 +10,14 @@ use Rattle.ask_model.specs.Views.{Ask}
 use Rattle.ask_model.proofs.CallerLemmas.{asks-onward, same-key, same-place}
 use Rattle.resp_cache.specs.Stored.{Stored, lifetime, is_fresh}
 use Rattle.journal_book.specs.Entries.{Grounds, Live, Asks, Answers, Written}
-use Rattle.history_laws.specs.Readings.{Noted, Note, Begins, Serves, entries, at, before, noted}
+use Rattle.history_laws.specs.Readings.{Noted, Note, Begins, Renews, Serves, entries, at, before, noted}
 use Rattle.history_laws.specs.Connections.{is_sealed}
-use Rattle.history_laws.specs.Exchanges.{Begun, begun}
-use Rattle.history_laws.specs.Joining.{outrun, is_joinable}
-use Rattle.history_laws.specs.Storing.{IsBrought, IsStored, IsCrowdedOut, MissesAlone}
+use Rattle.history_laws.specs.Exchanges.{opens_by, Begun, begun}
+use Rattle.history_laws.specs.Joining.{outrun, is_joinable, asks_the_same}
+use Rattle.history_laws.specs.Storing.{IsRenewal, IsStored, IsCrowdedOut, MissesAlone, first_in}
 use Rattle.history_laws.specs.Justified.{AskNote, Follows, Legal, AtRest, Stands, UnservedNote}
 use Rattle.history_laws.specs.Laws.{IsFirst}
-use Rattle.history_laws.proofs.CallerLemmas.{asked-for, at-below, at-same, at-still, before-twice, begun-opening, follows-at, legal-before, shared-is}
+use Rattle.history_laws.proofs.CallerLemmas.{asked-for, at-below, at-same, at-still, before-twice, begun-opening, follows-at, legal-before, none-some, renewal-shared, shared-is, unserved-of}
 use Rattle.history_claims.specs.Headline.{IsAsked}
 use Rattle.history_claims.specs.Once.{AreFew, IsHeld, told, used, IsUnwritten, WasTold, IsAtHand, IsServedSo, CanWaitFor, IsSentNothing, AreAskedOnce, IsUnnotified}
 use Rattle.history_claims.specs.Order.{CanBeSpared}
@@ -25,7 +25,9 @@ use Rattle.history_claims.proofs.Entries.{entries-at}
 use Rattle.history_claims.proofs.Given.{served-so}
 use Rattle.history_claims.proofs.Held.{asks-come, uncrowded}
 use Rattle.history_claims.proofs.Quiet.{asks-a-get, asks-through, at-there, unsealed-before}
-use Rattle.history_claims.proofs.Told.{e, fresh-so, joinable-so, listed-so, moments-rise, quiet, stored, stored-once, stored-then, told-in, used-then}
+use Rattle.history_claims.proofs.Told.{e, fresh-so, listed-so, quiet, stored, stored-then, told-in, used-then}
+use Rattle.history_claims.proofs.Latest.{IsLatest, joinable-so, stored-once}
+use Rattle.history_claims.proofs.Messages.{moments-rise}
 use Rattle.history_claims.proofs.Unsent.{none-for-other}
 use Rattle.history_claims.proofs.Unshared.{asks-itself}
 use Rattle.history_claims.proofs.Waits.{opens-none, sent-nothing}
@@ -38,27 +40,42 @@ held-later h q n k (told lt few) = lt
 held-later h q n k (used o c t r asked same held lt few) = let below = held-later h q n o held in omega (arith, below, lt)
 
 -- What is stored for a GET is stored for each equal one.
-for-equal : (l : List Noted) (q r : CoapRequest) (s : Stored) → asks_same q r ≡ true → IsBrought l q s → IsBrought l r s
-for-equal l q r s same it =
-    let a = shared-is l q it.opening it.shared in
-    record {
-      opening = it.opening;
-      ending = it.ending;
-      first = it.first;
-      more = it.more;
-      comes = it.comes;
-      shared = joinable-so l r it.opening a.exchange a.opened (asks-onward q r a.exchange.request same a.same)
-          (subst (λ (p : Place). outrun l p it.opening ≡ false) (same-place q r same) a.fresh);
-      newest = subst (λ (k : CacheKey). outdated l k it.first.number ≡ false) (same-key q r same) it.newest;
-      latest = λ o e w first rs comes may new.
-          it.latest o e w first rs comes (back o may) (subst (λ (k : CacheKey). outdated l k first.number ≡ false) (sym (same-key q r same)) new);
-      entry = it.entry;
-      heard_in = it.heard_in;
-      heard = it.heard;
-      origin = it.origin;
-      list = it.list;
-    }
+for-equal : (l : List Noted) (q r : CoapRequest) (s : Stored) → asks_same q r ≡ true → IsLatest l q s → IsLatest l r s
+for-equal l q r s same (it, last) =
+    let a = shared-is l q it.opening it.shared in (
+      record {
+        opening = it.opening;
+        ending = it.ending;
+        first = it.first;
+        more = it.more;
+        comes = it.comes;
+        shared = joinable-so l r it.opening a.exchange a.opened (asks-onward q r a.exchange.request same a.same)
+            (subst (λ (p : Place). outrun l p it.opening ≡ false) (same-place q r same) a.fresh);
+        newest = subst (λ (k : CacheKey). outdated l k it.first.number ≡ false) (same-key q r same) it.newest;
+        latest = λ o e w first rs comes may new.
+            it.latest o e w first rs comes (back o may) (subst (λ (k : CacheKey). outdated l k first.number ≡ false) (sym (same-key q r same)) new);
+        entry = it.entry;
+        heard_in = it.heard_in;
+        heard = it.heard;
+        origin = it.origin;
+        list = it.list;
+      },
+      λ e renewal. last e (renewal-back renewal),
+    )
   where
+    renewal-back : {e : ℕ} → IsRenewal l r e → IsRenewal l q e
+    renewal-back h =
+        let b = renewal-shared l r h.opening h.same in
+        record {
+          opening = h.opening;
+          kept = h.kept;
+          reply = h.reply;
+          ended = h.ended;
+          same = subst (λ (v : Option Begun). asks_the_same q v ≡ true) (sym b.1) (asks-through q r b.0.request same b.2);
+          current = subst (λ (p : Place). outrun l p h.kept.opening ≡ false) (sym (same-place q r same)) h.current;
+          newest = subst (λ (k : CacheKey). outdated l k (first_in h.kept.list) ≡ false) (sym (same-key q r same)) h.newest;
+        }
+
     back : (o : ℕ) → is_joinable l r o ≡ true → is_joinable l q o ≡ true
     back o may =
         let b = shared-is l r o may in
@@ -70,9 +87,6 @@ asks-no-answer s t c d k a g u v e = go (ap (λ (x : Noted). x.written.deed) e)
   where
     go : Asks c a ≡ Answers d k g → ⊥
     go f = cc
-
-begins-no-serves : (r : CoapRequest) (ns : List ℕ) → Begins r ≡ Serves ns → ⊥
-begins-no-serves r ns e = cc
 
 -- what was told in the entry n, and the ask k of a later moment
 module _ (l : List Noted) (legal : Legal l) (q : CoapRequest) (o n : ℕ) (js : List ℕ) (was : WasTold (entries l) q o n js)
@@ -90,42 +104,49 @@ module _ (l : List Noted) (legal : Legal l) (q : CoapRequest) (o n : ℕ) (js : 
       fresh-so l legal q o n js was x.written.moment (omega (arith, le, young))
 
   -- Where it is stored, an equal GET is served, but where others crowded it out.
-  misses-none : (i c t : ℕ) (a : Ask) (note : Note) (r : CoapRequest) → a.sense ≡ Requests r → asks_same q r ≡ true → IsBrought (before l i) q S
+  misses-none : (i c t : ℕ) (a : Ask) (note : Note) (r : CoapRequest) → a.sense ≡ Requests r → asks_same q r ≡ true → IsLatest (before l i) q S
       → is_fresh t S ≡ true → (IsCrowded i → ⊥) → MissesAlone (before l i) t r → ⊥
   misses-none i c t a note r sense same is fresh free misses =
-      free (subst (IsCrowdedOut (before l i)) (sym (same-key q r same)) (misses S (inl (for-equal (before l i) q r S same is)) fresh))
+      free (subst (IsCrowdedOut (before l i)) (sym (same-key q r same)) (misses S (unrenewed (for-equal (before l i) q r S same is)) fresh))
+    where
+      unrenewed : IsLatest (before l i) r S → IsStored (before l i) r S
+      unrenewed (is, last) = inl (inl (is, λ e it. let lt = last e it in omega (arith, lt)))
 
   serves : (i c t : ℕ) (a : Ask) (note : Note) (r : CoapRequest) → at l i ≡ Some (noted t (Asks c a) note) → a.sense ≡ Requests r → asks_same q r ≡ true
-      → IsBrought (before l i) q S → is_fresh t S ≡ true → (IsCrowded i → ⊥) → (ns : List ℕ) × (note ≡ Serves ns)
+      → IsLatest (before l i) q S → is_fresh t S ≡ true → (IsCrowded i → ⊥) → (ns : List ℕ) × (note ≡ Serves ns)
   serves i c t a note r stands sense same is fresh free = by note (unserved (follows-at l i _ legal stands))
     where
       unserved : Follows (before l i) t (Asks c a) note → UnservedNote (before l i) t (Requests r) note
-      unserved may = subst (λ (s : Sense). UnservedNote (before l i) t s note) sense may.4
+      unserved may = subst (λ (s : Sense). UnservedNote (before l i) t s note) sense (unserved-of (before l i) t a note may.4)
 
       by : (note : Note) → UnservedNote (before l i) t (Requests r) note → (ns : List ℕ) × (note ≡ Serves ns)
       by (Serves ns) h = (ns, refl)
       by note h = absurd (misses-none i c t a note r sense same is fresh free h)
 
   -- Where it was stored and not crowded out, none was opened for an equal GET.
-  told-misses : (y c t : ℕ) (a : Ask) (r : CoapRequest) → a.sense ≡ Requests r → Follows (before l y) t (Asks c a) (Begins r) → MissesAlone (before l y) t r
-  told-misses y c t a r sense may = told-so (subst (λ (s : Sense). UnservedNote (before l y) t s (Begins r)) sense may.4)
+  told-misses : (y c t : ℕ) (a : Ask) (note : Note) (r : CoapRequest) → opens_by note ≡ Some r → a.sense ≡ Requests r
+      → Follows (before l y) t (Asks c a) note → MissesAlone (before l y) t r
+  told-misses y c t a note r opens sense may =
+      told-so note opens (subst (λ (s : Sense). UnservedNote (before l y) t s note) sense (unserved-of (before l y) t a note may.4))
     where
-      told-so : UnservedNote (before l y) t (Requests r) (Begins r) → MissesAlone (before l y) t r
-      told-so h = h
+      told-so : (note : Note) → opens_by note ≡ Some r → UnservedNote (before l y) t (Requests r) note → MissesAlone (before l y) t r
+      told-so (Begins s) e h = h
+      told-so (Renews s u) e h = h
+      told-so note e h = cc
 
-  none-opened : (m : ℕ) → m ≤ k → ((y : ℕ) → n < y → y < m → IsCrowded y → ⊥) → ((y : ℕ) → n < y → y < m → IsBrought (before l y) q S)
+  none-opened : (m : ℕ) → m ≤ k → ((y : ℕ) → n < y → y < m → IsCrowded y → ⊥) → ((y : ℕ) → n < y → y < m → IsLatest (before l y) q S)
       → (y : ℕ) (b : Begun) → e l legal q o n js was < y → y < m → begun l y ≡ Some b → asks_same q b.request ≡ true → ⊥
   none-opened m high free earlier y b after less opened same =
       let ask = asked-for l y b legal opened in
       let may = follows-at l y _ legal ask.stands in
       elim (leb_tells y n) [
-        | inl u ↦ quiet l legal q o n js was y _ after u.1 ask.stands (asks-come (before l y) b.since ask.conn ask.ask (Begins b.request) may)
+        | inl u ↦ quiet l legal q o n js was y _ after u.1 ask.stands (asks-come (before l y) b.since ask.conn ask.ask ask.note may)
         | inr u ↦
-            misses-none y ask.conn b.since ask.ask (Begins b.request) b.request ask.sense same (earlier y u.1 less)
-            (young-at y _ ask.stands (omega (arith, less, high))) (free y u.1 less) (told-misses y ask.conn b.since ask.ask b.request ask.sense may)
+            misses-none y ask.conn b.since ask.ask ask.note b.request ask.sense same (earlier y u.1 less)
+            (young-at y _ ask.stands (omega (arith, less, high))) (free y u.1 less) (told-misses y ask.conn b.since ask.ask ask.note b.request ask.opens ask.sense may)
       ]
 
-  stored-at : (fuel m : ℕ) → m < fuel → n < m → m ≤ k → ((y : ℕ) → n < y → y < m → IsCrowded y → ⊥) → IsBrought (before l m) q S
+  stored-at : (fuel m : ℕ) → m < fuel → n < m → m ≤ k → ((y : ℕ) → n < y → y < m → IsCrowded y → ⊥) → IsLatest (before l m) q S
   stored-at zero m lt low high free = absurd (omega (arith, lt))
   stored-at (suc fuel) m lt low high free =
       stored-then l legal q o n js was k z here later none untold young m low high
@@ -150,7 +171,7 @@ module _ (l : List Noted) (legal : Legal l) (q : CoapRequest) (o n : ℕ) (js : 
       unopened b opened =
           let ask = asked-for l n b legal opened in
           let answer = told-in l legal q o n js was in
-          asks-no-answer b.since was.told_at ask.conn was.conn o ask.ask (Live js) (Begins b.request) answer.0 (at-same l n _ _ ask.stands answer.1)
+          asks-no-answer b.since was.told_at ask.conn was.conn o ask.ask (Live js) ask.note answer.0 (at-same l n _ _ ask.stands answer.1)
 
   -- nor after an ask to which it was served
   module _ (a c t : ℕ) (r : CoapRequest) (asked : IsAsked (entries l) a c t (Requests r)) (same : asks_same q r ≡ true) (after : n < a) (below : a < k)
@@ -173,7 +194,7 @@ module _ (l : List Noted) (legal : Legal l) (q : CoapRequest) (o n : ℕ) (js : 
     unopened : (b : Begun) → begun l a ≡ Some b → ⊥
     unopened b opened =
         let opening = begun-opening l a b opened in
-        begins-no-serves b.request served.0 (ap (λ (x : Noted). x.note) (at-same l a _ _ opening.1 stands))
+        none-some b.request (sym (ap (λ (x : Noted). opens_by x.note) (at-same l a _ _ opening.2 stands)) ∙ opening.3)
 
     at-m : (m : ℕ) → a < m → m ≤ k → at (before l m) a ≡ Some (noted t (Asks c asker) (Serves served.0))
     at-m m less high =
@@ -250,14 +271,14 @@ waits-in l legal k c t o q asked h =
     let there = entries-at l k _ asked.stands in
     sent-nothing l k t c (record { came = asked.came; sense = Requests q; rules = asked.rules }) there.0 q legal there.1 refl o h
 
-serves-no-begins : (js : List ℕ) (q : CoapRequest) → Serves js ≡ Begins q → ⊥
-serves-no-begins js q e = cc
+serves-opens-none : (js : List ℕ) (q : CoapRequest) → opens_by (Serves js) ≡ Some q → ⊥
+serves-opens-none js q e = none-some q e
 
 pub spared-in : (l : List Noted) → Legal l → (k c t : ℕ) (q : CoapRequest) → IsAsked (entries l) k c t (Requests q) → CanBeSpared (entries l) k t q
     → (s i : ℕ) (p : Peer) (m : Content) → IsFirst l s k i p m → ⊥
 spared-in l legal k c t q asked (inl h) s i p m f =
     none-for-other l k c t (ask_in (entries l) k c t q asked) (Serves h.0) legal (served-note l legal k c t q h.0 asked h.1)
-    (λ r e. serves-no-begins h.0 r e) s i p m f
+    (λ r e. serves-opens-none h.0 r e) s i p m f
 spared-in l legal k c t q asked (inr h) s i p m f =
     let there = entries-at l k _ asked.stands in
     none-for-other l k c t (ask_in (entries l) k c t q asked) there.0 legal there.1

@@ -17,10 +17,10 @@ use Rattle.ask_model.specs.declared.cause.Cause.TheVariants as C
 use Rattle.journal_book.specs.Entries.{Fault, Answers, Hears, Passes, Written}
 use Rattle.history_laws.specs.Confirmations.{empty}
 use Rattle.history_laws.specs.Connections.{is_open}
-use Rattle.history_laws.specs.Readings.{Noted, Note, Plain, Begins, Says, entries, at, before, noted}
+use Rattle.history_laws.specs.Readings.{Noted, Note, Plain, Says, entries, at, before, noted}
 use Rattle.history_laws.specs.Progress.{Reply, Ending, Reset, TimedOut, Turned}
 use Rattle.history_laws.specs.Transmissions.{Transmission, given_up, transmission, sent_last}
-use Rattle.history_laws.specs.Exchanges.{Begun, begun, late_by, is_late, Expired, expires, turn, waits_for, replies, end_here, end_of}
+use Rattle.history_laws.specs.Exchanges.{opens_by, Begun, begun, late_by, is_late, Expired, expires, turn, waits_for, replies, kept, end_here, end_of}
 use Rattle.history_laws.specs.Justified.{IsAsk, IsTurnedAway as WasTurnedAway, IsRefused as WasRefused, IsOverdue, Caused, Ends, reads, pending, Follows, MayCome, Legal, Stands}
 use Rattle.history_laws.specs.Laws.{IsFirst}
 use Rattle.history_laws.proofs.CallerLemmas.{asked-for, at-before, at-below, at-newest, at-same, at-still, before-twice, begun-before, ends-first, follows-at, IsFirst-below, legal-before, length-before, none-after-end, none-some, replies-fit, sent-for, some-is, waits-first}
@@ -60,8 +60,8 @@ hears-not s t p b u v e = go (ap (λ (x : Noted). x.written.deed) e)
     go : Hears p b ≡ Passes → ⊥
     go f = cc
 
-plain-begins : (q : CoapRequest) → Plain ≡ Begins q → ⊥
-plain-begins q e = cc
+plain-opens : (q : CoapRequest) → opens_by Plain ≡ Some q → ⊥
+plain-opens q e = none-some q e
 
 -- an answer that stands, with what it answers
 module _ (l : List Noted) (n t c k : ℕ) (cause : Cause) (j : ℕ) (legal : Legal l) (note : Note)
@@ -88,8 +88,8 @@ module _ (l : List Noted) (n t c k : ℕ) (cause : Cause) (j : ℕ) (legal : Leg
         alone = alone l k h.moment h.conn h.ask h.request legal stands h.sense;
         crowded = crowded-at l k h.moment h.conn h.ask h.request legal stands h.sense;
         unsent = unsent-in l k k k h.request legal
-            (λ t i p m late. none-for-other l k h.conn h.moment h.ask Plain legal stands plain-begins t i p m)
-            (λ t i p m late. none-for-other l k h.conn h.moment h.ask Plain legal stands plain-begins t i p m);
+            (λ t i p m late. none-for-other l k h.conn h.moment h.ask Plain legal stands plain-opens t i p m)
+            (λ t i p m late. none-for-other l k h.conn h.moment h.ask Plain legal stands plain-opens t i p m);
       }
 
   refused : (cause : Cause) → WasRefused (before l n) k cause → IsRefused (entries l) c k cause
@@ -120,7 +120,7 @@ module _ (l : List Noted) (n t c k : ℕ) (cause : Cause) (j : ℕ) (legal : Leg
         let end = ends-first (before l n) o j Reset h in
         let y : Noted = end.0 in
         let late = before (before l n) j in
-        let u = reset-turn (begun late o) (turn late o y) j (replies late o) end.3 in
+        let u = reset-turn (begun late o) (kept late o) (turn late o y) j (replies late o) end.3 in
         let it = rejected-in late o y (follows-at (before l n) j y early end.1) u in
         let first = first-before l n _ o _ _ _ (first-before (before l n) j it.sent_at o it.sending it.peer it.sent it.first) in
         let sent = sent-as l it.sent_at o it.sending it.peer it.sent x.exchange legal x.opened first in
@@ -201,7 +201,7 @@ module _ (l : List Noted) (n t c k : ℕ) (cause : Cause) (j : ℕ) (legal : Leg
         let y : Noted = end.0 in
         let s : ℕ = y.written.moment in
         let u : turn (before l e) o y ≡ Expired =
-        subst (λ (v : List Noted). turn v o y ≡ Expired) twice (expired-turn (begun (before (before l n) e) o) (turn (before (before l n) e) o y) e (replies (before (before l n) e) o) end.3) in
+        subst (λ (v : List Noted). turn v o y ≡ Expired) twice (expired-turn (begun (before (before l n) e) o) (kept (before (before l n) e) o) (turn (before (before l n) e) o y) e (replies (before (before l n) e) o) end.3) in
         let it = turn-expired (before l e) o y u in
         let tick = at-before l n e y end.1 ∙ ap (λ (v : Noted). Some v) it.entry in
         go (waits_for (before l e) o) refl s y.note (earlier e y end.1) tick it.over
@@ -285,9 +285,9 @@ module _ (l : List Noted) (n t c k : ℕ) (cause : Cause) (j : ℕ) (legal : Leg
       where
         -- the end is a tick
         not-heard : (e i : ℕ) (y : Noted) (p : Peer) (z : Content) (s : ℕ) → e ≡ i → at l e ≡ Some y
-            → end_here (begun (before (before l n) e) o) e (replies (before (before l n) e) o) (turn (before (before l n) e) o y) ≡ Some TimedOut → IsHeard (entries l) p i s z → ⊥
+            → end_here (begun (before (before l n) e) o) (kept (before (before l n) e) o) e (replies (before (before l n) e) o) (turn (before (before l n) e) o y) ≡ Some TimedOut → IsHeard (entries l) p i s z → ⊥
         not-heard e i y p z s same there ends h =
-            let it = turn-expired (before (before l n) e) o y (expired-turn (begun (before (before l n) e) o) (turn (before (before l n) e) o y) e (replies (before (before l n) e) o) ends) in
+            let it = turn-expired (before (before l n) e) o y (expired-turn (begun (before (before l n) e) o) (kept (before (before l n) e) o) (turn (before (before l n) e) o y) e (replies (before (before l n) e) o) ends) in
             let tick = stands-as l e y _ there it.entry in
             let heard = entries-at l i _ h.stands in
             hears-not s y.written.moment p h.bytes heard.0 y.note

@@ -12,10 +12,10 @@ use Rattle.history_claims.specs.Headline.{WasFirstSent}
 use Rattle.history_claims.specs.Worked.{AnsweredAnew, Repeated, SentAgain, sent_again}
 use Rattle.history_claims.proofs.Examples.{texts}
 use Rattle.history_claims.proofs.Repeats.{repeats-again}
-use Rattle.history_claims.proofs.Resting.{rests-in}
+use Rattle.history_claims.proofs.Resting.{rests-heard}
 
 pub answered-anew : AnsweredAnew
-answered-anew = rests-in W.answered_anew 9 100100 2 6 (8 ∷ []) answered_anew-holds.0 refl
+answered-anew = rests-heard W.answered_anew 9 100100 2 6 (8 ∷ []) answered_anew-holds.0 refl refl
 
 pub repeated : Repeated
 repeated =

@@ -1,17 +1,23 @@
 -- An answer to a GET rests on messages that were sent after the answer to a write, where that came before the ask.
-use Rattle.std.proofs.Common.{◌≡◌, ℕ, ◌<◌, ◌≤◌, inl, inr, List, [], ◌∷◌, sym, ap, subst, ◌∙◌, arith, ◌⊎◌}
+use Rattle.std.proofs.Common.{◌≡◌, ℕ, ◌<◌, ◌≤◌, zero, inl, inr, List, [], ◌∷◌, refl, sym, ap, subst, ◌∙◌, arith, ◌⊎◌}
 use Rattle.std.specs.List.{Contains}
+use Rattle.std.proofs.lemmas.List.Elements.{Contains-push_cases}
 use Rattle.coap_codec.specs.Spelling.{Content}
 use Rattle.uri_map.specs.declared.peer.Peer.{Peer}
 use Rattle.ask_model.specs.Requests.{CoapRequest, Requests}
 use Rattle.ask_model.specs.Views.{Ask}
-use Rattle.journal_book.specs.Entries.{Grounds, Live, Kept, Fault, Deed, Asks, Answers, Written}
+use Rattle.journal_book.specs.Entries.{Grounds, Live, Kept, Fault, Mark, Ground, Done, Deed, Asks, Answers, Carries, Written}
+use Rattle.resp_cache.specs.Stored.{Stored}
 use Rattle.history_laws.specs.Justified.{Stands}
-use Rattle.history_laws.specs.Laws.{replies_in}
+use Rattle.history_laws.specs.Grounds.{replies_in}
 use Rattle.history_laws.specs.Progress.{Point, first_point, point_after}
 use Rattle.history_laws.proofs.CallerLemmas.{contains-none, first-or-later, some-is}
-use Rattle.history_claims.specs.Headline.{IsEntry, IsAsked, AreHeardFor, IsWriteAnswer, AreNotified, IsServed}
+use Rattle.history_claims.specs.Headline.{IsEntry, IsAsked, AreHeardFor, IsWriteAnswer, AreNotified, RestsOn}
+use Rattle.history_claims.specs.Carried.{AreCarriedFor}
+use Rattle.history_claims.specs.Stored.{IsServed, RestsOnRenewed, WasWhole, WasRenewed, never, again}
 use Rattle.history_claims.specs.Order.{AnswersLater}
+use Rattle.history_claims.proofs.Copies.{copies-first}
+use Rattle.history_claims.proofs.Plain.{some-heard}
 use Rattle.history_claims.proofs.Resting.{rests-on-replies}
 use Rattle.history_claims.proofs.Served.{rests-on-stored}
 use Rattle.history_claims.proofs.Together.{requests-same}
@@ -67,19 +73,84 @@ asks-same s t c d a b e = go (ap (λ (w : Written). w.deed) e)
 asked-one : (h : List Written) (k c d s t : ℕ) (q r : CoapRequest) → IsAsked h k c s (Requests q) → IsAsked h k d t (Requests r) → q ≡ r
 asked-one h k c d s t q r a b = requests-same q r (asks-same s t c d _ _ (some-is _ _ (sym a.stands ∙ b.stands)))
 
-current-kept : (h : List Written) (t c k s w j : ℕ) (js : List ℕ) (q : CoapRequest) → IsAsked h k c s (Requests q) → IsWriteAnswer h q w → Contains js j → w < k
-    → IsServed h t c k js → AnswersLater h w q.peer j
-current-kept h t c k s w j js q asked write has lt it =
-    let same = asked-one h k c c s t q it.request asked it.asked in
-    let earlier = it.current w (subst (λ (q : CoapRequest). IsWriteAnswer h q w) same write) lt in
-    let peer : it.other.peer ≡ q.peer = sym it.same.1 ∙ ap (λ (q : CoapRequest). q.peer) (sym same) in
-    subst (λ (p : Peer). AnswersLater h w p j) peer
-    (kept-later h it.opening w it.other js it.messages j (omega (arith, earlier)) it.heard has)
+-- Nor does a journal have an answer before a copy.
+carries-no-answer : (c k n : ℕ) (g : Grounds) (mark : Mark) (done : Done) → Answers c k g ≡ Carries n mark done → ⊥
+carries-no-answer c k n g mark done e = cc
 
-pub current : (h : List Written) → Stands h → (n t c k s w j : ℕ) (g : Grounds) (q : CoapRequest) → IsAsked h k c s (Requests q) → q.method ≡ 1
-    → IsEntry h n t (Answers c k g) → Contains (replies_in g) j → IsWriteAnswer h q w → w < k → AnswersLater h w q.peer j
-current h stands n t c k s w j (Live js) q asked get e has write lt =
-    let it = rests-on-replies h n t c k js stands e in
+-- What is stored for a GET came of what was asked after such an answer.
+module _ (h : List Written) (stands : Stands h) (q : CoapRequest) (first : Stored) (whole : WasWhole h q first) where
+  opened-before : (j : ℕ) → Contains first.list j → first.opening < j
+  opened-before j has = elim (whole.heard) [
+    | inl here ↦
+        let it = kept-later h first.opening first.opening whole.other first.list whole.messages j (omega arith) here.heard has in
+        let sent = it.4 in
+        let came = it.6.after in
+        omega (arith, sent, came)
+    | inr copied ↦ copied-later first.list whole.messages copied.heard has
+  ]
+    where
+      copied-later : (js : List ℕ) (ms : List Content) → AreCarriedFor h first.opening whole.other js ms → Contains js j → first.opening < j
+      copied-later [] ms a has = absurd (contains-none j has)
+      copied-later (i ∷ js) [] a has = absurd a
+      copied-later (i ∷ js) (m ∷ ms) a has =
+          elim (first-or-later i js j has) [
+            | inl same ↦
+                let sent = a.0.order.0 in
+                let came = a.0.order.1 in
+                subst (λ (j : ℕ). first.opening < j) same (omega (arith, sent, came))
+            | inr later ↦ copied-later js ms a.1 later
+          ]
+
+  opened-first : (n : ℕ) (s : Stored) → WasRenewed h q first n s → first.opening < n
+  opened-first n s (never below) =
+      let some = some-heard h q first whole in
+      let has : Contains first.list some.0 = subst (λ (js : List ℕ). Contains js some.0) (sym some.2) (zero, omega arith, refl) in
+      let after = opened-before some.0 has in
+      let lt = below some.0 has in
+      omega (arith, after, lt)
+  opened-first n s (again o c t i r m asked same was it lt) =
+      let after = opened-first o _ was in
+      let sent = it.heard.sent_for.after in
+      let came = it.heard.response.after in
+      omega (arith, after, sent, came, lt)
+
+  module _ (w : ℕ) (write : IsWriteAnswer h q w) (earlier : w < first.opening) (j : ℕ) where
+    first-later : Contains first.list j → AnswersLater h w q.peer j
+    first-later has = elim (whole.heard) [
+      | inl here ↦
+          subst (λ (p : Peer). AnswersLater h w p j) (sym whole.same.1)
+          (kept-later h first.opening w whole.other first.list whole.messages j (omega (arith, earlier)) here.heard has)
+      | inr copied ↦
+          let a = copied.asked in
+          let it = copies-first h w first.opening write.moment a.moment a.number _ Ground _ stands write.answers a.stands earlier in
+          absurd (carries-no-answer write.write.conn write.ask it.0 write.grounds it.1 it.2 it.3)
+    ]
+
+    stored-later : (n : ℕ) (s : Stored) → WasRenewed h q first n s → Contains s.list j → AnswersLater h w q.peer j
+    stored-later n s (never below) has = first-later has
+    stored-later n s (again o c t i r m asked same was it lt) has =
+        elim (Contains-push_cases first.list i j has) [
+          | inl u ↦ first-later u
+          | inr u ↦
+              let late = opened-first o _ was in
+              let after = it.heard.sent_for.after in
+              subst (λ (p : Peer). AnswersLater h w p j) (sym same.1)
+              (subst (AnswersLater h w r.peer) u
+              (it.heard.sending, it.heard.sent_for.moment, it.heard.sent, m, omega (arith, earlier, late, after), it.heard.sent_for.first, it.heard.response))
+        ]
+
+current-kept : (h : List Written) → Stands h → (t c k s w j : ℕ) (js : List ℕ) (q : CoapRequest) → IsAsked h k c s (Requests q) → IsWriteAnswer h q w
+    → Contains js j → w < k → IsServed h t c k js → AnswersLater h w q.peer j
+current-kept h stands t c k s w j js q asked write has lt it =
+    let same = asked-one h k c c s t q it.request asked it.asked in
+    let answer = subst (λ (q : CoapRequest). IsWriteAnswer h q w) same write in
+    subst (λ (q : CoapRequest). AnswersLater h w q.peer j) (sym same)
+    (stored-later h stands it.request it.is.first it.is.whole w answer (it.is.current w answer lt) j k it.stored it.is.renewed
+    (subst (λ (js : List ℕ). Contains js j) (sym it.list) has))
+
+current-live : (h : List Written) → Stands h → (n c k s w j : ℕ) (js : List ℕ) (q : CoapRequest) → IsAsked h k c s (Requests q) → IsWriteAnswer h q w
+    → Contains js j → w < k → RestsOn h n c k js ⊎ RestsOnRenewed h n c k js → AnswersLater h w q.peer j
+current-live h stands n c k s w j js q asked write has lt (inl it) =
     let same = asked-one h k c c s it.shared.moment q it.request asked it.shared.asked in
     let answer = subst (λ (q : CoapRequest). IsWriteAnswer h q w) same write in
     let earlier : w < it.opening =
@@ -89,11 +160,28 @@ current h stands n t c k s w j (Live js) q asked get e has write lt =
     ] in
     subst (λ (q : CoapRequest). AnswersLater h w q.peer j) (sym same)
     (heard-later h it.opening w it.request (first_point it.request) js it.messages j (omega (arith, earlier)) it.heard has)
+current-live h stands n c k s w j js q asked write has lt (inr it) =
+    let same = asked-one h k c c s it.shared.moment q it.request asked it.shared.asked in
+    let answer = subst (λ (q : CoapRequest). IsWriteAnswer h q w) same write in
+    let earlier : w < it.opening =
+    elim (it.shared.shares) [
+      | inl own ↦ let here = own.0 in omega (arith, lt, here)
+      | inr joined ↦ joined.0.fresh w answer lt
+    ] in
+    let v = it.valid.heard in
+    let after = v.sent_for.after in
+    subst (λ (q : CoapRequest). AnswersLater h w q.peer j) (sym same)
+    (elim (Contains-push_cases it.was.first.list it.number j (subst (λ (js : List ℕ). Contains js j) (sym it.list) has)) [
+      | inl u ↦ first-later h stands it.request it.was.first it.was.whole w answer (it.was.current w answer earlier) j u
+      | inr u ↦
+          subst (AnswersLater h w it.request.peer) u
+          (v.sending, v.sent_for.moment, v.sent, it.message, omega (arith, earlier, after), v.sent_for.first, v.response)
+    ])
+
+pub current : (h : List Written) → Stands h → (n t c k s w j : ℕ) (g : Grounds) (q : CoapRequest) → IsAsked h k c s (Requests q) → q.method ≡ 1
+    → IsEntry h n t (Answers c k g) → Contains (replies_in g) j → IsWriteAnswer h q w → w < k → AnswersLater h w q.peer j
+current h stands n t c k s w j (Live js) q asked get e has write lt =
+    current-live h stands n c k s w j js q asked write has lt (rests-on-replies h n t c k js stands e)
 current h stands n t c k s w j (Kept js) q asked get e has write lt =
-    elim (rests-on-stored h n t c k js stands e) [
-      | inl it ↦ current-kept h t c k s w j js q asked write has lt it
-      | inr it ↦
-          let same = asked-one h k c c s t q it.request asked it.asked in
-          absurd (it.current w (subst (λ (q : CoapRequest). IsWriteAnswer h q w) same write) lt)
-    ]
+    current-kept h stands t c k s w j js q asked write has lt (rests-on-stored h n t c k js stands e)
 current h stands n t c k s w j (Fault cause i) q asked get e has write lt = absurd (contains-none j has)

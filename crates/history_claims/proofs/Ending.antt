@@ -18,17 +18,18 @@ use Rattle.blockwise.specs.declared.upload.Answered.TheVariants as A
 use Rattle.blockwise.specs.declared.fault.BlockFault.TheVariants as F
 use Rattle.blockwise.specs.declared.pieces.Step.TheVariants.{Next, Last}
 use Rattle.ask_model.specs.Requests.{CoapRequest}
+use Rattle.resp_cache.specs.Stored.{Stored}
 use Rattle.journal_book.specs.Entries.{Deed, Sends, Hears, Passes}
 use Rattle.history_laws.specs.Responses.{is_tellable}
 use Rattle.history_laws.specs.Confirmations.{empty}
 use Rattle.history_laws.specs.Readings.{Noted, Note, First, Says, Notice, at, before, noted}
-use Rattle.history_laws.specs.Progress.{Reply, Ending, Whole, NotUnderstood, Reset, TimedOut, Turned, Progress, Fetches, Gives, Ends, first_progress, answered_so, fetched_whole, fetched_by, step, progress, ended_by}
+use Rattle.history_laws.specs.Progress.{Reply, Ending, Whole, Renewed, NotUnderstood, Reset, TimedOut, Turned, Progress, Fetches, Gives, Ends, first_progress, answered_so, fetched_whole, fetched_by, step, progress, ended_by}
 use Rattle.history_laws.specs.Transmissions.{FirstSending, first_at, last_sent, Transmission, transmission, if_outstanding}
-use Rattle.history_laws.specs.Exchanges.{Turn, Nothing, Sent, Replied, Rejected, Expired, expires, answered_by, heard_turn, turn_by, turn, waits_for, replies_by, replies, end_here, Begun, replied_end}
+use Rattle.history_laws.specs.Exchanges.{Turn, Nothing, Sent, Replied, Rejected, Expired, expires, answered_by, heard_turn, turn_by, turn, waits_for, replies_by, replies, end_here, Begun, replied_end, unless_renewed}
 use Rattle.history_laws.specs.Hearing.{went_as, is_as, open_at, answers_by, answers}
 use Rattle.history_laws.specs.Justified.{MaySay, Follows}
 use Rattle.history_laws.specs.Laws.{IsFirst}
-use Rattle.history_laws.proofs.CallerLemmas.{contains-none, eqb-same, find-some, first-is, first-or-later, none-some, some-is, waits-first}
+use Rattle.history_laws.proofs.CallerLemmas.{contains-none, eqb-same, find-some, first-is, first-or-later, none-some, some-is, unless-cases, waits-first}
 
 -- an entry that rejects what an exchange waits for
 pub record RejectedTurn (l : List Noted) (o : ℕ) (x : Noted) : Type 0 where
@@ -203,6 +204,7 @@ IsReplying how = Unit {0}
 
 replying : (how : Ending) → ByReply how → IsReplying how
 replying (Whole w rs) h = tt
+replying (Renewed s r) h = tt
 replying NotUnderstood h = tt
 replying Reset h = absurd h
 replying TimedOut h = absurd h
@@ -216,19 +218,38 @@ by-reply (Some b) place rs how e =
       | inr w ↦ subst IsReplying w.2 tt
     ]
 
-pub reset-turn : (b : Option Begun) (u : Turn) (n : ℕ) (rs : List Reply) → end_here b n rs u ≡ Some Reset → u ≡ Rejected
-reset-turn b (Replied i m place) n rs e = absurd (by-reply b place (rs ++ record { number = n; sending = i; message = m } ∷ []) Reset e)
-reset-turn b Rejected n rs e = refl
-reset-turn b Expired n rs e = absurd cc
-reset-turn b Nothing n rs e = absurd cc
-reset-turn b (Sent i) n rs e = absurd cc
+-- It ends otherwise than by what renews something.
+unrenewed : (v : Option Stored) (rs : List Reply) (r : Reply) (other : Option Ending) (how : Ending) → ((s : Stored) (r : Reply) → how ≡ Renewed s r → ⊥)
+    → unless_renewed v rs r other ≡ Some how → other ≡ Some how
+unrenewed v rs r other how not e = elim (unless-cases v rs r other (Some how) e) [ inl w ↦ w | inr it ↦ absurd (not it.stored r (some-is _ _ it.is)) ]
 
-pub expired-turn : (b : Option Begun) (u : Turn) (n : ℕ) (rs : List Reply) → end_here b n rs u ≡ Some TimedOut → u ≡ Expired
-expired-turn b (Replied i m place) n rs e = absurd (by-reply b place (rs ++ record { number = n; sending = i; message = m } ∷ []) TimedOut e)
-expired-turn b Rejected n rs e = absurd cc
-expired-turn b Expired n rs e = refl
-expired-turn b Nothing n rs e = absurd cc
-expired-turn b (Sent i) n rs e = absurd cc
+reset-not : (s : Stored) (r : Reply) → Reset ≡ Renewed s r → ⊥
+reset-not s r e = cc
+
+timed-not : (s : Stored) (r : Reply) → TimedOut ≡ Renewed s r → ⊥
+timed-not s r e = cc
+
+failed-not : (s : Stored) (r : Reply) → NotUnderstood ≡ Renewed s r → ⊥
+failed-not s r e = cc
+
+cut-not : (s : Stored) (r : Reply) → Turned ≡ Renewed s r → ⊥
+cut-not s r e = cc
+
+pub reset-turn : (b : Option Begun) (v : Option Stored) (u : Turn) (n : ℕ) (rs : List Reply) → end_here b v n rs u ≡ Some Reset → u ≡ Rejected
+reset-turn b v (Replied i m place) n rs e =
+    absurd (by-reply b place (rs ++ record { number = n; sending = i; message = m } ∷ []) Reset (unrenewed v rs _ _ Reset (λ s r. reset-not s r) e))
+reset-turn b v Rejected n rs e = refl
+reset-turn b v Expired n rs e = absurd cc
+reset-turn b v Nothing n rs e = absurd cc
+reset-turn b v (Sent i) n rs e = absurd cc
+
+pub expired-turn : (b : Option Begun) (v : Option Stored) (u : Turn) (n : ℕ) (rs : List Reply) → end_here b v n rs u ≡ Some TimedOut → u ≡ Expired
+expired-turn b v (Replied i m place) n rs e =
+    absurd (by-reply b place (rs ++ record { number = n; sending = i; message = m } ∷ []) TimedOut (unrenewed v rs _ _ TimedOut (λ s r. timed-not s r) e))
+expired-turn b v Rejected n rs e = absurd cc
+expired-turn b v Expired n rs e = refl
+expired-turn b v Nothing n rs e = absurd cc
+expired-turn b v (Sent i) n rs e = absurd cc
 
 -- a reply that ends an exchange so, by how far that has come with it
 pub record RepliedTurn (b : Option Begun) (n : ℕ) (u : Turn) (rs : List Reply) (place : Bool) (So : Progress → Type 0) : Type 0 where
@@ -241,9 +262,9 @@ pub record RepliedTurn (b : Option Begun) (n : ℕ) (u : Turn) (rs : List Reply)
 turned-not : Turned ≡ NotUnderstood → ⊥
 turned-not e = cc
 
-pub failed-turn : (b : Option Begun) (u : Turn) (n : ℕ) (rs : List Reply) → end_here b n rs u ≡ Some NotUnderstood
+pub failed-turn : (b : Option Begun) (v : Option Stored) (u : Turn) (n : ℕ) (rs : List Reply) → end_here b v n rs u ≡ Some NotUnderstood
     → (place : Bool) × RepliedTurn b n u rs place (λ (u : Progress). u ≡ Ends NotUnderstood)
-failed-turn b (Replied i m place) n rs e = (place, record { sending = i; message = m; is = refl; so = fails })
+failed-turn b v (Replied i m place) n rs e = (place, record { sending = i; message = m; is = refl; so = fails })
   where
     r : Reply
     r = record { number = n; sending = i; message = m }
@@ -251,22 +272,24 @@ failed-turn b (Replied i m place) n rs e = (place, record { sending = i; message
     fails : (a : Begun) → b ≡ Some a → progress a.request (rs ++ record { number = n; sending = i; message = m } ∷ []) ≡ Ends NotUnderstood
     fails a is =
         let said : ended_by place (progress a.request (rs ++ record { number = n; sending = i; message = m } ∷ [])) ≡ Some NotUnderstood =
-        subst (λ (b : Option Begun). replied_end b place (rs ++ record { number = n; sending = i; message = m } ∷ []) ≡ Some NotUnderstood) is e in
+        subst (λ (b : Option Begun). replied_end b place (rs ++ record { number = n; sending = i; message = m } ∷ []) ≡ Some NotUnderstood) is
+        (unrenewed v rs _ _ NotUnderstood (λ s r. failed-not s r) e) in
         elim (replied-cases place _ NotUnderstood (progress-so a.request (rs ++ record { number = n; sending = i; message = m } ∷ [])) said) [
           | inl w ↦ w.0
           | inr w ↦ absurd (turned-not w.2)
         ]
-failed-turn b Rejected n rs e = absurd cc
-failed-turn b Expired n rs e = absurd cc
-failed-turn b Nothing n rs e = absurd cc
-failed-turn b (Sent i) n rs e = absurd cc
+failed-turn b v Rejected n rs e = absurd cc
+failed-turn b v Expired n rs e = absurd cc
+failed-turn b v Nothing n rs e = absurd cc
+failed-turn b v (Sent i) n rs e = absurd cc
 
 -- there is no place for what comes next
-pub cut-turn : (b : Option Begun) (u : Turn) (n : ℕ) (rs : List Reply) → end_here b n rs u ≡ Some Turned
+pub cut-turn : (b : Option Begun) (v : Option Stored) (u : Turn) (n : ℕ) (rs : List Reply) → end_here b v n rs u ≡ Some Turned
     → RepliedTurn b n u rs false (λ (u : Progress). ended_by true u ≡ None)
-cut-turn None (Replied i m place) n rs e = absurd (turned-not (sym (some-is _ _ e)))
-cut-turn (Some b) (Replied i m place) n rs e =
-    elim (replied-cases place _ Turned (progress-so b.request (rs ++ record { number = n; sending = i; message = m } ∷ [])) e) [
+cut-turn None v (Replied i m place) n rs e = absurd (turned-not (sym (some-is _ _ (unrenewed v rs _ _ Turned (λ s r. cut-not s r) e))))
+cut-turn (Some b) v (Replied i m place) n rs e =
+    elim (replied-cases place _ Turned (progress-so b.request (rs ++ record { number = n; sending = i; message = m } ∷ []))
+    (unrenewed v rs _ _ Turned (λ s r. cut-not s r) e)) [
       | inl w ↦ absurd w.1
       | inr w ↦ record {
         sending = i;
@@ -277,10 +300,10 @@ cut-turn (Some b) (Replied i m place) n rs e =
             (some-is b a is) w.1;
       }
     ]
-cut-turn b Rejected n rs e = absurd cc
-cut-turn b Expired n rs e = absurd cc
-cut-turn b Nothing n rs e = absurd cc
-cut-turn b (Sent i) n rs e = absurd cc
+cut-turn b v Rejected n rs e = absurd cc
+cut-turn b v Expired n rs e = absurd cc
+cut-turn b v Nothing n rs e = absurd cc
+cut-turn b v (Sent i) n rs e = absurd cc
 
 -- A reply stands among the replies from then on, after those before it.
 replies-grow : (u : Turn) (n : ℕ) (rs : List Reply) → (h : List Reply) × (replies_by n u rs ≡ rs ++ h)

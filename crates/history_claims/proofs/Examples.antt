@@ -22,13 +22,13 @@ use Rattle.history_laws.proofs.CallerLemmas.{all_answered-holds, content-spelled
 use Rattle.history_claims.specs.Headline.{IsEntry, IsAsked, IsPending, IsShared, IsHeardFor, AreHeardFor}
 use Rattle.history_claims.specs.Causes.{AreCopies, IsGivenUp}
 use Rattle.history_claims.specs.Worked.{Answered, TimedOut, Rejected, GivenUp, Crossed, Foreseen, Early}
-use Rattle.history_claims.proofs.Resting.{rests-in}
+use Rattle.history_claims.proofs.Resting.{rests-heard}
 use Rattle.history_claims.proofs.Causes.{causes-in}
 
 pub answered : Answered
 answered = (
-  rests-in M.all_answered 11 5000 0 1 (9 ∷ []) all_answered-holds.0 refl,
-  rests-in M.all_answered 17 5300 1 4 (16 ∷ []) all_answered-holds.0 refl,
+  rests-heard M.all_answered 11 5000 0 1 (9 ∷ []) all_answered-holds.0 refl refl,
+  rests-heard M.all_answered 17 5300 1 4 (16 ∷ []) all_answered-holds.0 refl refl,
 )
 
 pub timed-out : TimedOut

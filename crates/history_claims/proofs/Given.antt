@@ -8,8 +8,9 @@ use Rattle.ask_model.specs.declared.cause.Cause.TheVariants as C
 use Rattle.ask_model.specs.Requests.{CoapRequest, Requests}
 use Rattle.ask_model.specs.Views.{Ask}
 use Rattle.journal_book.specs.Entries.{Grounds, Live, Kept, Fault, Deed, Opens, Asks, Sends, Hears, Passes, Answers, Shuts, Seals, Carries}
-use Rattle.history_laws.specs.Readings.{Noted, Note, Plain, Begins, Serves, carries, are_copies, entries, at, before, noted}
+use Rattle.history_laws.specs.Readings.{Noted, Note, Plain, Serves, carries, are_copies, entries, at, before, noted}
 use Rattle.history_laws.specs.Connections.{open_by, is_open, opened}
+use Rattle.history_laws.specs.Exchanges.{opens_by}
 use Rattle.history_laws.specs.Justified.{IsAsk, IsRefused, Caused, HasGrounds, reads_by, reads_in, reads, reads_open, pending, is_in_hand, Follows, Legal, AtRest, MayCome}
 use Rattle.history_laws.specs.Laws.{IsDone}
 use Rattle.history_laws.proofs.CallerLemmas.{at-before, at-below, at-entries, at-keeps, at-new, at-old, at-same, at-still, before-twice, follows-at, legal-before, none-some, open-below, range-passes, waited-or-answered}
@@ -34,8 +35,8 @@ serves-same js ns e = cc
 plain-serves : (js : List ℕ) → Plain ≡ Serves js → ⊥
 plain-serves js e = cc
 
-serves-begins : (js : List ℕ) (q : CoapRequest) → Serves js ≡ Begins q → ⊥
-serves-begins js q e = cc
+serves-opens : (js : List ℕ) (q : CoapRequest) → opens_by (Serves js) ≡ Some q → ⊥
+serves-opens js q e = none-some q e
 
 -- An entry is of a step that goes on, or its input, or a copy.
 step-or-input : (l : List Noted) (t : ℕ) (d : Deed) (note : Note) → Follows l t d note → IsDone d ⊎ (MayCome l ⊎ (are_copies l ≡ true))
@@ -150,7 +151,8 @@ module _ (l : List Noted) (k c t : ℕ) (a : Ask) (q : CoapRequest) (js : List �
     uncaused u j C.Media h = not-refused C.Media h.2
 
     kept-grounds : (g : Grounds) → HasGrounds (before l n) s k g → (s ≡ t) × (g ≡ Kept js)
-    kept-grounds (Live ns) h = absurd (reads-no h.0 h.4)
+    kept-grounds (Live ns) (inl h) = absurd (reads-no h.0 h.4)
+    kept-grounds (Live ns) (inr h) = absurd (reads-no h.0 h.4)
     kept-grounds (Kept ns) h =
         let same = at-same l k _ _ (at-before l n k _ h.2) here in (
           moments-same s t _ _ (Serves ns) (Serves js) same,
@@ -163,8 +165,8 @@ module _ (l : List Noted) (k c t : ℕ) (a : Ask) (q : CoapRequest) (js : List �
 
   unsent : IsUnsent (entries l) k k k q
   unsent =
-      unsent-in l k k k q legal (λ s i p m late. none-for-other l k c t a (Serves js) legal here (λ r e. serves-begins js r e) s i p m)
-      (λ s i p m late. none-for-other l k c t a (Serves js) legal here (λ r e. serves-begins js r e) s i p m)
+      unsent-in l k k k q legal (λ s i p m late. none-for-other l k c t a (Serves js) legal here (λ r e. serves-opens js r e) s i p m)
+      (λ s i p m late. none-for-other l k c t a (Serves js) legal here (λ r e. serves-opens js r e) s i p m)
 
   abbrev IsGiven : Type 0
   IsGiven = (n : ℕ) × IsEntry (entries l) n t (Answers c k (Kept js))

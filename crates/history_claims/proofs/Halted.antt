@@ -9,7 +9,7 @@ use Rattle.ask_model.specs.Requests.{CoapRequest}
 use Rattle.journal_book.specs.Entries.{Grounds, Answers, Hears}
 use Rattle.history_laws.specs.Readings.{Noted, Note, Says, Notice, entries, at, before, noted}
 use Rattle.history_laws.specs.Progress.{Reply, NotUnderstood, Turned, Progress, first_progress, progress, ended_by}
-use Rattle.history_laws.specs.Exchanges.{Begun, begun, Replied, turn, waits_for, replies, end_of, is_going}
+use Rattle.history_laws.specs.Exchanges.{kept, Begun, begun, Replied, turn, waits_for, replies, end_of, is_going}
 use Rattle.history_laws.specs.Hearing.{answers, notice_of, has_place}
 use Rattle.history_laws.specs.Justified.{Ends, MaySay, Follows, Legal}
 use Rattle.history_laws.specs.Laws.{IsFirst}
@@ -86,7 +86,7 @@ module _ (l : List Noted) (n t c k o : ℕ) (g : Grounds) (legal : Legal l) (not
       let end = ends-first (before l n) o j NotUnderstood h in
       let y : Noted = end.0 in
       let late = before (before l n) j in
-      let failed = failed-turn (begun late o) (turn late o y) j (replies late o) end.3 in
+      let failed = failed-turn (begun late o) (kept late o) (turn late o y) j (replies late o) end.3 in
       let it = failed.1 in
       let rs : List Reply = replies late o ++ record { number = j; sending = it.sending; message = it.message } ∷ [] in (
         below j y end.1,
@@ -135,7 +135,7 @@ module _ (l : List Noted) (n t c k o : ℕ) (g : Grounds) (legal : Legal l) (not
       let end = ends-first (before l n) o e Turned h in
       let y : Noted = end.0 in
       let late = before (before l n) e in
-      let it = cut-turn (begun late o) (turn late o y) e (replies late o) end.3 in
+      let it = cut-turn (begun late o) (kept late o) (turn late o y) e (replies late o) end.3 in
       let replied = turn-replied late o y it.sending it.message false it.is in
       let opened = opened-then e it.sending y it.message false end.1 it.is in
       let peer = heard-of e it.sending y it.message false end.1 it.is in

@@ -9,8 +9,8 @@ use Rattle.ask_model.specs.Views.{Ask}
 use Rattle.journal_book.specs.Entries.{Deed, Opens, Asks, Sends, Hears, Passes, Answers, Shuts, Seals, Carries}
 use Rattle.history_laws.specs.Readings.{Noted, Note, Serves, First, entries, at, before, noted}
 use Rattle.history_laws.specs.Connections.{is_sealed}
-use Rattle.history_laws.specs.Progress.{Ending, Whole}
-use Rattle.history_laws.specs.Exchanges.{Begun, begun, End, Nothing, Sent, turn, replies, end_here, end_of}
+use Rattle.history_laws.specs.Progress.{Ending, Whole, Renewed}
+use Rattle.history_laws.specs.Exchanges.{Begun, begun, End, Nothing, Sent, turn, replies, kept, end_here, end_of}
 use Rattle.history_laws.specs.Storing.{IsUse, IsUsedSince, KeysDiffer, IsCrowdedOut, ComesSo, IsStoring}
 use Rattle.history_laws.specs.Justified.{Follows, Legal, MayCome}
 use Rattle.history_laws.proofs.CallerLemmas.{asked-for, at-before, at-below, begun-before, begun-below, contains-later, contains-none, end-since, ends-first, first-or-later, follows-at, none-some, served-by, length-before, updates-since}
@@ -61,11 +61,11 @@ few-keys (x ∷ xs) ys differ there =
     omega (arith, size, ih)
 
 -- What ends an exchange is an input.
-sent-ends-none : (b : Bool) (l : List Noted) (o n i : ℕ) (how : Ending) → end_here (begun l o) n (replies l o) (cond b (Sent i) Nothing) ≡ Some how → ⊥
+sent-ends-none : (b : Bool) (l : List Noted) (o n i : ℕ) (how : Ending) → end_here (begun l o) (kept l o) n (replies l o) (cond b (Sent i) Nothing) ≡ Some how → ⊥
 sent-ends-none true l o n i how e = none-some how e
 sent-ends-none false l o n i how e = none-some how e
 
-sends-end-none : (l : List Noted) (o n t : ℕ) (d : Deed) (note : Note) (how : Ending) → end_here (begun l o) n (replies l o) (turn l o (noted t d note)) ≡ Some how
+sends-end-none : (l : List Noted) (o n t : ℕ) (d : Deed) (note : Note) (how : Ending) → end_here (begun l o) (kept l o) n (replies l o) (turn l o (noted t d note)) ≡ Some how
     → Follows l t d note → MayCome l
 sends-end-none l o n t (Hears p b) note how e may = may.0
 sends-end-none l o n t Passes note how e may = may.0
@@ -112,6 +112,29 @@ module _ (l : List Noted) (s u k : ℕ) (y : Noted) (q : CoapRequest) (legal : L
   later-than : (i : ℕ) (x : Noted) → u < i → at l i ≡ Some x → MayCome (before l i) → s < i
   later-than i x late stands come = elim (leb_tells i s) [ inl w ↦ absurd (quiet i x late w.1 stands come) | inr w ↦ w.1 ]
 
+  -- An exchange that ended since was asked for since, or was pending then.
+  ended-of : (i : ℕ) (key : CacheKey) (o since : ℕ) (r : CoapRequest) → u < i → begun (before l m) o ≡ Some (record { since = since; request = r })
+      → (how : Ending) → end_of (before l m) o ≡ Some (record { number = i; how = how }) → is_get r ≡ true → asked_key r ≡ key → IsAmong key
+  ended-of i key o since r late begun_then how ended_then get is =
+      let b : Begun = record { since = since; request = r } in
+      let opened = begun-before l m o b begun_then in
+      let ask = asked-for l o b legal opened in
+      let below = subst (λ (n : ℕ). o < n) size (begun-below (before l m) o b begun_then) in
+      let e : End = record { number = i; how = how } in
+      let ended = end-since l m o e ended_then in
+      let came = ends-come l o e legal ended in
+      let after = later-than i came.0 late came.1 came.2 in
+      let other : o ≡ s → ⊥ = λ same. unopened b (subst (λ (o : ℕ). begun l o ≡ Some b) same opened) in
+      subst IsAmong is
+      (few.all o r (record {
+        conn = ask.conn;
+        moment = since;
+        asked = asked-entry l o ask.conn since ask.ask _ (Requests r) ask.stands ask.sense;
+        before = omega (arith, below, le);
+        since = asked-since l s o y b e legal there unsealed opened ended (omega (arith, after)) other;
+      })
+      get)
+
   -- what was used since
   used-of : (i : ℕ) (key : CacheKey) → u < i → IsUse (before l m) i key → IsAmong key
   used-of i key late (inl it) =
@@ -126,29 +149,14 @@ module _ (l : List Noted) (s u k : ℕ) (y : Noted) (q : CoapRequest) (legal : L
         since = inl (later-than i _ late stands (asks-come (before l i) it.moment it.conn it.ask _ (follows-at l i _ legal stands)));
       })
       (served-get l it.moment i it.conn it.ask it.replies it.request legal stands it.sense))
-  used-of i key late (inr it) = stored-of i key late it it.comes
+  used-of i key late (inr (inr it)) =
+      ended-of i key it.opening it.since it.request late it.opened (Renewed it.kept it.reply) it.ended it.get it.is
+  used-of i key late (inr (inl it)) = stored-of i key late it it.comes
     where
       stored-of : (i : ℕ) (key : CacheKey) → u < i → (it : IsStoring (before l m) i key) → ComesSo (before l m) it.opening i it.response (it.first ∷ it.more)
           → IsAmong key
       stored-of i key late it (inl ends) =
-          let b : Begun = record { since = it.since; request = it.request } in
-          let opened = begun-before l m it.opening b it.opened in
-          let ask = asked-for l it.opening b legal opened in
-          let below = subst (λ (n : ℕ). it.opening < n) size (begun-below (before l m) it.opening b it.opened) in
-          let e : End = record { number = i; how = Whole it.response (it.first ∷ it.more) } in
-          let ended = end-since l m it.opening e ends.ended in
-          let came = ends-come l it.opening e legal ended in
-          let after = later-than i came.0 late came.1 came.2 in
-          let other : it.opening ≡ s → ⊥ = λ same. unopened b (subst (λ (o : ℕ). begun l o ≡ Some b) same opened) in
-          subst IsAmong it.is
-          (few.all it.opening it.request (record {
-            conn = ask.conn;
-            moment = it.since;
-            asked = asked-entry l it.opening ask.conn it.since ask.ask _ (Requests it.request) ask.stands ask.sense;
-            before = omega (arith, below, le);
-            since = asked-since l s it.opening y b e legal there unsealed opened ended (omega (arith, after)) other;
-          })
-          it.get)
+          ended-of i key it.opening it.since it.request late it.opened (Whole it.response (it.first ∷ it.more)) ends.ended it.get it.is
       stored-of i key late it (inr t) =
           let b : Begun = record { since = it.since; request = it.request } in
           let opened = begun-before l m it.opening b it.opened in

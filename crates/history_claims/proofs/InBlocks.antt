@@ -14,14 +14,14 @@ use Rattle.history_claims.specs.Headline.{AreHeardFor}
 use Rattle.history_claims.specs.Worked.{Uploaded, TurnedDown, LeftOut, Endless}
 use Rattle.history_claims.proofs.Causes.{causes-in}
 use Rattle.history_claims.proofs.Examples.{heard-texts, sense-same}
-use Rattle.history_claims.proofs.Resting.{rests-in}
+use Rattle.history_claims.proofs.Resting.{rests-heard}
 use Rattle.history_claims.proofs.Together.{requests-same}
 
 pub uploaded : Uploaded
-uploaded = rests-in U.uploaded 6 900 0 1 (3 ∷ 5 ∷ []) uploaded-holds.0 refl
+uploaded = rests-heard U.uploaded 6 900 0 1 (3 ∷ 5 ∷ []) uploaded-holds.0 refl refl
 
 pub turned-down : TurnedDown
-turned-down = rests-in U.turned_down 4 700 0 1 (3 ∷ []) turned_down-holds.0 refl
+turned-down = rests-heard U.turned_down 4 700 0 1 (3 ∷ []) turned_down-holds.0 refl refl
 
 pub endless : Endless
 endless = (causes-in U.endless 6 900 0 1 C.NotUnderstood 5 endless-holds.0 refl).1

@@ -1,11 +1,11 @@
 -- The worked journals that begin with what is stored, as entries.
-use Rattle.std.proofs.Common.{◌≡◌, ◌⊎◌, ℕ, ◌+◌, ◌<◌, Bool, true, false, eqb, inl, inr, List, [], ◌∷◌, length, Option, Some, refl, sym, ap, subst, arith, lit<}
+use Rattle.std.proofs.Common.{◌≡◌, ℕ, ◌+◌, ◌<◌, Bool, true, false, eqb, inl, inr, List, [], ◌∷◌, length, Option, Some, refl, sym, ap, subst, arith, lit<}
 use Rattle.std.proofs.lemmas.Bool.{false≢true, or_cases}
 use Rattle.coap_codec.specs.Spelling.{Content, Spells}
 use Rattle.coap_codec.proofs.Unique.{spells_one}
 use Rattle.uri_map.specs.declared.peer.Peer.{Peer}
 use Rattle.ask_model.specs.declared.cause.Cause.TheVariants as C
-use Rattle.ask_model.specs.Requests.{CoapRequest, request_message}
+use Rattle.ask_model.specs.Requests.{CoapRequest, Plainly, request_message}
 use Rattle.ask_model.specs.Views.{Ask}
 use Rattle.resp_cache.specs.Stored.{lifetime}
 use Rattle.journal_book.specs.Entries.{Ground, Asked, Heard, Live, Fault, Deed, Carries, Written}
@@ -16,25 +16,17 @@ use Rattle.history_laws.specs.WorkedCarried as A
 use Rattle.history_laws.specs.WorkedMessages as M
 use Rattle.history_laws.specs.WorkedStore.{get_bright}
 use Rattle.history_laws.proofs.CallerLemmas.{content-spelled, eqb-same, served_carried-holds, some-is}
-use Rattle.history_claims.specs.Headline.{IsServed, IsWriteAnswer}
-use Rattle.history_claims.specs.Carried.{IsAskCopied, IsCarriedFor, AreCarriedFor, IsServedCarried}
+use Rattle.history_claims.specs.Headline.{IsWriteAnswer}
+use Rattle.history_claims.specs.Carried.{IsAskCopied, IsCarriedFor, AreCarriedFor}
 use Rattle.history_claims.specs.Worked.{ServedCarried, CarriedLate, CarriedForAnother, CarriedOutrun}
 use Rattle.history_claims.proofs.Examples.{entry_of, places, moment-same, sense-same}
+use Rattle.history_claims.proofs.Plain.{ServedCopied, served-copied}
 use Rattle.history_claims.proofs.Served.{served-in}
 use Rattle.history_claims.proofs.Stored.{whole-age}
-use Rattle.history_claims.proofs.Together.{is_ask, requests-same}
+use Rattle.history_claims.proofs.Together.{requests-same}
 
 pub served-carried : ServedCarried
-served-carried = by (served-in A.served_carried 5 64999 2 4 (2 ∷ []) served_carried-holds.0 refl)
-  where
-    by : IsServed (entries A.served_carried) 64999 2 4 (2 ∷ []) ⊎ IsServedCarried (entries A.served_carried) 64999 2 4 (2 ∷ [])
-        → IsServedCarried (entries A.served_carried) 64999 2 4 (2 ∷ [])
-    by (inr s) = s
-    by (inl s) =
-        elim (or_cases (eqb s.opening 4) false (places is_ask (entries A.served_carried) (4 ∷ []) 6 s.opening s.moment _ refl refl s.other_asked.stands refl)) [
-          | inl w ↦ let four = eqb-same s.opening 4 w in let below = s.earlier in absurd (omega (arith, four, below))
-          | inr w ↦ absurd (false≢true w)
-        ]
+served-carried = served-in A.served_carried 5 64999 2 4 (2 ∷ []) served_carried-holds.0 refl
 
 -- not so
 
@@ -45,8 +37,11 @@ copied-texts t s n k p r b c e = go (ap (λ (x : Written). x.deed) (some-is _ _ 
     go f = cc
 
 pub carried-late : CarriedLate
-carried-late h = go h.messages h.heard h.whole
+carried-late is = go h.messages h.heard h.whole
   where
+    h : ServedCopied (entries A.carried_late) 65000 2 4 (2 ∷ [])
+    h = served-copied (entries A.carried_late) 65000 2 4 2 5000 9 Ground (Heard server M.content_bytes) refl is
+
     since : 5000 ≡ h.heard_at
     since = moment-same 5000 h.heard_at _ _ h.first.3
 
@@ -82,13 +77,16 @@ copied-sense t s n k c d a b e = go (ap (λ (x : Written). x.deed) (some-is _ _ 
     go f = ap (λ (a : Ask). a.sense) (same f)
 
 pub carried-for-another : CarriedForAnother
-carried-for-another h =
+carried-for-another is =
     let asks : h.request ≡ get_bright = sym (requests-same get_bright h.request (sense-same 64999 64999 2 2 (ask_for get_bright) _ h.asked.stands)) in
     let three : length (request_message h.request 0 []).options ≡ 3 = subst (λ (q : CoapRequest). length (request_message q 0 []).options ≡ 3) (sym asks) refl in
     let two : length (request_message h.copied 0 []).options ≡ 2 = subst (λ (q : CoapRequest). length (request_message q 0 []).options ≡ 2) asked refl in
-    let same : length (request_message h.request 0 []).options ≡ length (request_message h.copied 0 []).options = ap (λ (m : Content). length m.options) (h.same.2 false 0 []) in
+    let same : length (request_message h.request 0 []).options ≡ length (request_message h.copied 0 []).options = ap (λ (m : Content). length m.options) (h.same.2 Plainly 0 []) in
     absurd (omega (arith, three, two, same))
   where
+    h : ServedCopied (entries A.carried_for_another) 64999 2 4 (2 ∷ [])
+    h = served-copied (entries A.carried_for_another) 64999 2 4 2 5000 9 Ground (Heard server M.content_bytes) refl is
+
     place : h.opening ≡ 0
     place =
         elim (or_cases (eqb h.opening 0) false (places is_copied (entries A.carried_for_another) (0 ∷ []) 5 h.opening h.copied_asked.moment _ refl refl h.copied_asked.stands refl)) [
@@ -124,6 +122,17 @@ written =
     }
 
 pub carried-outrun : CarriedOutrun
-carried-outrun h =
+carried-outrun is =
     let asks : h.request ≡ M.get_light = sym (requests-same M.get_light h.request (sense-same 10001 10001 2 2 (ask_for M.get_light) _ h.asked.stands)) in
-    h.current 7 (subst (λ (q : CoapRequest). IsWriteAnswer (entries A.carried_outrun) q 7) (sym asks) written) (lit< tt)
+    early h.messages h.heard (h.current 7 (subst (λ (q : CoapRequest). IsWriteAnswer (entries A.carried_outrun) q 7) (sym asks) written) (lit< tt))
+  where
+    h : ServedCopied (entries A.carried_outrun) 10001 2 8 (2 ∷ [])
+    h = served-copied (entries A.carried_outrun) 10001 2 8 2 5000 9 Ground (Heard server M.content_bytes) refl is
+
+    early : (ms : List Content) → AreCarriedFor (entries A.carried_outrun) h.opening h.copied (2 ∷ []) ms → 7 < h.opening → ⊥
+    early [] heard lt = heard
+    early (m ∷ ms) heard lt =
+        let order = heard.0.order in
+        let sent = order.0 in
+        let came = order.1 in
+        absurd (omega (arith, lt, sent, came))

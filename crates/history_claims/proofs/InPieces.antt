@@ -18,11 +18,11 @@ use Rattle.history_claims.specs.Headline.{IsFirstSending, IsHeardFor, AreHeardFo
 use Rattle.history_claims.specs.Worked.{Fetched, Astray, asked_early, AskedEarly, Gap}
 use Rattle.history_claims.proofs.Causes.{causes-in}
 use Rattle.history_claims.proofs.Examples.{is_first, places, lies_in, texts, heard-texts, sense-same}
-use Rattle.history_claims.proofs.Resting.{rests-in}
+use Rattle.history_claims.proofs.Resting.{rests-heard}
 use Rattle.history_claims.proofs.Together.{requests-same}
 
 pub fetched : Fetched
-fetched = rests-in P.fetched 6 900 0 1 (3 ∷ 5 ∷ []) fetched-holds.0 refl
+fetched = rests-heard P.fetched 6 900 0 1 (3 ∷ 5 ∷ []) fetched-holds.0 refl refl
 
 pub gap : Gap
 gap = (causes-in P.gap_heard 6 900 0 1 C.NotUnderstood 5 gap_heard-holds.0 refl).1

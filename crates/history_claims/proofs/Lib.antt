@@ -41,6 +41,10 @@ mod InBlocks
 mod Quiet
 mod Waits
 mod Held
+mod Keeping
+mod Plain
+mod Messages
+mod Latest
 mod Told
 mod Given
 mod AtHand
@@ -54,3 +58,4 @@ mod Replied
 mod InWorked
 mod Observed
 mod InCopies
+mod InRenewed

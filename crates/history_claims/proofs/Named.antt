@@ -4,7 +4,7 @@ use Rattle.std.proofs.lemmas.Bool.{false≢true, or_cases}
 use Rattle.coap_codec.specs.Spelling.{Content, Spells}
 use Rattle.coap_codec.proofs.Unique.{spells_one}
 use Rattle.uri_map.specs.declared.peer.Peer.{Peer}
-use Rattle.ask_model.specs.Requests.{CoapRequest}
+use Rattle.ask_model.specs.Requests.{CoapRequest, Plainly}
 use Rattle.journal_book.specs.Entries.{Live, Done, Sent, done_of, Deed, Sends, Written}
 use Rattle.history_laws.specs.Readings.{entries}
 use Rattle.history_laws.specs.Worked.{server, ask_for}
@@ -70,7 +70,7 @@ sent =
       after = lit< tt;
       moment = 800;
       first = record { bytes = W.get_under 2 2; timeout = 2000; stands = refl; spelled = get-again-spelled };
-      asks = (false, refl);
+      asks = (Plainly, refl);
       issued = issued;
     }
 

@@ -7,7 +7,7 @@ use Rattle.coap_codec.specs.declared.message.MsgType.TheVariants.{Con, Non, Ack,
 use Rattle.coap_codec.specs.Spelling.{Content, Spells}
 use Rattle.coap_codec.proofs.Unique.{spells_one}
 use Rattle.uri_map.specs.declared.peer.Peer.{Peer}
-use Rattle.ask_model.specs.Requests.{CoapRequest, Sense, Requests, observe_message}
+use Rattle.ask_model.specs.Requests.{CoapRequest, Sense, Requests, Observing, observe_message}
 use Rattle.ask_model.specs.Sharing.{asked_key, is_get}
 use Rattle.ask_model.specs.Observing.{is_named}
 use Rattle.ask_model.specs.Views.{Ask}
@@ -77,7 +77,7 @@ notified-by l e w legal n =
     let first : IsFirst (before l e) fit.moment o r.sending q.peer (observe_message q fit.mid w.held.token) =
     subst (λ (i : ℕ). IsFirst (before l e) fit.moment o i q.peer (observe_message q fit.mid w.held.token)) (sym fit.under) fit.first in
     let fetched : IsFetched (before l e) o q None r =
-    record { fits = fits; moment = fit.moment; mid = fit.mid; token = w.held.token; observes = true; first = first } in
+    record { fits = fits; moment = fit.moment; mid = fit.mid; token = w.held.token; manner = Observing; first = first } in
     let heard = heard-so l e o r b _ None legal opened n.stands fit.replied fetched in
     let it : IsHeardFor (entries l) o q None r.number r.message = heard.0 in
     let sending : n.sending ≡ it.sending = f.sending ∙ (sym fit.under ∙ sym heard.1) in

@@ -18,15 +18,13 @@ use Rattle.history_claims.specs.Worked.{Updated, Outdated}
 use Rattle.history_claims.proofs.Examples.{places, lies_in, heard-texts, moment-same, sense-same}
 use Rattle.history_claims.proofs.InWorked.{is_hearing}
 use Rattle.history_claims.proofs.Repeats.{says-new}
-use Rattle.history_claims.proofs.Carried.{brought-alone}
+use Rattle.history_claims.proofs.Plain.{ServedHere, served-here}
 use Rattle.history_claims.proofs.Served.{served-in}
 use Rattle.history_claims.proofs.Stored.{no-copies}
 use Rattle.history_claims.proofs.Together.{is_ask, requests-same}
 
 pub updated : Updated
-updated =
-    brought-alone (entries O.served) 4000 1 9 (6 ∷ []) (no-copies (entries O.served) 11 refl refl)
-    (served-in O.served 10 4000 1 9 (6 ∷ []) served-holds.0 refl)
+updated = served-in O.served 10 4000 1 9 (6 ∷ []) served-holds.0 refl
 
 -- not so
 
@@ -133,7 +131,8 @@ the-one o c t r asked lt =
     ]
 
 pub outdated : Outdated
-outdated s =
+outdated is =
+    let s : ServedHere (entries O.served) 4000 1 9 (5 ∷ []) = served-here (entries O.served) 4000 1 9 5 (no-copies (entries O.served) 11 refl refl) is in
     let asks : s.request ≡ O.get_t = sym (requests-same O.get_t s.request (sense-same 4000 4000 1 1 (O.observed O.get_t) _ s.asked.stands)) in
     let it = s.newest server 6 (O.least 2) (lit< tt) (lit< tt) newer-one in
     let known = it.2 in

@@ -1,10 +1,10 @@
 -- For which ask each message was sent, and that those for a write are its message, or its body in blocks.
-use Rattle.std.proofs.Common.{◌≡◌, ◌≢◌, ◌⊎◌, ℕ, ◌+◌, ◌<◌, ◌≤◌, inl, inr, List, length, Option, Some, None, sym, ap, subst, ◌∙◌, false}
+use Rattle.std.proofs.Common.{◌≡◌, ◌≢◌, ◌⊎◌, ℕ, ◌+◌, ◌<◌, ◌≤◌, inl, inr, List, length, Option, Some, None, sym, ap, subst, ◌∙◌}
 use Rattle.coap_codec.specs.declared.block.Block.{Block}
 use Rattle.coap_codec.specs.Spelling.{Content}
 use Rattle.blockwise.specs.Reading.{offset_in}
 use Rattle.uri_map.specs.declared.peer.Peer.{Peer}
-use Rattle.ask_model.specs.Requests.{CoapRequest, Requests, block_message, carried_by}
+use Rattle.ask_model.specs.Requests.{CoapRequest, Requests, Plainly, block_message, carried_by}
 use Rattle.history_laws.specs.Readings.{Noted, Note, First, entries, at}
 use Rattle.history_laws.specs.Exchanges.{Begun, begun}
 use Rattle.history_laws.specs.Justified.{Legal}
@@ -95,7 +95,7 @@ sent-as-said law l legal i t p m f =
           let asks = so.0 ∙ (ap (λ (c : Option Block). block_message b.request c m.mid m.token) (sym (block-is l legal o b it.opened i own))
           ∙ sym (asking-plain b.request (block_in l i) m.mid m.token)) in (
             subst (λ (o : ℕ). IsSentFor (entries l) o b.request (block_in l i) i m) (sym own)
-                (sent-block (entries l) o b.request it.block (block_in l i) i m (false, asks) it.sent_for),
+                (sent-block (entries l) o b.request it.block (block_in l i) i m (Plainly, asks) it.sent_for),
             subst (Series l legal o b it.opened i) (sym own) (series-of l legal o b it.opened i own so.1),
           );
     }

@@ -11,9 +11,9 @@ use Rattle.ask_model.specs.declared.cause.Cause.TheVariants as C
 use Rattle.ask_model.specs.Requests.{CoapRequest, Requests, Refuses}
 use Rattle.ask_model.specs.Views.{Ask}
 use Rattle.journal_book.specs.Entries.{Grounds, Live, Kept, Fault, Asks}
-use Rattle.history_laws.specs.Readings.{Noted, Note, Plain, Begins, Serves, entries, at, before, noted}
+use Rattle.history_laws.specs.Readings.{Noted, Note, Plain, Begins, Renews, Serves, entries, at, before, noted}
 use Rattle.history_laws.specs.Connections.{is_sealed}
-use Rattle.history_laws.specs.Exchanges.{Begun, begun, is_going, goes_to, waits_for}
+use Rattle.history_laws.specs.Exchanges.{opens_by, Begun, begun, is_going, goes_to, waits_for}
 use Rattle.history_laws.specs.Justified.{IsRefused, Caused, HasGrounds, MayBeFirst, reads_by, reads_in, reads, Legal}
 use Rattle.history_laws.specs.Laws.{IsFirst}
 use Rattle.history_laws.proofs.CallerLemmas.{asked-for, at-before, at-same, before-twice, begun-before, begun-below, first-waits, follows-at, length-before, none-some, some-is}
@@ -26,14 +26,16 @@ use Rattle.history_claims.proofs.Unsent.{Over, over-still}
 use Rattle.history_claims.proofs.InTime.{going-in-time}
 
 -- An ask that opened an exchange is answered only when that is over.
-plain-begins : (s t : ℕ) (c d : ℕ) (a b : Ask) (q : CoapRequest) → noted s (Asks c a) Plain ≡ noted t (Asks d b) (Begins q) → ⊥
-plain-begins s t c d a b q e = go (ap (λ (x : Noted). x.note) e)
-  where
-    go : Plain ≡ Begins q → ⊥
-    go f = cc
+pub plain-opens : (note : Note) (q : CoapRequest) → opens_by note ≡ Some q → Plain ≡ note → ⊥
+plain-opens note q opens e = none-some q (ap opens_by e ∙ opens)
 
-serves-begins : (js : List ℕ) (q : CoapRequest) → Serves js ≡ Begins q → ⊥
-serves-begins js q e = cc
+pub serves-opens : (js : List ℕ) (note : Note) (q : CoapRequest) → opens_by note ≡ Some q → Serves js ≡ note → ⊥
+serves-opens js note q opens e = none-some q (ap opens_by e ∙ opens)
+
+pub opens-reads : (o : ℕ) (note : Note) (q : CoapRequest) → opens_by note ≡ Some q → reads_by o note ≡ Some o
+opens-reads o (Begins r) q e = refl
+opens-reads o (Renews r s) q e = refl
+opens-reads o note q e = cc
 
 pub senses : (s t : ℕ) (c d : ℕ) (a b : Ask) (u v : Note) → noted s (Asks c a) u ≡ noted t (Asks d b) v → a.sense ≡ b.sense
 senses s t c d a b u v e = go (ap (λ (x : Noted). x.written.deed) e)
@@ -47,11 +49,12 @@ senses s t c d a b u v e = go (ap (λ (x : Noted). x.written.deed) e)
 pub asks-something : (q : CoapRequest) (cause : Cause) (status : ℕ) → Refuses cause status ≡ Requests q → ⊥
 asks-something q cause status e = cc
 
-module _ (l : List Noted) (n o s d : ℕ) (b : Ask) (q : CoapRequest) (stands : at l o ≡ Some (noted s (Asks d b) (Begins q))) (sense : b.sense ≡ Requests q) where
+module _ (l : List Noted) (n o s d : ℕ) (b : Ask) (note : Note) (q : CoapRequest) (opens : opens_by note ≡ Some q) (stands : at l o ≡ Some (noted s (Asks d b) note))
+    (sense : b.sense ≡ Requests q) where
   not-refused : (cause : Cause) → IsRefused (before l n) o cause → ⊥
   not-refused cause h =
       let same = at-same l o _ _ (at-before l n o _ h.asked.stands) stands in
-      asks-something q cause h.status (sym h.sense ∙ (senses h.asked.moment s h.conn d h.ask b h.asked.note (Begins q) same ∙ sense))
+      asks-something q cause h.status (sym h.sense ∙ (senses h.asked.moment s h.conn d h.ask b h.asked.note note same ∙ sense))
 
   -- it reads what it opened
   own-read : (p : ℕ) → reads (before l n) o ≡ Some p → o ≡ p
@@ -60,12 +63,14 @@ module _ (l : List Noted) (n o s d : ℕ) (b : Ask) (q : CoapRequest) (stands : 
       go : (x : Option Noted) → at (before l n) o ≡ x → reads_in o x ≡ Some p → o ≡ p
       go None is e = absurd (none-some p e)
       go (Some x) is e =
-          some-is o p (subst (λ (v : Noted). reads_by o v.note ≡ Some p) (at-same l o x (noted s (Asks d b) (Begins q)) (at-before l n o x is) stands) e)
+          some-is o p
+          (sym (opens-reads o note q opens)
+          ∙ subst (λ (v : Noted). reads_by o v.note ≡ Some p) (at-same l o x (noted s (Asks d b) note) (at-before l n o x is) stands) e)
 
   over-cause : (t j : ℕ) (cause : Cause) → Caused (before l n) t o cause j → Over o (before l n)
   over-cause t j C.Busy h =
       elim (h.1) [
-        | inl away ↦ absurd (plain-begins away.moment s away.conn d away.ask b q (at-same l o _ _ (at-before l n o _ away.stands) stands))
+        | inl away ↦ absurd (plain-opens note q opens (ap (λ (x : Noted). x.note) (at-same l o _ _ (at-before l n o _ away.stands) stands)))
         | inr cut ↦ subst (λ (o : ℕ). Over o (before l n)) (sym (own-read cut.0 cut.2)) (inl (ap is_none cut.3))
       ]
   over-cause t j C.Timeout h =
@@ -79,8 +84,9 @@ module _ (l : List Noted) (n o s d : ℕ) (b : Ask) (q : CoapRequest) (stands : 
   over-cause t j C.Media h = absurd (not-refused C.Media h.2)
 
   pub over-grounds : (t : ℕ) (g : Grounds) → HasGrounds (before l n) t o g → Over o (before l n)
-  over-grounds t (Live js) h = subst (λ (o : ℕ). Over o (before l n)) (sym (own-read h.0 h.4)) (inl (ap is_none h.5))
-  over-grounds t (Kept js) h = absurd (serves-begins js q (ap (λ (x : Noted). x.note) (at-same l o _ _ (at-before l n o _ h.2) stands)))
+  over-grounds t (Live js) (inl h) = subst (λ (o : ℕ). Over o (before l n)) (sym (own-read h.0 h.4)) (inl (ap is_none h.5))
+  over-grounds t (Live js) (inr h) = subst (λ (o : ℕ). Over o (before l n)) (sym (own-read h.0 h.4)) (inl (ap is_none h.5))
+  over-grounds t (Kept js) h = absurd (serves-opens js note q opens (ap (λ (x : Noted). x.note) (at-same l o _ _ (at-before l n o _ h.2) stands)))
   over-grounds t (Fault cause j) h = over-cause t j cause h
 
 not-going : (l : List Noted) (o : ℕ) → is_sealed l ≡ false → is_going l o ≡ true → Over o l → ⊥
@@ -96,10 +102,10 @@ pending-is l k o x legal here unsealed going b opened =
         before = subst (λ (m : ℕ). o < m) (length-before l k x here) (begun-below (before l k) o b opened);
         conn = ask.conn;
         moment = b.since;
-        asked = asked-entry l o ask.conn b.since ask.ask (Begins b.request) (Requests b.request) ask.stands ask.sense;
+        asked = asked-entry l o ask.conn b.since ask.ask ask.note (Requests b.request) ask.stands ask.sense;
         unanswered = λ n t c g lt e.
             let it = answers-ask l n t c o g legal e in
-            let over = over-grounds l n o b.since ask.conn ask.ask b.request ask.stands ask.sense t g it.0.grounds in
+            let over = over-grounds l n o b.since ask.conn ask.ask ask.note b.request ask.opens ask.stands ask.sense t g it.0.grounds in
             let twice = before-twice l k n x here lt in
             not-going (before l k) o unsealed going (grows (Over o) (over-still o) (before l k) n (subst (Over o) (sym twice) over));
         in_time = λ n t after early e.

@@ -1,5 +1,5 @@
 -- Replies that came one after another, each to the message that was next.
-use Rattle.std.proofs.Common.{◌≡◌, ◌⊎◌, ℕ, zero, ◌<◌, true, cond, eqb, inl, inr, List, [], ◌∷◌, ◌++◌, length, Option, Some, None, refl, sym, ap, subst, ◌∙◌, arith, append_assoc, Bool, false}
+use Rattle.std.proofs.Common.{◌≡◌, ◌⊎◌, ℕ, zero, ◌<◌, true, cond, eqb, inl, inr, List, [], ◌∷◌, ◌++◌, length, Option, Some, None, refl, sym, ap, subst, ◌∙◌, arith, append_assoc}
 use Rattle.std.specs.Prelude.{fold}
 use Rattle.std.specs.List.{Contains}
 use Rattle.std.proofs.lemmas.List.Elements.{Contains-append_right, Contains-push}
@@ -7,7 +7,7 @@ use Rattle.coap_codec.specs.declared.block.Block.{Block}
 use Rattle.coap_codec.specs.Spelling.{Content}
 use Rattle.blockwise.specs.Downloads.{no_pieces}
 use Rattle.blockwise.specs.Uploads.{begun as begun_as, next_block}
-use Rattle.ask_model.specs.Requests.{CoapRequest, asking}
+use Rattle.ask_model.specs.Requests.{CoapRequest, Manner, Plainly, asking}
 use Rattle.journal_book.specs.Entries.{Written}
 use Rattle.history_laws.specs.Responses.{Response, whole_fetched, whole_given, whole_of}
 use Rattle.history_laws.specs.Readings.{Noted, entries, at, before}
@@ -49,16 +49,16 @@ replies-like h o r q u (x ∷ rs) like s = (next-like h o r q u x like s.0, repl
 
 pub progress-like : (r q : CoapRequest) (rs : List Reply) → IsLike r q → progress r rs ≡ progress q rs
 progress-like r q rs like =
-    ap (λ (m : Content). fold step (cond (eqb m.code 1) (Fetches 0 no_pieces []) (Gives (begun_as (length m.payload) 6) [])) rs) (like.message false 0 [])
+    ap (λ (m : Content). fold step (cond (eqb m.code 1) (Fetches 0 no_pieces []) (Gives (begun_as (length m.payload) 6) [])) rs) (like.message Plainly 0 [])
 
 pub point-like : (r q : CoapRequest) → IsLike r q → first_point r ≡ first_point q
 point-like r q like =
-    ap (λ (m : Content). cond (eqb m.code 1) (Fetched no_pieces) (Given (begun_as (length m.payload) 6))) (like.message false 0 [])
+    ap (λ (m : Content). cond (eqb m.code 1) (Fetched no_pieces) (Given (begun_as (length m.payload) 6))) (like.message Plainly 0 [])
 
 pub whole-like : (r q : CoapRequest) (ms : List Content) → IsLike r q → whole_of r ms ≡ whole_of q ms
 whole-like r q [] like = refl
 whole-like r q (m ∷ ms) like =
-    ap (λ (n : Content). cond (eqb n.code 1) (whole_fetched m ms) (whole_given (begun_as (length n.payload) 6) (m ∷ ms))) (like.message false 0 [])
+    ap (λ (n : Content). cond (eqb n.code 1) (whole_fetched m ms) (whole_given (begun_as (length n.payload) 6) (m ∷ ms))) (like.message Plainly 0 [])
 
 -- The last of replies is one for some block, or none.
 pub last-reply : (h : List Written) (o : ℕ) (q : CoapRequest) (u : Progress) (others : List Reply) (last : Reply)
@@ -81,8 +81,8 @@ still-going l o b rs opened going all =
     subst (λ (rs : List Reply). ended_by true (progress b.request rs) ≡ None) all (going-ended (progress b.request (replies l o)) it.0)
 
 -- What came next came to a message that asks for the block that was next.
-asked-next : (l : List Noted) (o : ℕ) (q : CoapRequest) (rs : List Reply) (r : Reply) (block : Option Block) (f : Bool) (h : CameNext l o q rs r)
-    → next_message h.observes q (progress q rs) h.message.mid h.message.token ≡ Some (asking f q block h.message.mid h.message.token)
+asked-next : (l : List Noted) (o : ℕ) (q : CoapRequest) (rs : List Reply) (r : Reply) (block : Option Block) (f : Manner) (h : CameNext l o q rs r)
+    → next_message h.manner q (progress q rs) h.message.mid h.message.token ≡ Some (asking f q block h.message.mid h.message.token)
     → IsFetched l o q block r
 asked-next l o q rs r block f h e =
     let message : asking f q block h.message.mid h.message.token ≡ h.message = some-is _ _ (sym e ∙ h.next) in
@@ -91,7 +91,7 @@ asked-next l o q rs r block f h e =
       moment = h.moment;
       mid = h.message.mid;
       token = h.message.token;
-      observes = f;
+      manner = f;
       first = subst (λ (m : Content). IsFirst l h.moment o r.sending q.peer m) (sym message) h.first;
     }
 
@@ -201,15 +201,15 @@ module _ (l : List Noted) (n o : ℕ) (b : Begun) (x : Noted) (legal : Legal l) 
   next-reply s rs r after has h (Fetches k p got) is =
       reply-since (entries l) o s b.request (block_after p) r after
       (heard-in l n o r b x (block_after p) legal opened here has
-      (asked-next (before l n) o b.request rs r (block_after p) h.observes h (ap (λ (u : Progress). next_message h.observes b.request u h.message.mid h.message.token) is)))
+      (asked-next (before l n) o b.request rs r (block_after p) h.manner h (ap (λ (u : Progress). next_message h.manner b.request u h.message.mid h.message.token) is)))
   next-reply s rs r after has h (Gives v got) is =
       reply-since (entries l) o s b.request (next_block v) r after
       (heard-in l n o r b x (next_block v) legal opened here has
-      (asked-next (before l n) o b.request rs r (next_block v) false h
-      (ap (λ (u : Progress). next_message h.observes b.request u h.message.mid h.message.token) is
+      (asked-next (before l n) o b.request rs r (next_block v) Plainly h
+      (ap (λ (u : Progress). next_message h.manner b.request u h.message.mid h.message.token) is
       ∙ ap (λ (m : Content). Some m) (sym (asking-plain b.request (next_block v) h.message.mid h.message.token)))))
   next-reply s rs r after has h (Ends how) is =
-      absurd (none-some _ (sym (ap (λ (u : Progress). next_message h.observes b.request u h.message.mid h.message.token) is) ∙ h.next))
+      absurd (none-some _ (sym (ap (λ (u : Progress). next_message h.manner b.request u h.message.mid h.message.token) is) ∙ h.next))
 
   placed-in : (done rest more : List Reply) (r : Reply) → replies (before l n) o ≡ done ++ (r ∷ (rest ++ more)) → Contains (replies (before l n) o) r
   placed-in done rest more r e =

@@ -3,11 +3,12 @@ use Rattle.std.proofs.Common.{◌≡◌, ◌⊎◌, ℕ, ◌<◌, ◌≤◌, tru
 use Rattle.coap_codec.specs.Spelling.{Content}
 use Rattle.uri_map.specs.declared.peer.Peer.{Peer}
 use Rattle.ask_model.specs.Requests.{CoapRequest, Requests}
+use Rattle.ask_model.specs.Sharing.{is_get, asks_same}
 use Rattle.ask_model.specs.Views.{Ask}
 use Rattle.journal_book.specs.Entries.{Deed, Asks}
-use Rattle.history_laws.specs.Readings.{Noted, Note, Begins, entries, at, before, noted}
+use Rattle.history_laws.specs.Readings.{Noted, Note, entries, at, before, noted}
 use Rattle.history_laws.specs.Progress.{Ending}
-use Rattle.history_laws.specs.Exchanges.{Begun, begun, openings, is_going}
+use Rattle.history_laws.specs.Exchanges.{opens_by, Begun, begun, openings, is_going}
 use Rattle.history_laws.specs.Justified.{IsAsk, Ends, reads_in, reads, Legal}
 use Rattle.history_laws.specs.Laws.{IsFirst}
 use Rattle.history_laws.proofs.CallerLemmas.{at-before, at-below, at-same, before-twice, begun-early, begun-opening, filtered-from, legal-before, length-before, reader, Reader, ReadsAlong, reads-opened, some-is}
@@ -15,8 +16,9 @@ use Rattle.history_claims.specs.Headline.{IsJoined, IsShared}
 use Rattle.history_claims.proofs.Alike.{IsLike, like-get, same-get, reader-like}
 use Rattle.history_claims.proofs.Asking.{asked-by}
 use Rattle.history_claims.proofs.Hands.{ends-after, ends-later}
-use Rattle.history_claims.proofs.Pending.{pending-is}
+use Rattle.history_claims.proofs.Pending.{opens-reads, pending-is}
 use Rattle.history_claims.proofs.Unsent.{none-for-other}
+use Rattle.history_claims.proofs.Unshared.{asks-itself}
 use Rattle.history_claims.proofs.Written.{unsealed, fresh-at}
 
 pub record Reads (l : List Noted) (n c k o : ℕ) : Type 0 where
@@ -24,6 +26,7 @@ pub record Reads (l : List Noted) (n c k o : ℕ) : Type 0 where
   pub opened : begun l o ≡ Some exchange
   pub request : CoapRequest
   pub like : IsLike exchange.request request
+  pub same : is_get exchange.request ≡ true → asks_same request exchange.request ≡ true
   pub shared : IsShared (entries l) c k request o exchange.since
   pub not_later : o ≤ k
   -- it ends after the ask
@@ -39,8 +42,8 @@ module _ (l : List Noted) (k o : ℕ) (legal : Legal l) (it : Reader l k o) wher
   own-since : o ≡ k → it.exchange.since ≡ it.asked.moment
   own-since own =
       let opening = begun-opening l o it.exchange it.opened in
-      let here = subst (λ (i : ℕ). at l i ≡ Some (noted it.exchange.since opening.0 (Begins it.exchange.request))) own opening.1 in
-      moments-same it.exchange.since it.asked.moment opening.0 (Asks it.conn it.ask) (Begins it.exchange.request) it.asked.note
+      let here = subst (λ (i : ℕ). at l i ≡ Some (noted it.exchange.since opening.0 opening.1)) own opening.2 in
+      moments-same it.exchange.since it.asked.moment opening.0 (Asks it.conn it.ask) opening.1 it.asked.note
       (at-same l k _ _ here it.asked.stands)
 
   -- and what it joined is that of a pending ask
@@ -65,8 +68,10 @@ module _ (l : List Noted) (k o : ℕ) (legal : Legal l) (it : Reader l k o) wher
   shares = elim (it.way) [ inl own ↦ inl (own.0, own-since own.0) | inr along ↦ inr (joined along) ]
 
 -- an ask that opened an exchange reads that
-begins-own : (l : List Noted) (k o t : ℕ) (d : Deed) (q : CoapRequest) → at l k ≡ Some (noted t d (Begins q)) → reads l k ≡ Some o → k ≡ o
-begins-own l k o t d q here own = some-is k o (subst (λ (x : Option Noted). reads_in k x ≡ Some o) here own)
+opens-own : (l : List Noted) (k o t : ℕ) (d : Deed) (note : Note) (q : CoapRequest) → opens_by note ≡ Some q → at l k ≡ Some (noted t d note)
+    → reads l k ≡ Some o → k ≡ o
+opens-own l k o t d note q opens here own =
+    some-is k o (sym (opens-reads k note q opens) ∙ subst (λ (x : Option Noted). reads_in k x ≡ Some o) here own)
 
 pub reads-at : (l : List Noted) (n c k o : ℕ) (a : Ask) (x : Noted) → Legal l → at l n ≡ Some x → IsAsk (before l n) k c a → reads (before l n) k ≡ Some o
     → Reads l n c k o
@@ -80,6 +85,7 @@ reads-at l n c k o a x legal here ask e =
       opened = it.opened;
       request = it.request;
       like = reader-like l k o it;
+      same = same it;
       shared = record {
         moment = it.asked.moment;
         asked = asked-by l n c k a (Requests it.request) it.asked.moment it.conn it.ask it.asked.note ask it.asked.stands it.sense;
@@ -90,6 +96,14 @@ reads-at l n c k o a x legal here ask e =
       sent = sent own it;
     }
   where
+    same : (it : Reader l k o) → is_get it.exchange.request ≡ true → asks_same it.request it.exchange.request ≡ true
+    same it get =
+        elim (it.way) [
+          | inl own ↦
+              subst (λ (r : CoapRequest). asks_same r it.exchange.request ≡ true) (sym own.1) (asks-itself it.exchange.request get)
+          | inr along ↦ along.same
+        ]
+
     later : (it : Reader l k o) (e : ℕ) (how : Ending) → Ends (before l n) o e how → k < e
     later it e how ended =
         elim (it.way) [
@@ -103,10 +117,9 @@ reads-at l n c k o a x legal here ask e =
               ends-later (before l n) k c o e a how ask (subst (λ (v : List Noted). is_going v o ≡ true) (sym twice) (is-going-then l k o legal it along)) ended
         ]
 
-    opens-none : reads l k ≡ Some o → (it : Reader l k o) → ReadsAlong l k o it.request it.exchange → (q : CoapRequest) → it.asked.note ≡ Begins q → ⊥
+    opens-none : reads l k ≡ Some o → (it : Reader l k o) → ReadsAlong l k o it.request it.exchange → (q : CoapRequest) → opens_by it.asked.note ≡ Some q → ⊥
     opens-none own it along q is =
-        let here = subst (λ (note : Note). at l k ≡ Some (noted it.asked.moment (Asks it.conn it.ask) note)) is it.asked.stands in
-        let same = begins-own l k o it.asked.moment (Asks it.conn it.ask) q here own in
+        let same = opens-own l k o it.asked.moment (Asks it.conn it.ask) it.asked.note q is it.asked.stands own in
         let lt = along.earlier in
         absurd (omega (arith, same, lt))
 

@@ -8,7 +8,7 @@ use Rattle.std.proofs.lemmas.List.Elements.{Contains-push}
 use Rattle.coap_codec.specs.Spelling.{Content}
 use Rattle.uri_map.specs.declared.peer.Peer.{Peer}
 use Rattle.journal_book.specs.Entries.{Sends}
-use Rattle.history_laws.specs.Readings.{Noted, First, Begins, entries, at, before, noted}
+use Rattle.history_laws.specs.Readings.{Noted, First, entries, at, before, noted}
 use Rattle.history_laws.specs.Progress.{Reply}
 use Rattle.history_laws.specs.Transmissions.{sent_last}
 use Rattle.history_laws.specs.Exchanges.{Begun, begun, end_of, is_going, goes_to, waits_for, replies}
@@ -92,7 +92,7 @@ module _ (l : List Noted) (legal : Legal l) (o : ℕ) (b : Begun) (opened : begu
       by (Some k) e earlier =
           let ask = asked-for l o b legal opened in
           let after = (sent-for l t o j q n legal g).after in
-          let last = sent-last-first (before l j) o k ask.conn b.since ask.ask (Begins b.request) (legal-before l j legal) (at-still l j o _ _ g.stands after ask.stands) e in
+          let last = sent-last-first (before l j) o k ask.conn b.since ask.ask ask.note (legal-before l j legal) (at-still l j o _ _ g.stands after ask.stands) e in
           let le = last-newest (before l j) s o i k p m e there in
           let below = subst (λ (n : ℕ). k < n) (length-before l j _ g.stands) (at-below (before l j) k _ last.3.stands) in
           elim (eqb_tells i k) [

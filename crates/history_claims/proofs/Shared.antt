@@ -1,26 +1,32 @@
 -- A reply is part of the answers to one ask, or to GETs for the same.
-use Rattle.std.proofs.Common.{◌≡◌, ◌⊎◌, ℕ, true, inl, inr, List, Option, Some, sym, ap, subst, ◌∙◌, None}
+use Rattle.std.proofs.Common.{◌≡◌, ◌⊎◌, ℕ, zero, suc, ◌<◌, true, inl, inr, List, ◌∷◌, Option, Some, sym, ap, subst, ◌∙◌, None, arith}
 use Rattle.std.specs.List.{Contains}
+use Rattle.std.proofs.lemmas.List.Elements.{Contains-push_cases}
 use Rattle.coap_codec.specs.Spelling.{Content}
 use Rattle.uri_map.specs.declared.peer.Peer.{Peer}
 use Rattle.ask_model.specs.Requests.{CoapRequest, Requests, asking}
 use Rattle.ask_model.specs.Sharing.{asks_same}
 use Rattle.ask_model.specs.Views.{Ask}
 use Rattle.journal_book.specs.Entries.{Grounds, Live, Kept, Fault, Mark, Ground, Done, Sent, Heard, Deed, Sends, Hears, Answers, Carries, Written}
-use Rattle.history_laws.specs.Readings.{Noted, Note, First, Says, Recalls, Answered, Notice, entries, at, before, noted}
+use Rattle.history_laws.specs.Readings.{Noted, Note, Serves, First, Says, Recalls, Answered, Notice, entries, at, before, noted}
 use Rattle.history_laws.specs.Progress.{Reply}
 use Rattle.history_laws.specs.Exchanges.{Begun, begun}
 use Rattle.history_laws.specs.Transmissions.{firsts}
 use Rattle.history_laws.specs.Carrying.{carried}
+use Rattle.resp_cache.specs.Stored.{Stored}
+use Rattle.history_laws.specs.Storing.{IsAsHeard, IsStored}
 use Rattle.history_laws.specs.Justified.{IsAsk, Legal, Stands}
-use Rattle.history_laws.specs.Laws.{IsFirst, IsAnswer, IsReplyTo, RestsOn, RestsOnStored, RestsOnCarried, IsCarriedReply, replies_in}
-use Rattle.history_laws.proofs.CallerLemmas.{at-same, begun-before, carried-before, contains-none, firsts-tokens, reader, rests-on-its-own, rests-on-the-store, shared-is, some-is}
+use Rattle.history_laws.specs.Laws.{IsFirst, IsAnswer, IsReplyTo}
+use Rattle.history_laws.specs.Grounds.{RestsOn, RestsOnKept, IsCarriedReply, replies_in}
+use Rattle.history_laws.proofs.CallerLemmas.{at-same, begun-before, carried-before, carried-fit, comes-fit, comes-since, contains-none, firsts-tokens, heard-of, kept-listed, kept-served, legal-before, number-of, reader, renewed-here, renews-for, reply-before, rests-on-its-own, shared-is, some-is}
 use Rattle.history_claims.specs.Headline.{IsEntry}
 use Rattle.history_claims.specs.Apart.{AreSameGets}
 use Rattle.history_claims.proofs.Entries.{asked-entry}
 use Rattle.history_claims.proofs.Apart.{answer-at}
 use Rattle.history_claims.proofs.Carried.{asking-token}
 use Rattle.history_claims.proofs.Sending.{carried-member, sending_of}
+use Rattle.history_claims.proofs.Quiet.{asks-through}
+use Rattle.history_claims.proofs.Unshared.{asks-itself}
 use Rattle.history_claims.proofs.Alike.{IsLike, asks-like, like-method, reader-like, reader-get, same-get}
 
 -- a reply came to one first sending, which is that of one exchange
@@ -73,25 +79,6 @@ rests-live l k n legal a =
       fits = a.fits;
     }
 
-rests-kept : (l : List Noted) (k n : ℕ) → RestsOnStored l k n → Rests l k n
-rests-kept l k n a =
-    let it = shared-is (before l k) a.request a.is.opening a.is.shared in
-    record {
-      conn = a.conn;
-      ask = a.ask;
-      request = a.request;
-      asked = a.asked;
-      sense = a.sense;
-      opening = a.is.opening;
-      exchange = it.exchange;
-      opened = begun-before l k a.is.opening it.exchange it.opened;
-      like = asks-like a.request it.exchange.request it.same;
-      way = inr (same-get a.request it.exchange.request it.same);
-      reply = a.reply;
-      number = a.number;
-      fits = a.fits;
-    }
-
 -- or one whose answer rests on the copy of a reply
 record RestsCopied (l : List Noted) (k n : ℕ) : Type 0 where
   conn : ℕ
@@ -107,29 +94,159 @@ record RestsCopied (l : List Noted) (k n : ℕ) : Type 0 where
   number : reply.number ≡ n
   fits : IsCarriedReply l opening exchange.request reply
 
-rests-copied : (l : List Noted) (k n : ℕ) → RestsOnCarried l k n → RestsCopied l k n
-rests-copied l k n a = record {
-  conn = a.conn;
-  ask = a.ask;
-  request = a.request;
-  asked = a.asked;
-  sense = a.sense;
-  opening = a.is.opening;
-  exchange = a.is.carries.exchange;
-  carries = carried-before l k a.is.opening a.is.carries.exchange a.is.carries.asked;
-  same = a.is.same;
-  reply = a.reply;
-  number = a.number;
-  fits = a.fits;
-}
+-- What is stored for an ask rests on such a reply, or on a copy.
+record For (l : List Noted) (q : CoapRequest) (n : ℕ) : Type 0 where
+  opening : ℕ
+  exchange : Begun
+  opened : begun l opening ≡ Some exchange
+  same : asks_same q exchange.request ≡ true
+  reply : Reply
+  number : reply.number ≡ n
+  fits : IsReplyTo l opening reply
+
+record CopiedFor (l : List Noted) (q : CoapRequest) (n : ℕ) : Type 0 where
+  opening : ℕ
+  exchange : Begun
+  carries : carried l opening ≡ Some exchange
+  same : asks_same q exchange.request ≡ true
+  reply : Reply
+  number : reply.number ≡ n
+  fits : IsCarriedReply l opening exchange.request reply
+
+again : (l : List Noted) (q r : CoapRequest) (n : ℕ) → asks_same q r ≡ true → For l r n ⊎ CopiedFor l r n → For l q n ⊎ CopiedFor l q n
+again l q r n e (inl h) = inl (record {
+  opening = h.opening;
+  exchange = h.exchange;
+  opened = h.opened;
+  same = asks-through q r h.exchange.request e h.same;
+  reply = h.reply;
+  number = h.number;
+  fits = h.fits;
+})
+again l q r n e (inr h) = inr (record {
+  opening = h.opening;
+  exchange = h.exchange;
+  carries = h.carries;
+  same = asks-through q r h.exchange.request e h.same;
+  reply = h.reply;
+  number = h.number;
+  fits = h.fits;
+})
+
+heard-for : (l : List Noted) (k : ℕ) (x : Noted) (q : CoapRequest) (s : Stored) (j : ℕ) → Legal l → at l k ≡ Some x → IsAsHeard (before l k) q s
+    → Contains s.list j → For l q j ⊎ CopiedFor l q j
+heard-for l k x q s j legal here (inl is) has =
+    let it = shared-is (before l k) q is.opening is.shared in
+    let rs : List Reply = is.first ∷ is.more in
+    let r = number-of rs j (subst (λ (js : List ℕ). Contains js j) is.list has) in
+    inl (record {
+      opening = is.opening;
+      exchange = it.exchange;
+      opened = begun-before l k is.opening it.exchange it.opened;
+      same = it.same;
+      reply = r.0;
+      number = r.2;
+      fits = comes-fit l is.opening is.ending s.response rs r.0 legal (comes-since l k x is.opening is.ending s.response rs here is.comes) r.1;
+    })
+heard-for l k x q s j legal here (inr is) has =
+    let rs : List Reply = is.first ∷ is.more in
+    let r = number-of rs j (subst (λ (js : List ℕ). Contains js j) is.list has) in
+    let b : Begun = is.carries.exchange in
+    inr (record {
+      opening = is.opening;
+      exchange = b;
+      carries = carried-before l k is.opening b is.carries.asked;
+      same = is.same;
+      reply = r.0;
+      number = r.2;
+      fits = reply-before l k is.opening b.request r.0
+          (carried-fit (before l k) is.opening b r.0 (legal-before l k legal) is.carries.asked
+          (subst (λ (rs : List Reply). Contains rs r.0) (sym is.carries.replies) r.1));
+    })
+
+stored-for : (fuel : ℕ) (l : List Noted) (k : ℕ) (x : Noted) (q : CoapRequest) (s : Stored) (j : ℕ) → k < fuel → Legal l → at l k ≡ Some x
+    → IsStored (before l k) q s → Contains s.list j → For l q j ⊎ CopiedFor l q j
+stored-for zero l k x q s j lt legal here is has = absurd (omega (arith, lt))
+stored-for (suc fuel) l k x q s j lt legal here (inl u) has = heard-for l k x q s j legal here (heard-of (before l k) q s u) has
+stored-for (suc fuel) l k x q s j lt legal here (inr it) has =
+    let n = renewed-here l k x q s legal here it in
+    let earlier = n.earlier in
+    elim (Contains-push_cases it.renewal.kept.list it.renewal.reply.number j (subst (λ (js : List ℕ). Contains js j) it.list has)) [
+      | inl w ↦
+          again l q n.exchange.request j n.same
+          (stored-for fuel l n.opening _ n.exchange.request n.renews.stored j (omega (arith, lt, earlier)) legal n.renews.stands n.renews.is
+          (kept-listed (before l n.opening) it.renewal.kept n.renews.stored j n.renews.pieces w))
+      | inr w ↦ inl (record {
+        opening = n.opening;
+        exchange = n.exchange;
+        opened = n.opened;
+        same = n.same;
+        reply = it.renewal.reply;
+        number = w;
+        fits = n.fits.fits;
+      })
+    ]
+
+rests-for : (l : List Noted) (k n c : ℕ) (a : Ask) (q : CoapRequest) → IsAsk l k c a → a.sense ≡ Requests q → For l q n ⊎ CopiedFor l q n
+    → Rests l k n ⊎ RestsCopied l k n
+rests-for l k n c a q asked sense (inl h) = inl (record {
+  conn = c;
+  ask = a;
+  request = q;
+  asked = asked;
+  sense = sense;
+  opening = h.opening;
+  exchange = h.exchange;
+  opened = h.opened;
+  like = asks-like q h.exchange.request h.same;
+  way = inr (same-get q h.exchange.request h.same);
+  reply = h.reply;
+  number = h.number;
+  fits = h.fits;
+})
+rests-for l k n c a q asked sense (inr h) = inr (record {
+  conn = c;
+  ask = a;
+  request = q;
+  asked = asked;
+  sense = sense;
+  opening = h.opening;
+  exchange = h.exchange;
+  carries = h.carries;
+  same = h.same;
+  reply = h.reply;
+  number = h.number;
+  fits = h.fits;
+})
+
+-- So does what an exchange keeps that an ask reads.
+rests-older : (l : List Noted) (k n : ℕ) → Legal l → RestsOnKept l k n → Rests l k n ⊎ RestsCopied l k n
+rests-older l k n legal h =
+    let it = reader l k h.opening legal h.reads in
+    let for_it = renews-for l h.opening h.exchange _ legal h.opened h.keeps in
+    let same : it.exchange ≡ h.exchange = some-is _ _ (sym it.opened ∙ h.opened) in
+    let asks : asks_same it.request h.exchange.request ≡ true =
+    elim (it.way) [
+      | inl own ↦
+          subst (λ (r : CoapRequest). asks_same r h.exchange.request ≡ true) (sym (own.1 ∙ ap (λ (b : Begun). b.request) same))
+          (asks-itself h.exchange.request for_it.get)
+      | inr along ↦ subst (λ (b : Begun). asks_same it.request b.request ≡ true) same along.same
+    ] in
+    rests-for l k n it.conn it.ask it.request it.asked it.sense
+    (again l it.request h.exchange.request n asks
+    (stored-for (suc h.opening) l h.opening _ h.exchange.request h.stored n (omega arith) legal for_it.stands h.is h.listed))
 
 rests : (l : List Noted) (i c k n : ℕ) (g : Grounds) → Legal l → IsAnswer l i c k g → Contains (replies_in g) n → Rests l k n ⊎ RestsCopied l k n
-rests l i c k n (Live js) legal a has = inl (rests-live l k n legal (rests-on-its-own l i c k n js legal a has))
+rests l i c k n (Live js) legal a has = by (rests-on-its-own l i c k n js legal a has)
+  where
+    by : RestsOn l k n ⊎ RestsOnKept l k n → Rests l k n ⊎ RestsCopied l k n
+    by (inl h) = inl (rests-live l k n legal h)
+    by (inr h) = rests-older l k n legal h
 rests l i c k n (Kept js) legal a has =
-    elim (rests-on-the-store l i a.moment c k n a.note js legal a.stands has) [
-      | inl it ↦ inl (rests-kept l k n it.0)
-      | inr it ↦ inr (rests-copied l k n it.0)
-    ]
+    let it = kept-served l i a.moment c k a.note js legal a.stands in
+    let s = it.2 in
+    rests-for l k n it.0 it.1 s.request (record { moment = a.moment; note = Serves js; stands = s.stands }) s.sense
+    (stored-for (suc k) l k _ s.request s.stored n (omega arith) legal s.stands s.is (subst (λ (ns : List ℕ). Contains ns n) (sym s.list) has))
 rests l i c k n (Fault cause j) legal a has = absurd (contains-none n has)
 
 one-exchange : (l : List Noted) (k o n : ℕ) (a : Rests l k n) (b : Rests l o n) → a.opening ≡ b.opening
@@ -144,8 +261,8 @@ like-both : (q r x y : CoapRequest) → x ≡ y → IsLike x q → IsLike y r �
 like-both q r x y same a b =
     record {
       peer = sym a.peer ∙ (ap (λ (q : CoapRequest). q.peer) same ∙ b.peer);
-      message = λ observes mid token.
-          sym (a.message observes mid token) ∙ (ap (λ (q : CoapRequest). asking observes q None mid token) same ∙ b.message observes mid token);
+      message = λ manner mid token.
+          sym (a.message manner mid token) ∙ (ap (λ (q : CoapRequest). asking manner q None mid token) same ∙ b.message manner mid token);
     }
 
 gets-same : (l : List Noted) (k o c d : ℕ) (a b : Ask) (q r : CoapRequest) (f : IsAsk l k c a) → a.sense ≡ Requests q → (g : IsAsk l o d b) → b.sense ≡ Requests r
@@ -222,14 +339,14 @@ module _ (l : List Noted) (k o n : ℕ) (legal : Legal l) (a : RestsCopied l k n
       (a.number ∙ sym b.number) a.fits.heard) b.fits.heard)
 
   abbrev sent : {j : ℕ} → RestsCopied l j n → Content
-  sent x = asking x.fits.observes x.exchange.request x.fits.block x.fits.mid x.reply.message.token
+  sent x = asking x.fits.manner x.exchange.request x.fits.block x.fits.mid x.reply.message.token
 
   listed : {j : ℕ} → (x : RestsCopied l j n) → Contains (firsts l) (sending_of x.reply.sending x.fits.sent_at x.opening x.exchange.request.peer (sent x))
   listed x =
       carried-member l x.reply.sending x.fits.sent_at x.fits.old x.opening Ground x.exchange.request.peer x.fits.text x.fits.timeout (sent x) x.fits.sent
 
   token : {j : ℕ} → (x : RestsCopied l j n) → (sent x).token ≡ x.reply.message.token
-  token x = asking-token x.fits.observes x.exchange.request x.fits.block x.fits.mid x.reply.message.token
+  token x = asking-token x.fits.manner x.exchange.request x.fits.block x.fits.mid x.reply.message.token
 
   sending : a.reply.sending ≡ b.reply.sending
   sending =

@@ -1,5 +1,5 @@
 -- The worked journals of what is stored, as entries.
-use Rattle.std.proofs.Common.{◌≡◌, ℕ, ◌+◌, ◌<◌, Bool, true, false, eqb, cond, inl, inr, List, [], ◌∷◌, length, Option, Some, None, refl, sym, ap, subst, arith, lit<}
+use Rattle.std.proofs.Common.{◌≡◌, ℕ, ◌+◌, ◌<◌, Bool, true, false, eqb, cond, inl, inr, List, [], ◌∷◌, length, Option, Some, None, refl, sym, ap, subst, ◌∙◌, arith, lit<}
 use Rattle.std.proofs.lemmas.Bool.{false≢true, or_cases}
 use Rattle.std.specs.List.{list_all, range_with_len}
 use Rattle.coap_codec.specs.Spelling.{Content, Spells}
@@ -8,7 +8,7 @@ use Rattle.coap_codec.specs.Recognition.{is_forwardable}
 use Rattle.blockwise.specs.Uploads.{begun, answer_to}
 use Rattle.blockwise.specs.declared.upload.Answered.{Answered}
 use Rattle.blockwise.specs.declared.upload.Answered.TheVariants as A
-use Rattle.ask_model.specs.Requests.{CoapRequest, Requests, request_message}
+use Rattle.ask_model.specs.Requests.{CoapRequest, Requests, Plainly, request_message}
 use Rattle.history_laws.specs.Progress.{first_point}
 use Rattle.ask_model.specs.declared.cause.Cause.TheVariants as C
 use Rattle.resp_cache.specs.Stored.{lifetime}
@@ -23,7 +23,7 @@ use Rattle.history_laws.proofs.CallerLemmas.{eqb-same, none-some, read_from_stor
 use Rattle.history_claims.specs.Headline.{IsAsked, IsWriteAnswer, AreHeardFor, IsHeard, AreNotified}
 use Rattle.history_claims.specs.Worked.{Served, Expired, Overwritten, OtherQuery}
 use Rattle.history_claims.proofs.Examples.{lies_so, places, heard-texts, moment-same, sense-same}
-use Rattle.history_claims.proofs.Carried.{brought-alone, HasNoCopies}
+use Rattle.history_claims.proofs.Plain.{HasNoCopies, ServedHere, served-here}
 use Rattle.history_claims.proofs.Served.{served-in}
 use Rattle.history_claims.proofs.Together.{requests-same}
 
@@ -32,35 +32,44 @@ no-copies h len size all n t k mark done e = false≢true (places carries h [] l
 
 pub served : Served
 served =
-    brought-alone (entries K.read_from_store) 60699 0 5 (3 ∷ []) (no-copies (entries K.read_from_store) 7 refl refl)
-    (served-in K.read_from_store 6 60699 0 5 (3 ∷ []) read_from_store-holds.0 refl)
+    served-in K.read_from_store 6 60699 0 5 (3 ∷ []) read_from_store-holds.0 refl
 
 -- not so
 
--- how long the response that the reply is stays fresh
-some-whole : (b : Bool) (v w : Response) → cond b (Some v) None ≡ Some w → v.max_age ≡ w.max_age
-some-whole true v w e = ap (λ (w : Response). w.max_age) (some-is v w e)
-some-whole false v w e = absurd (none-some w e)
+-- what the response says that the reply is
+some-whole : {X : Type 0} (f : Response → X) (b : Bool) (v w : Response) → cond b (Some v) None ≡ Some w → f v ≡ f w
+some-whole f true v w e = ap f (some-is v w e)
+some-whole f false v w e = absurd (none-some w e)
 
-pub whole-age : (q : CoapRequest) (m : Content) (w : Response) → whole_of q (m ∷ []) ≡ Some w → (response_of m).max_age ≡ w.max_age
-whole-age q m w e = by (eqb q.method 1) e
+whole-so : {X : Type 0} (f : Response → X) (q : CoapRequest) (m : Content) (w : Response) → f (joined m []) ≡ f (response_of m) → whole_of q (m ∷ []) ≡ Some w
+    → f (response_of m) ≡ f w
+whole-so f q m w same e = by (eqb q.method 1) e
   where
-    answer : (b : Bool) (how : Answered) → cond b (whole_by how m [] None) None ≡ Some w → (response_of m).max_age ≡ w.max_age
+    answer : (b : Bool) (how : Answered) → cond b (whole_by how m [] None) None ≡ Some w → f (response_of m) ≡ f w
     answer true A.Next e = absurd (none-some w e)
-    answer true A.Last e = ap (λ (w : Response). w.max_age) (some-is (response_of m) w e)
+    answer true A.Last e = ap f (some-is (response_of m) w e)
     answer true A.Wrong e = absurd (none-some w e)
     answer false how e = absurd (none-some w e)
 
-    by : (b : Bool) → cond b (whole_fetched m []) (whole_given (begun (length q.body) 6) (m ∷ [])) ≡ Some w → (response_of m).max_age ≡ w.max_age
-    by true e = some-whole _ (joined m []) w e
+    by : (b : Bool) → cond b (whole_fetched m []) (whole_given (begun (length q.body) 6) (m ∷ [])) ≡ Some w → f (response_of m) ≡ f w
+    by true e = sym same ∙ some-whole f _ (joined m []) w e
     by false e = answer (is_forwardable m.options) (answer_to (begun (length q.body) 6) m) e
+
+pub whole-age : (q : CoapRequest) (m : Content) (w : Response) → whole_of q (m ∷ []) ≡ Some w → (response_of m).max_age ≡ w.max_age
+whole-age q m w e = whole-so (λ (w : Response). w.max_age) q m w refl e
+
+pub whole-etag : (q : CoapRequest) (m : Content) (w : Response) → whole_of q (m ∷ []) ≡ Some w → (response_of m).etag ≡ w.etag
+whole-etag q m w e = whole-so (λ (w : Response). w.etag) q m w refl e
 
 non-spelled : Spells E.non_message E.non_bytes
 non-spelled = read_from_store-holds.0.0.0.0.2.3.spelled
 
 pub expired : Expired
-expired h = elim h.heard [ inl w ↦ go h.messages w h.whole | inr w ↦ told-so h.messages w h.whole ]
+expired is = elim h.heard [ inl w ↦ go h.messages w h.whole | inr w ↦ told-so h.messages w h.whole ]
   where
+    h : ServedHere (entries K.read_expired) 60700 0 5 (3 ∷ [])
+    h = served-here (entries K.read_expired) 60700 0 5 3 (no-copies (entries K.read_expired) 7 refl refl) is
+
     since : 700 ≡ h.since
     since = moment-same 700 h.since _ _ h.first.2
 
@@ -109,8 +118,11 @@ written =
     }
 
 pub overwritten : Overwritten
-overwritten h = elim h.heard [ inl w ↦ go h.messages w | inr w ↦ told-so h.messages w ]
+overwritten is = elim h.heard [ inl w ↦ go h.messages w | inr w ↦ told-so h.messages w ]
   where
+    h : ServedHere (entries K.read_outdated) 5400 0 18 (9 ∷ [])
+    h = served-here (entries K.read_outdated) 5400 0 18 9 (no-copies (entries K.read_outdated) 20 refl refl) is
+
     asks : h.request ≡ M.get_light
     asks = sym (requests-same M.get_light h.request (sense-same 5400 5400 0 0 (ask_for M.get_light) _ h.asked.stands))
 
@@ -140,13 +152,16 @@ is_ask (Asks c a) = true
 is_ask d = false
 
 pub other-query : OtherQuery
-other-query h =
+other-query is =
     let asks : h.request ≡ K.get_bright = sym (requests-same K.get_bright h.request (sense-same 800 800 0 0 (ask_for K.get_bright) _ h.asked.stands)) in
     let three : length (request_message h.request 0 []).options ≡ 3 = subst (λ (q : CoapRequest). length (request_message q 0 []).options ≡ 3) (sym asks) refl in
     let two : length (request_message h.other 0 []).options ≡ 2 = subst (λ (q : CoapRequest). length (request_message q 0 []).options ≡ 2) asked refl in
-    let same : length (request_message h.request 0 []).options ≡ length (request_message h.other 0 []).options = ap (λ (m : Content). length m.options) (h.same.2 false 0 []) in
+    let same : length (request_message h.request 0 []).options ≡ length (request_message h.other 0 []).options = ap (λ (m : Content). length m.options) (h.same.2 Plainly 0 []) in
     absurd (omega (arith, three, two, same))
   where
+    h : ServedHere (entries K.other_query) 800 0 5 (3 ∷ [])
+    h = served-here (entries K.other_query) 800 0 5 3 (no-copies (entries K.other_query) 6 refl refl) is
+
     place : h.opening ≡ 1
     place =
         elim (or_cases (eqb h.opening 1) _ (places is_ask (entries K.other_query) (1 ∷ 5 ∷ []) 6 h.opening h.moment _ refl refl h.other_asked.stands refl)) [

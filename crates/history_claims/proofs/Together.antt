@@ -6,7 +6,7 @@ use Rattle.coap_codec.specs.Spelling.{Entry, Content}
 use Rattle.uri_map.specs.declared.peer.Peer.{Peer}
 use Rattle.history_laws.specs.Progress.{first_point}
 use Rattle.ask_model.specs.declared.cause.Cause.TheVariants as C
-use Rattle.ask_model.specs.Requests.{CoapRequest, Requests, request_message}
+use Rattle.ask_model.specs.Requests.{CoapRequest, Plainly, Requests, request_message}
 use Rattle.ask_model.specs.Views.{Ask}
 use Rattle.journal_book.specs.Entries.{Live, Fault, Deed, Asks, Sends, Passes, Answers, Shuts, Written}
 use Rattle.history_laws.specs.Readings.{entries}
@@ -18,12 +18,12 @@ use Rattle.history_laws.proofs.CallerLemmas.{both_answered-holds, eqb-same, some
 use Rattle.history_claims.specs.Headline.{IsEntry, IsAsked, IsPending, IsSameGet, IsWrite, IsWriteAnswer, AreHeardFor}
 use Rattle.history_claims.specs.Worked.{Joined, told_before, OutOfDate, HeardBefore, lamp_given_up, Unlike, asked_by_two, CountedTwice, Unjoined}
 use Rattle.history_claims.proofs.Examples.{is_first, places, lies_in, lies_so, entry_of, moment-same, sense-same}
-use Rattle.history_claims.proofs.Resting.{rests-in, only-one}
+use Rattle.history_claims.proofs.Resting.{rests-heard, only-one}
 
 pub joined : Joined
 joined = (
-  rests-in R.both_answered 8 700 0 1 (7 ∷ []) both_answered-holds.0 refl,
-  rests-in R.both_answered 9 700 2 6 (7 ∷ []) both_answered-holds.0 refl,
+  rests-heard R.both_answered 8 700 0 1 (7 ∷ []) both_answered-holds.0 refl refl,
+  rests-heard R.both_answered 9 700 2 6 (7 ∷ []) both_answered-holds.0 refl refl,
 )
 
 pub heard-before : HeardBefore
@@ -96,7 +96,7 @@ abbrev segment : CoapRequest → ℕ
 segment q = second (request_message q 0 []).options
 
 same-segment : (q r : CoapRequest) → IsSameGet q r → segment q ≡ segment r
-same-segment q r same = ap (λ (m : Content). second m.options) (same.2 false 0 [])
+same-segment q r same = ap (λ (m : Content). second m.options) (same.2 Plainly 0 [])
 
 abbrev pub is_ask : Deed → Bool
 is_ask (Asks c a) = true

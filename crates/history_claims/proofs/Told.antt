@@ -1,12 +1,11 @@
 -- What was told for a GET is stored for it, as long as none comes after it and no write ends.
-use Rattle.std.proofs.Common.{◌≡◌, ◌⊎◌, ℕ, zero, ◌+◌, ◌<◌, ◌≤◌, true, false, not, eqb, leb, inl, inr, List, [], ◌∷◌, length, Option, Some, None, refl, sym, ap, subst, ◌∙◌, arith, suc}
-use Rattle.std.specs.Prelude.{◌==◌, is_none, is_some}
+use Rattle.std.proofs.Common.{◌≡◌, ◌⊎◌, ℕ, zero, ◌+◌, ◌<◌, ◌≤◌, true, false, not, eqb, leb, inl, inr, List, ◌∷◌, length, Option, Some, refl, sym, ap, subst, ◌∙◌, arith, suc}
+use Rattle.std.specs.Prelude.{◌==◌, is_none}
 use Rattle.std.specs.List.{Contains}
 use Rattle.std.proofs.lemmas.Bool.Decides.{Decides-ltb, eqb_tells, leb_tells}
 use Rattle.std.proofs.lemmas.Bool.{false≢true, and_parts, and_from}
 use Rattle.coap_codec.specs.Spelling.{Content, Spells}
 use Rattle.coap_codec.proofs.Unique.{spells_one}
-use Rattle.uri_map.specs.declared.peer.Peer.{Peer}
 use Rattle.cache_key.specs.declared.place.Place.{Place}
 use Rattle.cache_key.specs.Keys.{same_place}
 use Rattle.cache_key.proofs.CallerLemmas.{places_decided, keys_decided}
@@ -15,23 +14,24 @@ use Rattle.ask_model.specs.Sharing.{asked_key, asked_place, asks_same, is_get}
 use Rattle.ask_model.specs.Views.{Ask}
 use Rattle.ask_model.proofs.CallerLemmas.{same-key, same-place}
 use Rattle.resp_cache.specs.Stored.{Stored, lifetime, is_fresh}
-use Rattle.journal_book.specs.Entries.{Grounds, Live, Deed, Asks, Hears, Answers, Written}
+use Rattle.journal_book.specs.Entries.{Live, Asks, Hears, Answers}
 use Rattle.history_laws.specs.Responses.{Response, whole_of}
-use Rattle.history_laws.specs.Readings.{Noted, Note, Begins, Says, entries, at, before, noted}
+use Rattle.history_laws.specs.Readings.{Noted, Note, Says, entries, at, before, noted}
 use Rattle.history_laws.specs.Connections.{is_open}
-use Rattle.history_laws.specs.Progress.{Reply, numbers, messages, Whole}
-use Rattle.history_laws.specs.Exchanges.{Begun, begun, End, end_of, replies}
-use Rattle.history_laws.specs.Joining.{outrun, asks_the_same, is_joinable}
-use Rattle.history_laws.specs.Storing.{EndsSo, IsBrought, IsStored, IsUse, ComesSo, UpdatesSo}
-use Rattle.history_laws.specs.Justified.{reads_in, reads, pending, HasGrounds, Follows, Legal, MayCome}
-use Rattle.history_laws.proofs.CallerLemmas.{asked-for, at-before, at-below, at-newest, at-same, at-still, before-twice, begun-before, begun-below, begun-early, contains-later, end-before, end-since, ends-all, EndsAll, ends-first, follows-at, legal-before, length-before, not-true, one-joinable, open-below, open-exactly, outran, Outran, outrun-since, reader, Reader, replies-fit, shared-is, Shared, some-is, write-earlier, counts-since, CountsFor, never-both, one-update, outdated-by, outdated-keeps, update-counts}
-use Rattle.history_claims.specs.Headline.{IsEntry, IsHeardFirst}
+use Rattle.history_laws.specs.Progress.{Reply, Ending, numbers, messages, Whole, Renewed}
+use Rattle.history_laws.specs.Exchanges.{Begun, begun, End, end_of}
+use Rattle.history_laws.specs.Joining.{outrun, is_joinable}
+use Rattle.history_laws.specs.Storing.{EndsSo, IsRenewal, IsUse, ComesSo, renewed_list}
+use Rattle.history_laws.specs.Justified.{Ends, reads_in, reads, pending, HasGrounds, Legal, MayCome}
+use Rattle.history_laws.proofs.CallerLemmas.{asked-for, at-before, at-below, at-same, at-still, before-twice, begun-before, begun-below, begun-early, confirmed-as-asked, end-before, end-since, ends-all, EndsAll, ends-first, follows-at, legal-before, length-before, not-true, open-below, outran, Outran, reader, Reader, replies-fit, shared-is, Shared, some-is, write-earlier, counts-since, CountsFor, outdated-by, outdated-keeps, update-counts}
+use Rattle.history_claims.specs.Headline.{IsHeardFirst}
 use Rattle.history_claims.specs.Once.{AreHeard, IsUnwritten, WasTold, IsUnnotified}
 use Rattle.history_claims.proofs.Alike.{asks-like, same-get}
 use Rattle.history_claims.proofs.Alone.{requests-same}
 use Rattle.history_claims.proofs.Asking.{AnswersAsk, answers-ask}
-use Rattle.history_claims.proofs.Entries.{entries-at, newest-before, grows}
-use Rattle.history_claims.proofs.Hands.{ends-after, in-hand, no-input, not-at-ask}
+use Rattle.history_claims.proofs.Entries.{entries-at, grows}
+use Rattle.history_claims.proofs.Keeping.{tellable-not, whole-tells}
+use Rattle.history_claims.proofs.Hands.{in-hand, no-input, not-at-ask}
 use Rattle.history_claims.proofs.Pending.{senses}
 use Rattle.history_claims.proofs.Pieces.{whole-like}
 use Rattle.history_claims.proofs.Quiet.{asks-a-get, asks-back, asks-through, at-there, none-ended}
@@ -40,128 +40,41 @@ use Rattle.history_claims.proofs.Unshared.{asked-request}
 use Rattle.history_claims.proofs.Written.{unsealed}
 use Rattle.history_claims.proofs.Notified.{notified-news}
 use Rattle.history_laws.specs.Observing.{outdated}
-
--- Of two exchanges that may answer a GET, both of which have ended, the one wasn't open at the end of the other.
-pub joinable-so : (l : List Noted) (q : CoapRequest) (x : ℕ) (b : Begun) → begun l x ≡ Some b → asks_same q b.request ≡ true → outrun l (asked_place q) x ≡ false
-    → is_joinable l q x ≡ true
-joinable-so l q x b opened same fresh =
-    let asks : asks_the_same q (begun l x) ≡ true = subst (λ (v : Option Begun). asks_the_same q v ≡ true) (sym opened) same in
-    rw (asks, fresh) refl
-
-pub still-fresh : (l : List Noted) (k x : ℕ) (place : Place) → outrun l place x ≡ false → outrun (before l k) place x ≡ false
-still-fresh l k x place fresh = not-true (outrun (before l k) place x) (λ t. false≢true (sym fresh ∙ outrun-since l k place x t))
-
-pub open-together : (l : List Noted) (q : CoapRequest) (x y : ℕ) (first second : End) → Legal l → Shared l q x → Shared l q y
-    → end_of l x ≡ Some first → end_of l y ≡ Some second → first.number ≤ second.number → y < first.number → x ≡ y
-open-together l q x y first second legal a b ended later le below =
-    let e : ℕ = first.number in
-    let start = ends-first l x e first.how ended in
-    let size = at-below l e start.0 start.1 in
-    let after = ends-after l x e first.how legal ended in
-    one-joinable (before l e) q x y (legal-before l e legal)
-    ((open-exactly (before l e) x).1 (ap is_some (begun-early l e x a.exchange size a.opened after), start.2))
-    (joinable-so (before l e) q x a.exchange (begun-early l e x a.exchange size a.opened after) a.same (still-fresh l e x (asked_place q) a.fresh))
-    ((open-exactly (before l e) y).1 (ap is_some (begun-early l e y b.exchange size b.opened below), going (end_of (before l e) y) refl))
-    (joinable-so (before l e) q y b.exchange (begun-early l e y b.exchange size b.opened below) b.same (still-fresh l e y (asked_place q) b.fresh))
-  where
-    going : (f : Option End) → end_of (before l first.number) y ≡ f → end_of (before l first.number) y ≡ None
-    going None is = is
-    going (Some f) is =
-        let it = ends-first (before l first.number) y f.number f.how is in
-        let start = ends-first l x first.number first.how ended in
-        let early = subst (λ (m : ℕ). f.number < m) (length-before l first.number start.0 start.1) (at-below (before l first.number) f.number it.0 it.1) in
-        let same : f.number ≡ second.number = ap (λ (e : End). e.number) (some-is f second (sym (end-since l first.number y f is) ∙ later)) in
-        absurd (omega (arith, early, same, le))
-
--- So one response is stored for a GET.
-same-whole : (l : List Noted) (q : CoapRequest) (x y e f : ℕ) (w v : Response) (rs ts : List Reply) → Legal l → is_joinable l q x ≡ true → is_joinable l q y ≡ true
-    → e ≡ f → ComesSo l x e w rs → ComesSo l y f v ts → rs ≡ ts
-same-whole l q x y e f w v rs ts legal may other is (inl a) (inl b) =
-    let start = ends-after l y f _ legal b.ended in
-    let same = open-together l q x y _ _ legal (shared-is l q x may) (shared-is l q y other) a.ended b.ended (omega (arith, is)) (omega (arith, start, is)) in
-    let both : end_of l x ≡ Some (record { number = f; how = Whole v ts }) =
-    subst (λ (o : ℕ). end_of l o ≡ Some (record { number = f; how = Whole v ts })) (sym same) b.ended in
-    wholes (ap (λ (e : End). e.how) (some-is _ _ (sym a.ended ∙ both)))
-  where
-    wholes : Whole w rs ≡ Whole v ts → rs ≡ ts
-    wholes e = cc
-same-whole l q x y e f w v rs ts legal may other is (inl a) (inr b) =
-    absurd (never-both l x y f w v rs ts legal (subst (λ (e : ℕ). EndsSo l x e w rs) is a) b)
-same-whole l q x y e f w v rs ts legal may other is (inr a) (inl b) =
-    absurd (never-both l y x f v w ts rs legal b (subst (λ (e : ℕ). UpdatesSo l x e w rs) is a))
-same-whole l q x y e f w v rs ts legal may other is (inr a) (inr b) =
-    (one-update l x y f w v rs ts (subst (λ (e : ℕ). UpdatesSo l x e w rs) is a) b).2
-
-pub stored-once : (l : List Noted) (q : CoapRequest) (s u : Stored) → Legal l → IsBrought l q s → IsStored l q u → s.list ≡ u.list
-stored-once l q s u legal a (inr c) = absurd (c.alone a.opening a.ending s.response a.first a.more a.comes a.shared a.newest)
-stored-once l q s u legal a (inl b) =
-    let no-later = b.latest a.opening a.ending s.response a.first a.more a.comes a.shared a.newest in
-    let no-sooner = a.latest b.opening b.ending u.response b.first b.more b.comes b.shared b.newest in
-    let same = same-whole l q a.opening b.opening a.ending b.ending s.response u.response (a.first ∷ a.more) (b.first ∷ b.more) legal a.shared b.shared
-    (omega (arith, no-later, no-sooner)) a.comes b.comes in
-    a.list ∙ (ap numbers same ∙ sym b.list)
-
-pub moments-rise : (l : List Noted) (i k : ℕ) (x y : Noted) → Legal l → at l i ≡ Some x → at l k ≡ Some y → i < k → x.written.moment ≤ y.written.moment
-moments-rise l i k x y legal there here lt =
-    let a = at-newest (before l k) i x (legal-before l k legal) (at-still l k i y x here lt there) in
-    let b = newest-before l k y legal here in
-    omega (arith, a, b)
-
--- the texts of two entries that are one
-heard-same : (s t : ℕ) (p r : Peer) (b c : List ℕ) (u v : Note) → noted s (Hears p b) u ≡ noted t (Hears r c) v → b ≡ c
-heard-same s t p r b c u v e = go (ap (λ (x : Noted). x.written.deed) e)
-  where
-    go : Hears p b ≡ Hears r c → b ≡ c
-    go f = cc
-
--- The messages of entries are those of the replies that they heard.
-same-messages : (l : List Noted) (n o : ℕ) (p : Peer) (rs : List Reply) (ms : List Content) → Legal l → ((r : Reply) → Contains rs r → Contains (replies (before l n) o) r)
-    → AreHeard (entries l) p (numbers rs) ms → ms ≡ messages rs
-same-messages l n o p [] [] legal listed h = refl
-same-messages l n o p [] (m ∷ ms) legal listed h = absurd h
-same-messages l n o p (r ∷ rs) [] legal listed h = absurd h
-same-messages l n o p (r ∷ rs) (m ∷ ms) legal listed h =
-    let fits = replies-fit (before l n) o r (legal-before l n legal) (listed r (zero, omega arith, refl)) in
-    let heard = h.0.1 in
-    let stands = entries-at l r.number _ heard.stands in
-    let text = heard-same h.0.0 fits.moment p fits.peer heard.bytes fits.bytes stands.0 (Says r.message (Some r.sending) fits.notice)
-    (at-same l r.number _ _ stands.1 (at-before l n r.number _ fits.heard)) in
-    let here : m ≡ r.message = spells_one m r.message heard.bytes heard.spelled (subst (Spells r.message) (sym text) fits.spelled) in
-    let more = same-messages l n o p rs ms legal (λ v has. listed v (contains-later r rs v has)) h.1 in
-    rw (here, more) refl
-
--- the first of the replies that an answer names
-record Began (h : List Written) (since : ℕ) (rs : List Reply) : Type 0 where
-  first : Reply
-  more : List Reply
-  all : rs ≡ first ∷ more
-  peer : Peer
-  bytes : List ℕ
-  stands : IsEntry h first.number since (Hears peer bytes)
-
-began : (h : List Written) (since : ℕ) (rs : List Reply) → IsHeardFirst h since (numbers rs) → Began h since rs
-began h since [] e = absurd e
-began h since (r ∷ rs) e = record { first = r; more = rs; all = refl; peer = e.0; bytes = e.1; stands = e.2 }
-
-moments-same : (s t : ℕ) (d e : Deed) (u v : Note) → noted s d u ≡ noted t e v → s ≡ t
-moments-same s t d e u v h = ap (λ (x : Noted). x.written.moment) h
-
-asks-no-answer : (s t c d k : ℕ) (a : Ask) (g : Grounds) (u v : Note) → noted s (Asks c a) u ≡ noted t (Answers d k g) v → ⊥
-asks-no-answer s t c d k a g u v e = go (ap (λ (x : Noted). x.written.deed) e)
-  where
-    go : Asks c a ≡ Answers d k g → ⊥
-    go f = cc
-
-pub asks-open : (l : List Noted) (t c k : ℕ) (g : Grounds) (note : Note) → Follows l t (Answers c k g) note → (is_open l c ≡ true) × (pending l c ≡ Some k)
-asks-open l t c k g note may = (may.1, may.2)
+use Rattle.history_claims.proofs.Messages.{moments-rise, heard-same, same-messages, Began, began, last-heard, asks-open}
+use Rattle.history_claims.proofs.Latest.{joinable-so, still-fresh, open-together, renewal-current, IsLatest}
 
 -- what was told in the entry n, to the ask o
 module _ (l : List Noted) (legal : Legal l) (q : CoapRequest) (o n : ℕ) (js : List ℕ) (was : WasTold (entries l) q o n js) where
   its : AnswersAsk l n was.told_at was.conn o (Live js) × (length (before l n) ≡ n)
   its = answers-ask l n was.told_at was.conn o (Live js) legal was.told
 
-  pub grounds : HasGrounds (before l n) was.told_at o (Live js)
-  grounds = its.0.grounds
+  -- A 2.03 is part of no whole response.
+  abbrev pub IsWholeEnd : Type 0
+  IsWholeEnd =
+      (x : ℕ) × (e : ℕ) × (w : Response) × (rs : List Reply) × (reads (before l n) o ≡ Some x) × Ends (before l n) x e (Whole w rs)
+      × (js ≡ numbers rs)
+
+  never-renewed : (x e : ℕ) (s : Stored) (r : Reply) → reads (before l n) o ≡ Some x → Ends (before l n) x e (Renewed s r) → js ≡ renewed_list s r.number → ⊥
+  never-renewed x e s r own ended list =
+      let early = legal-before l n legal in
+      let it = reader (before l n) o x early own in
+      let c = confirmed-as-asked (before l n) x e it.exchange s r early it.opened ended in
+      let tells = whole-tells was.request was.messages was.response (same-get was.request q (asks-back q was.request was.same)) was.whole in
+      let last = last-heard (entries l) was.request.peer s.list r.number was.messages
+      (subst (λ (js : List ℕ). AreHeard (entries l) was.request.peer js was.messages) list was.heard) tells in
+      let stands = entries-at l r.number _ last.2.stands in
+      let text = heard-same last.1 c.fits.moment was.request.peer c.fits.peer last.2.bytes c.fits.bytes stands.0 (Says r.message (Some r.sending) c.fits.notice)
+      (at-same l r.number _ _ stands.1 (at-before l n r.number _ c.fits.heard)) in
+      let here : last.0 ≡ r.message = spells_one last.0 r.message last.2.bytes last.2.spelled (subst (Spells r.message) (sym text) c.fits.spelled) in
+      let not_valid : eqb r.message.code 67 ≡ false = subst (λ (m : Content). eqb m.code 67 ≡ false) here (tellable-not last.0 last.3) in
+      false≢true (sym not_valid ∙ subst (λ (code : ℕ). eqb code 67 ≡ true) (sym c.code) refl)
+
+  pub grounds : IsWholeEnd
+  grounds = by its.0.grounds
+    where
+      by : HasGrounds (before l n) was.told_at o (Live js) → IsWholeEnd
+      by (inl h) = h
+      by (inr h) = absurd (never-renewed h.0 h.1 h.2 h.3 h.4 h.5 h.6)
 
   pub told-in : (note : Note) × (at l n ≡ Some (noted was.told_at (Answers was.conn o (Live js)) note))
   told-in = entries-at l n _ was.told
@@ -410,24 +323,26 @@ module _ (l : List Noted) (legal : Legal l) (q : CoapRequest) (o n : ℕ) (js : 
       shared-then = record { exchange = exchange; opened = opened-then; same = same; fresh = unoutran-then }
 
       -- It is stored, where nothing that came later ended with what may answer the GET.
-      pub stored-then : ((y : ℕ) (b : Begun) → e < y → y < m → begun l y ≡ Some b → asks_same q b.request ≡ true → ⊥) → IsBrought (before l m) q stored
+      pub stored-then : ((y : ℕ) (b : Begun) → e < y → y < m → begun l y ≡ Some b → asks_same q b.request ≡ true → ⊥) → IsLatest (before l m) q stored
       stored-then none_opened =
-          subst (λ (rs : List Reply). IsBrought (before l m) q (record { response = w; opening = x; heard = was.since; list = numbers rs })) (sym start.all)
-          (record {
-            opening = x;
-            ending = e;
-            first = start.first;
-            more = start.more;
-            comes = inl (subst (EndsSo (before l m) x e w) start.all ended-then);
-            shared = joinable-so (before l m) q x exchange opened-then same unoutran-then;
-            newest = newest-then;
-            latest = latest;
-            entry = heard.0;
-            heard_in = heard.1;
-            heard = heard.2;
-            origin = refl;
-            list = refl;
-          })
+          subst (λ (rs : List Reply). IsLatest (before l m) q (record { response = w; opening = x; heard = was.since; list = numbers rs })) (sym start.all) (
+            record {
+              opening = x;
+              ending = e;
+              first = start.first;
+              more = start.more;
+              comes = inl (subst (EndsSo (before l m) x e w) start.all ended-then);
+              shared = joinable-so (before l m) q x exchange opened-then same unoutran-then;
+              newest = newest-then;
+              latest = latest;
+              entry = heard.0;
+              heard_in = heard.1;
+              heard = heard.2;
+              origin = refl;
+              list = refl;
+            },
+            none-renewed,
+          )
         where
           heard : (v : Noted) × (at (before l m) start.first.number ≡ Some v) × (was.since ≡ v.written.moment)
           heard =
@@ -437,6 +352,34 @@ module _ (l : List Noted) (legal : Legal l) (q : CoapRequest) (o n : ℕ) (js : 
               let lt = subst (λ (m : ℕ). start.first.number < m) its.1 (at-below (before l n) start.first.number _ fits.heard) in
               let y = at-there l m below in
               (noted was.since (Hears start.peer start.bytes) it.0, at-still l m start.first.number y.0 _ y.1 (omega (arith, lt, low)) it.1, refl)
+
+          -- What ended no sooner, and may answer the GET, is that.
+          same-end : (y f : ℕ) (how : Ending) → Shared (before l m) q y → end_of (before l m) y ≡ Some (record { number = f; how = how }) → e ≤ f
+              → last ≡ record { number = f; how = how }
+          same-end y f how shared ends le = by (leb_tells y e)
+            where
+              opened : begun l y ≡ Some shared.exchange
+              opened = begun-before l m y shared.exchange shared.opened
+
+              size : length (before l m) ≡ m
+              size = let it = at-there l m below in length-before l m it.0 it.1
+
+              by : ((leb y e ≡ true) × (y ≤ e)) ⊎ ((leb y e ≡ false) × (e < y)) → last ≡ record { number = f; how = how }
+              by (inl u) =
+                  elim (eqb_tells y e) [
+                    | inl v ↦
+                        let ask = asked-for l y shared.exchange legal opened in
+                        absurd (not-at-ask l x e shared.exchange.since ask.conn ask.ask ask.note (Whole w rs) ended
+                        (subst (λ (i : ℕ). at l i ≡ Some (noted shared.exchange.since (Asks ask.conn ask.ask) ask.note)) v.1 ask.stands))
+                    | inr v ↦
+                        let sooner = u.1 in
+                        let not = v.1 in
+                        let one = open-together (before l m) q x y last (record { number = f; how = how }) (legal-before l m legal) shared-then shared ended-then.ended ends le
+                        (omega (arith, sooner, not)) in
+                        some-is _ _ (sym (subst (λ (i : ℕ). end_of (before l m) i ≡ Some last) one ended-then.ended) ∙ ends)
+                  ]
+              by (inr u) =
+                  absurd (none_opened y shared.exchange u.1 (subst (λ (i : ℕ). y < i) size (begun-below (before l m) y shared.exchange shared.opened)) opened shared.same)
 
           latest : (y f : ℕ) (v : Response) (t : Reply) (ts : List Reply) → ComesSo (before l m) y f v (t ∷ ts) → is_joinable (before l m) q y ≡ true
               → outdated (before l m) (asked_key q) t.number ≡ false → f ≤ e
@@ -449,34 +392,25 @@ module _ (l : List Noted) (legal : Legal l) (q : CoapRequest) (o n : ℕ) (js : 
                     absurd (none-counts f (omega (arith, up, le)) (update-counts (before l m) q y f v (t ∷ ts) early may u))
               ]
           latest y f v t ts (inl ends) may new =
-              elim (leb_tells f e) [ inl u ↦ u.1 | inr u ↦ absurd (overtakes u.1 (leb_tells y e)) ]
+              elim (leb_tells f e) [
+                | inl u ↦ u.1
+                | inr u ↦
+                    let lt = u.1 in
+                    let number = ap (λ (e : End). e.number) (same-end y f (Whole v (t ∷ ts)) (shared-is (before l m) q y may) ends.ended (omega (arith, lt))) in
+                    absurd (omega (arith, number, lt))
+              ]
+
+          none-renewed : (f : ℕ) → IsRenewal (before l m) q f → f < e
+          none-renewed f it =
+              elim (leb_tells e f) [
+                | inl u ↦
+                    absurd (apart it.kept it.reply
+                    (ap (λ (e : End). e.how) (same-end it.opening f (Renewed it.kept it.reply) (renewal-current (before l m) q f early it) it.ended u.1)))
+                | inr u ↦ u.1
+              ]
             where
-              shared : Shared (before l m) q y
-              shared = shared-is (before l m) q y may
-
-              opened : begun l y ≡ Some shared.exchange
-              opened = begun-before l m y shared.exchange shared.opened
-
-              size : length (before l m) ≡ m
-              size = let it = at-there l m below in length-before l m it.0 it.1
-
-              overtakes : e < f → ((leb y e ≡ true) × (y ≤ e)) ⊎ ((leb y e ≡ false) × (e < y)) → ⊥
-              overtakes lt (inl u) =
-                  elim (eqb_tells y e) [
-                    | inl v ↦
-                        let ask = asked-for l y shared.exchange legal opened in
-                        not-at-ask l x e shared.exchange.since ask.conn ask.ask (Begins shared.exchange.request) (Whole w rs) ended
-                        (subst (λ (i : ℕ). at l i ≡ Some (noted shared.exchange.since (Asks ask.conn ask.ask) (Begins shared.exchange.request))) v.1 ask.stands)
-                    | inr v ↦
-                        let le = u.1 in
-                        let not = v.1 in
-                        let one = open-together (before l m) q x y last _ (legal-before l m legal) shared-then shared ended-then.ended ends.ended (omega (arith, lt)) (omega (arith, le, not)) in
-                        let both = subst (λ (i : ℕ). end_of (before l m) i ≡ Some last) one ended-then.ended in
-                        let number : e ≡ f = ap (λ (e : End). e.number) (some-is _ _ (sym both ∙ ends.ended)) in
-                        absurd (omega (arith, number, lt))
-                  ]
-              overtakes lt (inr u) =
-                  none_opened y shared.exchange u.1 (subst (λ (i : ℕ). y < i) size (begun-below (before l m) y shared.exchange shared.opened)) opened shared.same
+              apart : (s : Stored) (r : Reply) → last.how ≡ Renewed s r → ⊥
+              apart s r h = cc
 
       -- It was stored when the exchange ended.
       lasts : (lifetime w.max_age == 0) ≡ false
@@ -495,7 +429,7 @@ module _ (l : List Noted) (legal : Legal l) (q : CoapRequest) (o n : ℕ) (js : 
 
       pub used-then : IsUse (before l m) e (asked_key q)
       used-then =
-          inr (record {
+          inr (inl (record {
             opening = x;
             response = w;
             first = start.first;
@@ -511,4 +445,4 @@ module _ (l : List Noted) (legal : Legal l) (q : CoapRequest) (o n : ℕ) (js : 
                 (λ y h f. outdated-keeps y h (asked_key q) start.first.number f) (before l m) e t));
             current = still-fresh (before l m) e x (asked_place q) unoutran-then;
             lasts = lasts;
-          })
+          }))

@@ -8,11 +8,11 @@ use Rattle.uri_map.specs.declared.peer.Peer.{Peer}
 use Rattle.ask_model.specs.Requests.{CoapRequest}
 use Rattle.ask_model.specs.Views.{Ask}
 use Rattle.journal_book.specs.Entries.{Mark, Ground, Past, Done, Asked, Sent, Grounds, Deed, Answers, Asks, Sends, Seals, Carries}
-use Rattle.history_laws.specs.Readings.{Noted, Note, Begins, First, at, before, noted}
+use Rattle.history_laws.specs.Readings.{Noted, Note, First, at, before, noted}
 use Rattle.history_laws.specs.Connections.{is_sealed, sealed_by}
 use Rattle.history_laws.specs.Progress.{Ending}
 use Rattle.history_laws.specs.Transmissions.{FirstSending, firsts, sent_last}
-use Rattle.history_laws.specs.Exchanges.{Begun, begun, end_of, end_here, end_by, End, turn, replies, goes_to, is_going, waits_for}
+use Rattle.history_laws.specs.Exchanges.{opens_by, Begun, begun, end_of, kept, end_here, end_by, End, turn, replies, goes_to, is_going, waits_for}
 use Rattle.history_laws.specs.Carrying.{carried}
 use Rattle.history_laws.specs.Justified.{MayBeFirst, Follows, Legal}
 use Rattle.history_laws.specs.Laws.{IsFirst}
@@ -22,11 +22,11 @@ use Rattle.history_laws.proofs.CallerLemmas.{all-listed, any-first, at-same, at-
 
 -- an ask that opened nothing has none
 pub none-for-other : (l : List Noted) (k c s : ℕ) (a : Ask) (note : Note) → Legal l → at l k ≡ Some (noted s (Asks c a) note)
-    → ((q : CoapRequest) → note ≡ Begins q → ⊥) → (t i : ℕ) (p : Peer) (m : Content) → IsFirst l t k i p m → ⊥
+    → ((q : CoapRequest) → opens_by note ≡ Some q → ⊥) → (t i : ℕ) (p : Peer) (m : Content) → IsFirst l t k i p m → ⊥
 none-for-other l k c s a note legal e other t i p m f =
     let it = sent-in l t k i p m legal f in
     let opening = begun-opening l k it.exchange it.opened in
-    other it.exchange.request (ap (λ (x : Noted). x.note) (at-same l k _ _ e opening.1))
+    other it.exchange.request (ap (λ (x : Noted). opens_by x.note) (at-same l k _ _ e opening.2) ∙ opening.3)
 
 -- the latest first sending of an exchange
 map-none : {X Y : Type 0} (f : X → Y) (o : Option X) → option_map f o ≡ None → o ≡ None
@@ -97,20 +97,20 @@ ended-still (Some w) n None h = absurd (false≢true (sym h))
 ended-still (Some w) n (Some f) h = refl
 
 -- An exchange has ended from the entry on that ends it.
-pub ended-at : (l : List Noted) (o e : ℕ) (x : Noted) (how : Ending) → at l e ≡ Some x → end_here (begun (before l e) o) e (replies (before l e) o) (turn (before l e) o x) ≡ Some how
+pub ended-at : (l : List Noted) (o e : ℕ) (x : Noted) (how : Ending) → at l e ≡ Some x → end_here (begun (before l e) o) (kept (before l e) o) e (replies (before l e) o) (turn (before l e) o x) ≡ Some how
     → is_none (end_of l o) ≡ false
 ended-at [] o e x how here ends = absurd (none-some x here)
 ended-at (y ∷ older) o e x how here ends =
     elim (eqb_tells e (length older)) [
       | inl w ↦
           let same : y ≡ x = some-is y x (rw (w.0) at here) in
-          let by : end_here (begun older o) e (replies older o) (turn older o x) ≡ Some how = rw (w.0) at ends in
-          let this : end_here (begun older o) (length older) (replies older o) (turn older o y) ≡ Some how =
-          subst (λ (v : Noted). end_here (begun older o) (length older) (replies older o) (turn older o v) ≡ Some how) (sym same)
-          (subst (λ (n : ℕ). end_here (begun older o) n (replies older o) (turn older o x) ≡ Some how) w.1 by) in
+          let by : end_here (begun older o) (kept older o) e (replies older o) (turn older o x) ≡ Some how = rw (w.0) at ends in
+          let this : end_here (begun older o) (kept older o) (length older) (replies older o) (turn older o y) ≡ Some how =
+          subst (λ (v : Noted). end_here (begun older o) (kept older o) (length older) (replies older o) (turn older o v) ≡ Some how) (sym same)
+          (subst (λ (n : ℕ). end_here (begun older o) (kept older o) n (replies older o) (turn older o x) ≡ Some how) w.1 by) in
           subst (λ (u : Option Ending). is_none (end_by u (length older) (end_of older o)) ≡ false) (sym this) (ended-now how (length older) (end_of older o))
       | inr w ↦
-          ended-still (end_here (begun older o) (length older) (replies older o) (turn older o y)) (length older) (end_of older o)
+          ended-still (end_here (begun older o) (kept older o) (length older) (replies older o) (turn older o y)) (length older) (end_of older o)
           (ended-at older o e x how (rw (w.0) at here) (rw (w.0) at ends))
     ]
   where
@@ -123,7 +123,7 @@ sealed-still Seals old h = refl
 sealed-still d old h = h
 
 pub over-still : (o : ℕ) (x : Noted) (l : List Noted) → Over o l → Over o (x ∷ l)
-over-still o x l (inl h) = inl (ended-still (end_here (begun l o) (length l) (replies l o) (turn l o x)) (length l) (end_of l o) h)
+over-still o x l (inl h) = inl (ended-still (end_here (begun l o) (kept l o) (length l) (replies l o) (turn l o x)) (length l) (end_of l o) h)
 over-still o x l (inr h) = inr (sealed-still x.written.deed (is_sealed l) h)
 
 not-over : (l : List Noted) (t o : ℕ) (p : Peer) (b : List ℕ) (w : Option ℕ) (m : Content) → Over o l → Follows l t (Sends p b w) (First o m) → ⊥

@@ -5,16 +5,16 @@ use Rattle.std.proofs.lemmas.Bool.{false≢true, and_parts}
 use Rattle.cache_key.specs.declared.place.Place.{Place}
 use Rattle.cache_key.specs.Keys.{same_key, same_place}
 use Rattle.cache_key.proofs.CallerLemmas.{keys_decided, places_decided}
-use Rattle.ask_model.specs.Requests.{CoapRequest, Sense, Requests}
+use Rattle.ask_model.specs.Requests.{CoapRequest, Requests}
 use Rattle.ask_model.specs.Sharing.{asked_key, asked_place, is_get, asks_same}
 use Rattle.ask_model.specs.Views.{Ask}
 use Rattle.journal_book.specs.Entries.{Grounds, Asks, Answers}
-use Rattle.history_laws.specs.Readings.{Noted, Begins, entries, at, before, noted}
+use Rattle.history_laws.specs.Readings.{Noted, Note, entries, at, before, noted}
 use Rattle.history_laws.specs.Connections.{is_sealed}
-use Rattle.history_laws.specs.Exchanges.{Begun, begun, End, end_of, is_going}
+use Rattle.history_laws.specs.Exchanges.{opens_by, Begun, begun, End, end_of, is_going}
 use Rattle.history_laws.specs.Joining.{writes_at, outrun, joins}
 use Rattle.history_laws.specs.Justified.{AskNote, Follows, Legal}
-use Rattle.history_laws.proofs.CallerLemmas.{asked-for, at-below, at-same, before-twice, begun-before, begun-below, begun-early, end-since, ends-first, follows-at, length-before, none-joined, open-exactly, outran, Outran, some-is}
+use Rattle.history_laws.proofs.CallerLemmas.{asked-for, at-below, at-same, before-twice, begun-before, begun-below, begun-early, end-since, ends-first, follows-at, length-before, none-joined, open-exactly, opens-so, outran, Outran, some-is}
 use Rattle.history_claims.specs.Headline.{IsEntry, IsAsked, IsWrite}
 use Rattle.history_claims.specs.Causes.{AreUnshared}
 use Rattle.history_claims.proofs.Entries.{entries-at, asked-entry, grows}
@@ -30,7 +30,7 @@ asked-request l o c t b q legal e asked =
     let it = asked-for l o b legal e in
     let there = entries-at l o _ asked.stands in
     requests-same b.request q
-    (sym it.sense ∙ senses b.since t it.conn c it.ask _ (Begins b.request) there.0 (at-same l o _ _ it.stands there.1))
+    (sym it.sense ∙ senses b.since t it.conn c it.ask _ it.note there.0 (at-same l o _ _ it.stands there.1))
   where
     requests-same : (q r : CoapRequest) → Requests q ≡ Requests r → q ≡ r
     requests-same q r e = cc
@@ -55,7 +55,7 @@ is-write l q w v legal opened is =
       conn = it.conn;
       moment = v.since;
       request = v.request;
-      asked = asked-entry l w it.conn v.since it.ask (Begins v.request) (Requests v.request) it.stands it.sense;
+      asked = asked-entry l w it.conn v.since it.ask it.note (Requests v.request) it.stands it.sense;
       changes = λ e. false≢true (subst (λ (n : ℕ). not (eqb n 1) ≡ true) e parts.0);
       place = (sym (ap (λ (p : Place). p.peer) place), sym (ap (λ (p : Place). p.path) place));
     }
@@ -68,7 +68,7 @@ answered-after l k x legal here unsealed w v end opened ended n u e g lt entry =
     let it = asked-for l w v legal opened in
     let its = answers-ask l n u e w g legal entry in
     let twice = before-twice l k n x here lt in
-    elim (over-grounds l n w v.since it.conn it.ask v.request it.stands it.sense u g its.0.grounds) [
+    elim (over-grounds l n w v.since it.conn it.ask it.note v.request it.opens it.stands it.sense u g its.0.grounds) [
       | inl over ↦
           let y = is-ended (end_of (before l n) w) over in
           let last = ends-first (before l n) w y.0.number y.0.how y.1 in
@@ -88,8 +88,8 @@ module _ (l : List Noted) (k : ℕ) (x : Noted) (legal : Legal l) (here : at l k
   below : b < k
   below = subst (λ (m : ℕ). b < m) (length-before l k x here) (begun-below (before l k) b second opened_second)
 
-  asks : (c : ℕ) × (v : Ask) × (at l b ≡ Some (noted second.since (Asks c v) (Begins second.request))) × (v.sense ≡ Requests second.request)
-  asks = let it = asked-for l b second legal (begun-before l k b second opened_second) in (it.conn, it.ask, it.stands, it.sense)
+  asks : (c : ℕ) × (v : Ask) × (note : Note) × (at l b ≡ Some (noted second.since (Asks c v) note)) × (opens_by note ≡ Some second.request)
+  asks = let it = asked-for l b second legal (begun-before l k b second opened_second) in (it.conn, it.ask, it.note, it.stands, it.opens)
 
   -- the earlier was open
   was-open : end_of (before l b) a ≡ None
@@ -106,18 +106,17 @@ module _ (l : List Noted) (k : ℕ) (x : Noted) (legal : Legal l) (here : at l k
   outran-it q get same_first same_second = go (outrun (before l b) (asked_place q) a) refl
     where
       joined-none : joins (before l b) q ≡ None
-      joined-none = told (subst (λ (s : Sense). AskNote (before l b) second.since s (Begins second.request)) asks.3 (note (follows-at l b _ legal asks.2)))
+      joined-none =
+          subst (λ (q : CoapRequest). joins (before l b) q ≡ None) same_second
+          (opens-so (before l b) second.since asks.1.sense asks.2 second.request asks.4 (note (follows-at l b _ legal asks.3))).alone
         where
-          note : Follows (before l b) second.since (Asks asks.0 asks.1) (Begins second.request) → AskNote (before l b) second.since asks.1.sense (Begins second.request)
+          note : Follows (before l b) second.since (Asks asks.0 asks.1) asks.2 → AskNote (before l b) second.since asks.1.sense asks.2
           note may = may.3
-
-          told : AskNote (before l b) second.since (Requests second.request) (Begins second.request) → joins (before l b) q ≡ None
-          told may = subst (λ (q : CoapRequest). joins (before l b) q ≡ None) same_second may.1
 
       go : (late : Bool) → outrun (before l b) (asked_place q) a ≡ late → Outran (before l b) (asked_place q) a
       go true is = outran (before l b) (asked_place q) a is
       go false is =
-          let opened = begun-early l b a first (at-below l b _ asks.2) (begun-before l k a first opened_first) lt in
+          let opened = begun-early l b a first (at-below l b _ asks.3) (begun-before l k a first opened_first) lt in
           absurd (none-joined (before l b) q a joined-none (record {
             is_open = (open-exactly (before l b) a).1 (ap is_some opened, was-open);
             exchange = first;
@@ -143,6 +142,6 @@ module _ (l : List Noted) (k : ℕ) (x : Noted) (legal : Legal l) (here : at l k
       (asked-request l b d t second q legal (begun-before l k b second opened_second) asked_second) in (
         h.opening,
         is-write l q h.opening h.write legal (begun-before l b h.opening h.write h.opened) h.changes,
-        subst (λ (m : ℕ). h.opening < m) (length-before l b _ asks.2) (begun-below (before l b) h.opening h.write h.opened),
+        subst (λ (m : ℕ). h.opening < m) (length-before l b _ asks.3) (begun-below (before l b) h.opening h.write h.opened),
         λ n u e g early entry. late-answer q h n u e g early entry,
       )

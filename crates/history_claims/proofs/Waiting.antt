@@ -10,13 +10,13 @@ use Rattle.coap_codec.specs.declared.message.MsgType.TheVariants.{Con, Non, Ack,
 use Rattle.coap_codec.specs.declared.block.Block.{Block}
 use Rattle.coap_codec.specs.Spelling.{Content}
 use Rattle.uri_map.specs.declared.peer.Peer.{Peer}
-use Rattle.ask_model.specs.Requests.{CoapRequest, asking}
+use Rattle.ask_model.specs.Requests.{CoapRequest, Manner, Plainly, Observing, Validating, asking}
 use Rattle.journal_book.specs.Entries.{Deed, Hears, Sends, Carries, Written}
 use Rattle.journal_book.specs.Entries as D
 use Rattle.history_laws.specs.Readings.{Noted, Note, First, Says, Bygone, Notice, entries, at, before, noted}
 use Rattle.history_laws.specs.Progress.{Reply, Reset, TimedOut}
 use Rattle.history_laws.specs.Transmissions.{FirstSending, firsts_by, firsts, sent_last}
-use Rattle.history_laws.specs.Exchanges.{Begun, begun, openings, Turn, Nothing, Sent, Replied, Rejected, Expired, answered_by, heard_turn, turn, waits_by, waits_for, replies_by, replies, end_here, end_of, awaited}
+use Rattle.history_laws.specs.Exchanges.{Begun, begun, openings, Turn, Nothing, Sent, Replied, Rejected, Expired, answered_by, heard_turn, turn, waits_by, waits_for, replies_by, replies, kept, end_here, end_of, awaited}
 use Rattle.history_laws.specs.Hearing.{IsReplyKind, is_under, is_as, open_at, answers_by, answers, expected}
 use Rattle.history_laws.specs.Justified.{MaySay, Follows, Legal}
 use Rattle.history_laws.specs.Laws.{IsFirst, IsReplyTo, IsFetched}
@@ -243,7 +243,7 @@ abbrev pub IsLatest : Option ℕ → List Reply → ℕ → Type 0
 IsLatest w rs j =
     (w ≡ Some j) ⊎ ((others : List Reply) × (last : Reply) × (rs ≡ others ++ last ∷ []) × (last.sending ≡ j) × (w ≡ None))
 
-latest-step : (x : Noted) (l : List Noted) (o j : ℕ) (u : Turn) → turn l o x ≡ u → end_here (begun l o) (length l) (replies l o) u ≡ None
+latest-step : (x : Noted) (l : List Noted) (o j : ℕ) (u : Turn) → turn l o x ≡ u → end_here (begun l o) (kept l o) (length l) (replies l o) u ≡ None
     → ((i : ℕ) → u ≡ Sent i → ⊥) → IsLatest (waits_for l o) (replies l o) j → IsLatest (waits_by u (waits_for l o)) (replies_by (length l) u (replies l o)) j
 latest-step x l o j Nothing is going unsent h = h
 latest-step x l o j (Sent i) is going unsent h = absurd (unsent i refl)
@@ -309,10 +309,11 @@ brings Ack mid sent h = h
 brings Rst mid sent h = absurd h
 
 -- What a message asks, it asks with its own ID and token.
-asks-own : (f : Bool) (q : CoapRequest) (block : Option Block) (mid : ℕ) (token : List ℕ) (m : Content) → asking f q block mid token ≡ m
+pub asks-own : (f : Manner) (q : CoapRequest) (block : Option Block) (mid : ℕ) (token : List ℕ) (m : Content) → asking f q block mid token ≡ m
     → m ≡ asking f q block m.mid m.token
-asks-own true q None mid token m e = subst (λ (m : Content). m ≡ asking true q None m.mid m.token) e refl
-asks-own false q None mid token m e = subst (λ (m : Content). m ≡ asking false q None m.mid m.token) e refl
+asks-own Observing q None mid token m e = subst (λ (m : Content). m ≡ asking Observing q None m.mid m.token) e refl
+asks-own Plainly q None mid token m e = subst (λ (m : Content). m ≡ asking Plainly q None m.mid m.token) e refl
+asks-own (Validating tag) q None mid token m e = subst (λ (m : Content). m ≡ asking (Validating tag) q None m.mid m.token) e refl
 asks-own f q (Some b) mid token m e = subst (λ (m : Content). m ≡ asking f q (Some b) m.mid m.token) e refl
 
 messages-same : (s t : ℕ) (p r : Peer) (b c : List ℕ) (v w : Option ℕ) (o i : ℕ) (m n : Content)
@@ -322,18 +323,18 @@ messages-same s t p r b c v w o i m n e = go (ap (λ (x : Noted). x.note) e)
     go : First o m ≡ First i n → m ≡ n
     go f = cc
 
-abbrev pub IsReplySo : (h : List Written) (k : ℕ) (q : CoapRequest) (block : Option Block) (r : Reply) (observes : Bool) → Type 0
-IsReplySo h k q block r observes =
-    (it : IsHeardFor h k q block r.number r.message) × (it.sending ≡ r.sending) × (it.sent_for.asks.0 ≡ observes)
+abbrev pub IsReplySo : (h : List Written) (k : ℕ) (q : CoapRequest) (block : Option Block) (r : Reply) (manner : Manner) → Type 0
+IsReplySo h k q block r manner =
+    (it : IsHeardFor h k q block r.number r.message) × (it.sending ≡ r.sending) × (it.sent_for.asks.0 ≡ manner)
 
 pub heard-so : (l : List Noted) (n o : ℕ) (r : Reply) (b : Begun) (x : Noted) (block : Option Block) → Legal l → begun l o ≡ Some b → at l n ≡ Some x
     → Contains (replies (before l n) o) r → (fetched : IsFetched (before l n) o b.request block r)
-    → IsReplySo (entries l) o b.request block r fetched.observes
+    → IsReplySo (entries l) o b.request block r fetched.manner
 heard-so l n o r b x block legal opened here has fetched =
     let h : IsReplyTo (before l n) o r = fetched.fits in
     let first = first-before l n _ o _ _ _ h.first in
     let it = sent-as l h.sent_at o r.sending h.peer h.sent b legal opened first in
-    let message : asking fetched.observes b.request block fetched.mid fetched.token ≡ h.sent =
+    let message : asking fetched.manner b.request block fetched.mid fetched.token ≡ h.sent =
     messages-same fetched.moment h.sent_at b.request.peer h.peer fetched.first.bytes h.first.bytes fetched.first.timeout h.first.timeout o o _ h.sent
     (at-same (before l n) r.sending _ _ fetched.first.stands h.first.stands) in
     let stands = at-before l n r.number _ h.heard in
@@ -356,7 +357,7 @@ heard-so l n o r b x block legal opened here has fetched =
         sending = r.sending;
         sent = h.sent;
         sent_for = sent-block (entries l) o b.request it.1 block r.sending h.sent
-            (fetched.observes, asks-own fetched.observes b.request block fetched.mid fetched.token h.sent message) it.2;
+            (fetched.manner, asks-own fetched.manner b.request block fetched.mid fetched.token h.sent message) it.2;
         response = subst (λ (p : Peer). IsResponse (entries l) p r.sending h.sent r.number r.message) it.0 response;
         new = subst (λ (p : Peer). IsNew (entries l) p r.number) it.0 (says-new l h.peer r.number _ legal stands tt);
         first = subst (λ (p : Peer). IsUnanswered (entries l) p r.sending h.sent r.number) it.0 unanswered;

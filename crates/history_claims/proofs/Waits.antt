@@ -1,5 +1,5 @@
 -- An ask that can wait for what another one asked for sends nothing, and isn't turned away.
-use Rattle.std.proofs.Common.{◌≡◌, ℕ, ◌<◌, Bool, true, not, ◌||◌, eqb, inl, inr, List, Option, Some, sym, ap, subst, ◌∙◌, arith}
+use Rattle.std.proofs.Common.{◌≡◌, ℕ, ◌<◌, Bool, true, not, ◌||◌, eqb, inl, inr, List, Option, Some, None, sym, ap, subst, ◌∙◌, arith}
 use Rattle.std.specs.Prelude.{is_some}
 use Rattle.std.specs.Option.{option_map_or}
 use Rattle.std.proofs.lemmas.Bool.Decides.{leb_tells}
@@ -13,12 +13,12 @@ use Rattle.cache_key.specs.declared.place.Place.{Place}
 use Rattle.cache_key.specs.Keys.{same_place}
 use Rattle.cache_key.proofs.CallerLemmas.{places_decided}
 use Rattle.journal_book.specs.Entries.{Fault, Asks, Answers}
-use Rattle.history_laws.specs.Readings.{Noted, Note, Plain, Begins, entries, at, before, noted}
+use Rattle.history_laws.specs.Readings.{Noted, Note, Plain, entries, at, before, noted}
 use Rattle.history_laws.specs.Connections.{is_open, opened}
-use Rattle.history_laws.specs.Exchanges.{begun, end_of, is_going}
-use Rattle.history_laws.specs.Joining.{outrun}
+use Rattle.history_laws.specs.Exchanges.{opens_by, begun, end_of, is_going}
+use Rattle.history_laws.specs.Joining.{outrun, joins}
 use Rattle.history_laws.specs.Justified.{IsAsk, Caused, reads, reads_open, pending, is_in_hand, AskNote, Follows, Legal, AtRest, MayCome}
-use Rattle.history_laws.proofs.CallerLemmas.{at-before, at-below, at-entries, at-same, at-still, begun-before, begun-below, end-since, follows-at, Joined, legal-before, length-before, none-joined, none-of, not-true, open-below, open-exactly, outran, Outran, range-passes, reader, Reader, waited-or-answered, write-earlier}
+use Rattle.history_laws.proofs.CallerLemmas.{at-before, at-below, at-entries, at-same, at-still, begun-before, begun-below, end-since, follows-at, Joined, legal-before, length-before, none-joined, none-of, not-true, open-below, opens-so, open-exactly, outran, Outran, range-passes, reader, Reader, waited-or-answered, write-earlier}
 use Rattle.history_claims.specs.Headline.{IsEntry}
 use Rattle.history_claims.specs.Causes.{IsUnsent, IsCutOff}
 use Rattle.history_claims.specs.Once.{CanWaitFor, IsSentNothing}
@@ -157,10 +157,10 @@ module _ (l : List Noted) (k s c : ℕ) (a : Ask) (note : Note) (q : CoapRequest
         }
 
     -- so it joins
-    pub opens-none : (r : CoapRequest) → note ≡ Begins r → ⊥
+    pub opens-none : (r : CoapRequest) → opens_by note ≡ Some r → ⊥
     opens-none r is =
-        let may : AskNote (before l k) s (Requests q) (Begins r) = subst (AskNote (before l k) s (Requests q)) is follows.1 in
-        none-joined (before l k) q going.0 may.1 joined
+        let it = opens-so (before l k) s (Requests q) note r is follows.1 in
+        none-joined (before l k) q going.0 (subst (λ (v : CoapRequest). joins (before l k) v ≡ None) (sym (requests-same q r it.sense)) it.alone) joined
 
     not-plain : note ≡ Plain → ⊥
     not-plain is =

@@ -10,15 +10,14 @@ use Rattle.ask_model.specs.Requests.{CoapRequest, Sense, Requests}
 use Rattle.ask_model.specs.Sharing.{asked_place}
 use Rattle.ask_model.specs.Views.{Ask}
 use Rattle.journal_book.specs.Entries.{Grounds, Live, Kept, Fault, Asks, Answers}
-use Rattle.history_laws.specs.Readings.{Noted, Note, Plain, Begins, Joins, Serves, entries, at, before, noted}
+use Rattle.history_laws.specs.Readings.{Noted, Note, Plain, Begins, Renews, Joins, Serves, entries, at, before, noted}
 use Rattle.history_laws.specs.Connections.{is_open, is_sealed}
 use Rattle.history_laws.specs.Exchanges.{Begun, begun, End, end_of}
 use Rattle.history_laws.specs.Joining.{outrun}
 use Rattle.history_laws.specs.Justified.{IsAsk, IsRefused, Caused, HasGrounds, AskNote, reads_by, reads_in, reads, pending, Follows, MayCome, Legal}
-use Rattle.resp_cache.specs.Stored.{Stored}
-use Rattle.history_laws.specs.Storing.{IsCarried}
-use Rattle.history_laws.specs.Laws.{IsWriteEnd}
-use Rattle.history_laws.proofs.CallerLemmas.{asked-for, carried-current, at-before, at-below, at-same, at-still, before-twice, end-since, ends-first, follows-at, joins-is, legal-before, none-some, opening-begun, unoutrun-earlier}
+use Rattle.history_laws.specs.Carrying.{carried}
+use Rattle.history_laws.specs.Grounds.{IsWriteEnd}
+use Rattle.history_laws.proofs.CallerLemmas.{asked-for, copied-current, at-before, at-below, at-same, at-still, before-twice, end-since, ends-first, follows-at, joins-is, legal-before, none-some, opening-begun, unoutrun-earlier}
 use Rattle.history_claims.specs.Headline.{IsWriteAnswer}
 use Rattle.history_claims.proofs.Entries.{entries-at, grows}
 use Rattle.history_claims.proofs.Asking.{AnswersAsk, answers-ask}
@@ -56,13 +55,15 @@ module _ (l : List Noted) (n o s d : ℕ) (b : Ask) (q : CoapRequest) (stands : 
   busy-cause t j C.Media h = absurd (not-refused C.Media h.2)
 
   busy-grounds : (t : ℕ) (g : Grounds) → HasGrounds (before l n) t o g → g ≡ Fault C.Busy o
-  busy-grounds t (Live js) h = absurd (reads-none h.0 h.4)
+  busy-grounds t (Live js) (inl h) = absurd (reads-none h.0 h.4)
+  busy-grounds t (Live js) (inr h) = absurd (reads-none h.0 h.4)
   busy-grounds t (Kept js) h = absurd (serves-plain js (ap (λ (x : Noted). x.note) (at-same l o _ _ (at-before l n o _ h.2) stands)))
   busy-grounds t (Fault cause j) h = busy-cause t j cause h
 
 -- What isn't a GET opens an exchange, or is turned away.
 write-note : (l : List Noted) (t : ℕ) (q : CoapRequest) (note : Note) → AskNote l t (Requests q) note → q.method ≢ 1 → (note ≡ Begins q) ⊎ (note ≡ Plain)
 write-note l t q (Begins r) h other = inl (ap Begins h.0)
+write-note l t q (Renews r s) h other = absurd (other (get-method q h.3))
 write-note l t q (Joins o) h other = let it = joins-is l q o h in absurd (other (same-get q it.exchange.request it.same))
 write-note l t q (Serves js) h other = absurd (other (get-method q (stored-get l q h.0 h.1)))
 write-note l t q Plain h other = inr refl
@@ -117,7 +118,7 @@ module _ (l : List Noted) (k conn : ℕ) (a : Ask) (q : CoapRequest) (legal : Le
   opens = subst (λ (note : Note). at l w.ask ≡ Some (noted w.write.moment (Asks w.write.conn write) note)) begins there.1
 
   over : Over w.ask (before l n)
-  over = over-grounds l n w.ask w.write.moment w.write.conn write w.write.request opens refl w.moment w.grounds its.0.grounds
+  over = over-grounds l n w.ask w.write.moment w.write.conn write (Begins w.write.request) w.write.request refl opens refl w.moment w.grounds its.0.grounds
 
   twice : before (before l k) n ≡ before l n
   twice = before-twice l k n _ ask.stands lt
@@ -146,21 +147,23 @@ module _ (l : List Noted) (k conn : ℕ) (a : Ask) (q : CoapRequest) (legal : Le
       let first = ends-first (before l n) w.ask x.number x.how ended in
       subst (λ (m : ℕ). x.number < m) its.1 (at-below (before l n) x.number first.0 first.1)
 
-  -- Then nothing that the journal begins with is stored.
-  pub carried-never : (s : Stored) → IsCarried (before l k) q s → ⊥
-  carried-never s is =
+  -- Then nothing is stored that came of what the journal begins with.
+  pub carried-unwritten : (o : ℕ) (b : Begun) → carried l o ≡ Some b → outrun (before l k) (asked_place q) o ≡ false → ⊥
+  carried-unwritten o b is fresh =
       elim (over) [
         | inl end ↦
             let x = is-ended (end_of (before l n) w.ask) end in
             let sooner = ended-sooner x.0 x.1 in
-            carried-current l k x.0.number q s legal (at-below l k _ ask.stands) is (ended-write x.0 x.1) (omega (arith, sooner, lt))
+            let write = ended-write x.0 x.1 in
+            copied-current l o x.0.number b q legal is write
+            (unoutrun-earlier l k o x.0.number q legal (at-below l k _ ask.stands) fresh write (omega (arith, sooner, lt)))
         | inr sealed ↦ not-sealed sealed
       ]
 
   -- before which no write had outrun the exchange of o
   module _ (o : ℕ) (exchange : Begun) (opened : begun l o ≡ Some exchange) (fresh : outrun (before l k) (asked_place q) o ≡ false) where
-    opening : (d : ℕ) × (b : Ask) × (at l o ≡ Some (noted exchange.since (Asks d b) (Begins exchange.request)))
-    opening = let it = asked-for l o exchange legal opened in (it.conn, it.ask, it.stands)
+    opening : (d : ℕ) × (b : Ask) × (note : Note) × (at l o ≡ Some (noted exchange.since (Asks d b) note))
+    opening = let it = asked-for l o exchange legal opened in (it.conn, it.ask, it.note, it.stands)
 
     -- it ended before the exchange was opened
     ended-before : (x : End) → end_of (before l n) w.ask ≡ Some x → x.number < o
@@ -172,8 +175,8 @@ module _ (l : List Noted) (k conn : ℕ) (a : Ask) (q : CoapRequest) (legal : Le
         (ended-write x ended) (omega (arith, soon, lt)) in
         elim (eqb_tells x.number o) [
           | inl u ↦
-              absurd (not-at-ask l w.ask x.number exchange.since opening.0 opening.1 (Begins exchange.request) x.how all
-              (subst (λ (i : ℕ). at l i ≡ Some (noted exchange.since (Asks opening.0 opening.1) (Begins exchange.request))) (sym u.1) opening.2))
+              absurd (not-at-ask l w.ask x.number exchange.since opening.0 opening.1 opening.2 x.how all
+              (subst (λ (i : ℕ). at l i ≡ Some (noted exchange.since (Asks opening.0 opening.1) opening.2)) (sym u.1) opening.3))
           | inr u ↦ let not = u.1 in omega (arith, le, not)
         ]
 
@@ -184,7 +187,7 @@ module _ (l : List Noted) (k conn : ℕ) (a : Ask) (q : CoapRequest) (legal : Le
           | inl u ↦ elim (eqb_tells o n) [
             | inl v ↦
                 absurd (no-answer exchange.since w.moment opening.0 w.write.conn w.ask opening.1 w.grounds _ answer.0
-                (at-same l n _ _ (subst (λ (i : ℕ). at l i ≡ Some (noted exchange.since (Asks opening.0 opening.1) (Begins exchange.request))) v.1 opening.2) answer.1))
+                (at-same l n _ _ (subst (λ (i : ℕ). at l i ≡ Some (noted exchange.since (Asks opening.0 opening.1) opening.2)) v.1 opening.3) answer.1))
             | inr v ↦ let le = u.1 in let not = v.1 in absurd (came-between x ended sooner (omega (arith, le, not)))
           ]
           | inr u ↦ u.1
@@ -208,13 +211,13 @@ module _ (l : List Noted) (k conn : ℕ) (a : Ask) (q : CoapRequest) (legal : Le
         came-between : (x : End) → end_of (before l n) w.ask ≡ Some x → x.number < o → o < n → ⊥
         came-between x ended sooner soon =
             let early = legal-before l n legal in
-            let last = at-still l n o _ _ answer.1 soon opening.2 in
+            let last = at-still l n o _ _ answer.1 soon opening.3 in
             let follows = follows-at l n _ legal answer.1 in
             let own : reads (before l n) w.ask ≡ Some w.ask =
             subst (λ (x : Option Noted). reads_in w.ask x ≡ Some w.ask) (sym (at-still l n w.ask _ _ answer.1 asked-before opens)) refl in
             let after = ends-after (before l n) w.ask x.number x.how early ended in
             no-input (before l n) w.write.conn w.ask w.ask x.number x.how its.0.ask early its.0.asked own ended after (still-open follows) (still-waits follows)
-            o _ sooner last (comes (before (before l n) o) exchange.since opening.0 opening.1 (Begins exchange.request) (follows-at (before l n) o _ early last))
+            o _ sooner last (comes (before (before l n) o) exchange.since opening.0 opening.1 opening.2 (follows-at (before l n) o _ early last))
 
     pub fresh-at : n < o
     fresh-at =

@@ -9,7 +9,7 @@ use Rattle.ask_model.specs.Requests.{CoapRequest, Requests}
 use Rattle.ask_model.specs.Views.{Ask}
 use Rattle.journal_book.specs.Entries.{Grounds, Mark, Done, Deed, Asks, Answers, Carries, Written}
 use Rattle.history_laws.specs.Justified.{Stands}
-use Rattle.history_laws.specs.Laws.{replies_in}
+use Rattle.history_laws.specs.Grounds.{replies_in}
 use Rattle.history_claims.specs.Headline.{IsEntry, IsAsked, WasFirstSent, IsSameGet}
 
 -- A token is borne by one message of all (RFC 7252 section 5.3.1).

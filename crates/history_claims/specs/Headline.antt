@@ -1,7 +1,7 @@
 -- What an answer rests on: said of a journal's entries alone, which lie oldest first and go by their
 -- number from 0. A journal may begin with copies of an older one's entries: an answer that was kept
 -- may rest on such, and tokens, message IDs and repeats are told by them too.
-use Rattle.std.specs.Prelude.{◌≡◌, ◌≢◌, ◌⊎◌, ℕ, ◌+◌, ◌<◌, ◌≤◌, List, [], ◌∷◌, slice_get, Option, Some, ⊤, Bool, None, true, false}
+use Rattle.std.specs.Prelude.{◌≡◌, ◌≢◌, ◌⊎◌, ℕ, ◌+◌, ◌<◌, ◌≤◌, List, [], ◌∷◌, slice_get, Option, Some, ⊤, None, true, false}
 use Rattle.std.specs.List.{Contains}
 use Rattle.limits.specs.declared.TheConstants.{EXCHANGE_LIFETIME, MAX_TRANSMIT_WAIT}
 use Rattle.coap_codec.specs.declared.message.MsgType.{MsgType}
@@ -10,14 +10,12 @@ use Rattle.coap_codec.specs.declared.block.Block.{Block}
 use Rattle.coap_codec.specs.Spelling.{Content, Spells}
 use Rattle.uri_map.specs.declared.peer.Peer.{Peer}
 use Rattle.ask_model.specs.declared.cause.Cause.TheVariants as C
-use Rattle.ask_model.specs.Requests.{CoapRequest, Came, Sense, Requests, asking}
+use Rattle.ask_model.specs.Requests.{CoapRequest, Came, Sense, Requests, Manner, Observing, asking}
 use Rattle.ask_model.specs.Observing.{may_observe}
 use Rattle.ask_model.specs.Views.{Rules}
-use Rattle.journal_book.specs.Entries.{Grounds, Live, Fault, Done, Sent, Heard, done_of, Deed, Asks, Sends, Hears, Passes, Answers, Written}
-use Rattle.resp_cache.specs.Stored.{lifetime}
+use Rattle.journal_book.specs.Entries.{Grounds, Fault, Done, Sent, Heard, done_of, Deed, Asks, Sends, Hears, Passes, Answers, Written}
 use Rattle.history_laws.specs.Responses.{Response, whole_of}
 use Rattle.history_laws.specs.Progress.{Point, first_point, block_for, point_after}
-use Rattle.history_laws.specs.Justified.{Stands}
 use Rattle.ask_model.specs.Sharing.{asks_same}
 use Rattle.history_laws.specs.Confirmations.{empty}
 use Rattle.history_laws.specs.Observing.{number_or_zero, version}
@@ -56,10 +54,10 @@ pub record WasFirstSent (h : List Written) (i t : ℕ) (p : Peer) (m : Content) 
 
 -- The message asks just what the request means: its method, options and body (RFC 7252 section 5);
 -- or, where a block is named, for this block of its representation, or with this one of its body
--- (RFC 7959 sections 2.4 and 2.3). Where none is named, it may ask to be told of changes too (RFC 7641
--- section 3.1).
+-- (RFC 7959 sections 2.4 and 2.3). Where none is named, it may ask to be told of changes too (RFC
+-- 7641 section 3.1), or whether what has an ETag is valid still (RFC 7252 section 5.10.6.2).
 abbrev pub AsksFor : CoapRequest → Option Block → Content → Type 0
-AsksFor q block m = (observes : Bool) × (m ≡ asking observes q block m.mid m.token)
+AsksFor q block m = (manner : Manner) × (m ≡ asking manner q block m.mid m.token)
 
 -- After the entry k, as the ask or a reply, the entry i first sent this message for the request q,
 -- or for the block of it, to the endpoint of q, under a token that was issued for it: no other
@@ -172,8 +170,8 @@ pub record IsPending (h : List Written) (k o : ℕ) (q : CoapRequest) : Type 0 w
 abbrev pub IsSameGet : CoapRequest → CoapRequest → Type 0
 IsSameGet q r =
     (q.method ≡ 1) × (q.peer ≡ r.peer)
-    × ((observes : Bool) (mid : ℕ) (token : List ℕ)
-    → asking observes q None mid token ≡ asking observes r None mid token)
+    × ((manner : Manner) (mid : ℕ) (token : List ℕ)
+    → asking manner q None mid token ≡ asking manner r None mid token)
 
 -- The ask w is for the resource of q, and is no GET.
 pub record IsWrite (h : List Written) (q : CoapRequest) (w : ℕ) : Type 0 where
@@ -240,13 +238,6 @@ pub record RestsOn (h : List Written) (n c k : ℕ) (js : List ℕ) : Type 0 whe
   pub response : Response
   pub whole : whole_of request messages ≡ Some response
 
--- In every journal that stands, an answer that isn't the proxy's own rests on one whole response to
--- what its ask asked.
-abbrev pub RestsOnReplies : Type 0
-RestsOnReplies =
-    (h : List Written) (n t c k : ℕ) (js : List ℕ) → Stands h
-    → IsEntry h n t (Answers c k (Live js)) → RestsOn h n c k js
-
 -- The resource of q is observed for the ask o (RFC 7641 section 3.1): it may be by the rules of that,
 -- its first message asked to be told of changes, and the entry n heard the reply.
 pub record IsObserved (h : List Written) (o : ℕ) (q : CoapRequest) (n : ℕ) : Type 0 where
@@ -256,7 +247,7 @@ pub record IsObserved (h : List Written) (o : ℕ) (q : CoapRequest) (n : ℕ) :
   pub may : may_observe asked.rules q ≡ true
   pub reply : Content
   pub heard : IsHeardFor h o q None n reply
-  pub observes : heard.sent_for.asks.0 ≡ true
+  pub observes : heard.sent_for.asks.0 ≡ Observing
 
 -- The entry j heard a notification of it (RFC 7641 section 4.2): after that reply, one more response
 -- to that message, in a CON or NON that is no repeat.
@@ -317,31 +308,3 @@ IsNewest h (s ∷ js) n q =
     (p : Peer) (j : ℕ) (m : Content) → s < j → j < n → IsNotice h p j m
     → (o : ℕ) × (r : CoapRequest) × (known : IsNotified h o r j m)
     × (asks_same q r ≡ true → IsOlder h o r j m known)
-
--- The answer that the connection is given at this moment, to the ask k of the same moment, rests on
--- a whole 2.05 that was heard before it: on these entries, which heard that for an earlier ask of
--- an equal GET, or on one which heard it as a notification of what that observes. At this moment it
--- is fresh (RFC 7252 section 5.6.1), counted from its first reply; no newer notification counted
--- since that, and no write to the resource was answered since the earlier ask.
-pub record IsServed (h : List Written) (t c k : ℕ) (js : List ℕ) : Type 0 where
-  pub request : CoapRequest
-  pub asked : IsAsked h k c t (Requests request)
-  pub opening : ℕ
-  pub earlier : opening < k
-  pub conn : ℕ
-  pub moment : ℕ
-  pub other : CoapRequest
-  pub other_asked : IsAsked h opening conn moment (Requests other)
-  pub same : IsSameGet request other
-  pub messages : List Content
-  pub heard : AreHeardFor h opening other (first_point other) js messages
-      ⊎ AreNotified h opening other js messages
-  pub before : (j : ℕ) → Contains js j → j < k
-  pub response : Response
-  pub whole : whole_of other messages ≡ Some response
-  pub content : response.code ≡ 69
-  pub since : ℕ
-  pub first : IsHeardFirst h since js
-  pub fresh : t < since + lifetime response.max_age
-  pub newest : IsNewest h js k request
-  pub current : (n : ℕ) → IsWriteAnswer h request n → n < k → n < opening

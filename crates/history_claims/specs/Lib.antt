@@ -1,5 +1,6 @@
 pub mod Headline
 pub mod Carried
+pub mod Stored
 pub mod Causes
 pub mod Apart
 pub mod Once

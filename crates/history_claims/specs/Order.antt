@@ -12,7 +12,7 @@ use Rattle.ask_model.specs.Requests.{CoapRequest, Requests, carried_by}
 use Rattle.journal_book.specs.Entries.{Grounds, Sends, Hears, Passes, Answers, Written}
 use Rattle.history_laws.specs.Confirmations.{empty}
 use Rattle.history_laws.specs.Justified.{Stands}
-use Rattle.history_laws.specs.Laws.{replies_in}
+use Rattle.history_laws.specs.Grounds.{replies_in}
 use Rattle.history_claims.specs.Headline.{IsEntry, IsAsked, IsFirstSending, WasFirstSent, IsSentFor, IsHeard, IsResponse, IsPending, IsWriteAnswer}
 use Rattle.history_claims.specs.Causes.{AreCopies}
 use Rattle.history_claims.specs.Once.{IsAtHand, CanWaitFor}

@@ -15,11 +15,12 @@ use Rattle.history_laws.specs.WorkedLate as L
 use Rattle.history_laws.specs.WorkedPieces as P
 use Rattle.history_laws.specs.WorkedUploads as U
 use Rattle.history_laws.specs.WorkedReaders as R
+use Rattle.history_laws.specs.WorkedRenewed as N
 use Rattle.history_laws.specs.WorkedSpoiled as S
 use Rattle.history_laws.specs.WorkedStore as K
 use Rattle.history_laws.specs.WorkedWatches as O
-use Rattle.history_claims.specs.Headline.{IsSentFor, IsRepeat, IsPending, RestsOn, IsServed}
-use Rattle.history_claims.specs.Carried.{IsServedCarried}
+use Rattle.history_claims.specs.Headline.{IsSentFor, IsRepeat, IsPending, RestsOn}
+use Rattle.history_claims.specs.Stored.{IsServed, RestsOnRenewed}
 use Rattle.history_claims.specs.Causes.{AreUnshared, IsTurnedAway, IsCausedBy}
 
 -- The GET's answer rests on the response of entry 9, and the PUT's on that of entry 16.
@@ -226,17 +227,17 @@ OtherQuery = IsServed (entries K.other_query) 800 0 5 (3 ∷ []) → ⊥
 -- The response of entry 2, with which the journal begins, is kept for an equal GET, up to its last
 -- fresh millisecond.
 abbrev pub ServedCarried : Type 0
-ServedCarried = IsServedCarried (entries A.served_carried) 64999 2 4 (2 ∷ [])
+ServedCarried = IsServed (entries A.served_carried) 64999 2 4 (2 ∷ [])
 
 -- Not so: a millisecond later, for another query, and after a PUT to the place was answered.
 abbrev pub CarriedLate : Type 0
-CarriedLate = IsServedCarried (entries A.carried_late) 65000 2 4 (2 ∷ []) → ⊥
+CarriedLate = IsServed (entries A.carried_late) 65000 2 4 (2 ∷ []) → ⊥
 
 abbrev pub CarriedForAnother : Type 0
-CarriedForAnother = IsServedCarried (entries A.carried_for_another) 64999 2 4 (2 ∷ []) → ⊥
+CarriedForAnother = IsServed (entries A.carried_for_another) 64999 2 4 (2 ∷ []) → ⊥
 
 abbrev pub CarriedOutrun : Type 0
-CarriedOutrun = IsServedCarried (entries A.carried_outrun) 10001 2 8 (2 ∷ []) → ⊥
+CarriedOutrun = IsServed (entries A.carried_outrun) 10001 2 8 (2 ∷ []) → ⊥
 
 -- What the update of entry 6 brought is kept for an equal GET.
 abbrev pub Updated : Type 0
@@ -245,3 +246,30 @@ Updated = IsServed (entries O.served) 4000 1 9 (6 ∷ [])
 -- Not so: the one before it, which that outdates.
 abbrev pub Outdated : Type 0
 Outdated = IsServed (entries O.served) 4000 1 9 (5 ∷ []) → ⊥
+
+-- The response of entry 5 is asked about by its ETag when it is stale, and the 2.03 of entry 9
+-- renews it. So it is told, and kept for an equal GET up to its last fresh millisecond; and once it
+-- is stale again, the 2.03 of entry 13 renews it.
+abbrev pub Renewed : Type 0
+Renewed =
+    RestsOnRenewed (entries N.renewed) 10 1 7 (5 ∷ 9 ∷ [])
+    × (IsServed (entries N.served_renewed) 10099 2 11 (5 ∷ 9 ∷ [])
+    × RestsOnRenewed (entries N.renewed_again) 14 2 11 (5 ∷ 13 ∷ []))
+
+-- Not so: by a 2.03 with another ETag, or by one that answers the next message.
+abbrev pub OtherTag : Type 0
+OtherTag = RestsOnRenewed (entries (N.told_with 8)) 10 1 7 (5 ∷ 9 ∷ []) → ⊥
+
+abbrev pub ValidLate : Type 0
+ValidLate = RestsOnRenewed (entries N.valid_late) 12 1 7 (5 ∷ 11 ∷ []) → ⊥
+
+-- Nor after a PUT to the place was answered.
+abbrev pub asked_after : List Noted
+asked_after =
+    noted 1100 (Answers 1 11 (Live (5 ∷ 13 ∷ []))) Plain
+    ∷ noted 1100 (Hears server N.valid_again_bytes) (Says N.valid_again (Some 12) unobserved)
+    ∷ noted 1040 (Sends server (N.validate_bytes 2 2) (Some 2000)) (First 11 (N.validates 2 2))
+    ∷ N.asked_outrun
+
+abbrev pub RenewedAfter : Type 0
+RenewedAfter = RestsOnRenewed (entries asked_after) 14 1 11 (5 ∷ 13 ∷ []) → ⊥

@@ -1,7 +1,6 @@
 //! What holds of the entries of every journal that stands, as contracts of functions that do nothing.
 
-ghost use Rattle.history_claims.specs.Carried.{RestsOnStored};
-ghost use Rattle.history_claims.specs.Headline.{RestsOnReplies};
+ghost use Rattle.history_claims.specs.Stored.{RestsOnReplies, RestsOnStored};
 ghost use Rattle.history_claims.specs.Causes.{NamesCause};
 ghost use Rattle.history_claims.specs.Apart.{
   TokensOnce,

@@ -41,6 +41,10 @@ ghost use Rattle.history_claims.specs.Worked.{
   CarriedOutrun,
   Updated,
   Outdated,
+  Renewed,
+  OtherTag,
+  ValidLate,
+  RenewedAfter,
 };
 
 /// A separate response, and one in an ACK.
@@ -136,4 +140,14 @@ pub fn worked_carried()
 pub fn worked_watches()
     ensures updated { Updated }
     ensures outdated { Outdated }
+{}
+
+/// A stored response that a 2.03 renews, once and again: told, and kept for an equal GET (RFC 7252
+/// section 5.9.1.3). And what doesn't: a 2.03 with another ETag, one that answers the next message,
+/// and any where a write to the place was answered before the ask.
+pub fn worked_renewed()
+    ensures renewed { Renewed }
+    ensures other { OtherTag }
+    ensures late { ValidLate }
+    ensures written { RenewedAfter }
 {}
