@@ -15,7 +15,7 @@ use resp_cache::{Location, Response, Values};
 use std::alloc::{AllocError, Global};
 
 /// Its Content-Format.
-fn format_of(m: &Message) -> Option<u16>
+pub(crate) fn format_of(m: &Message) -> Option<u16>
     ensures { result ≡ option_map uint (value_of 12 (content m.now)) }
 {
     match value_of(m, number::CONTENT_FORMAT) {
@@ -25,7 +25,7 @@ fn format_of(m: &Message) -> Option<u16>
 }
 
 /// Its Max-Age, in seconds.
-fn max_age_of(m: &Message) -> Option<u32>
+pub(crate) fn max_age_of(m: &Message) -> Option<u32>
     ensures { result ≡ option_map uint (value_of 14 (content m.now)) }
 {
     match value_of(m, number::MAX_AGE) {
