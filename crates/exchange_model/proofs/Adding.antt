@@ -112,7 +112,7 @@ copy-adds t p o S h is =
 
 -- An answer was held free.
 pub answers-adds : (t c k : ℕ) (g : Grounds) (S : State) → Tidy S.links → HasConn S.conns c (Some k)
-    → grounds_size g ≤ 16388 → Adds 0 0 S (answers t c k g S)
+    → grounds_size g ≤ 16392 → Adds 0 0 S (answers t c k g S)
 answers-adds t c k g S h has small =
     let all = length-map S.conns
     (λ (x : Conn). cond (eqb x.id c) (record x { pending = None }) x) in

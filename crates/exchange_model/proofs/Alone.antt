@@ -21,6 +21,7 @@ none-added S = record {
   issued = refl;
   exchanges = refl;
   pieces = refl;
+  stales = refl;
   watches = refl;
   links = refl;
 }
@@ -44,6 +45,7 @@ both-added S S1 S2 a b = record {
   issued = b.issued ∙ a.issued;
   exchanges = b.exchanges ∙ a.exchanges;
   pieces = b.pieces ∙ a.pieces;
+  stales = b.stales ∙ a.stales;
   watches = b.watches ∙ a.watches;
   links = b.links ∙ a.links;
 }
@@ -58,6 +60,7 @@ one-added t S x = record {
   issued = refl;
   exchanges = refl;
   pieces = refl;
+  stales = refl;
   watches = refl;
   links = refl;
 }

@@ -13,7 +13,7 @@ use Rattle.observe_share.specs.declared.registration.Registration.{Registration}
 use Rattle.observe_share.specs.declared.notice.Notice.{Notice}
 use Rattle.observe_share.specs.declared.notice.Notice.TheVariants.{Update, Other}
 use Rattle.observe_share.specs.Watches.{counted, counts_for, first_changed, in_place}
-use Rattle.history_laws.specs.Readings.{Noted, Note, Begins, Says, Observation, Unobserved, Registers, Updates, Outdates, Cancels, noted}
+use Rattle.history_laws.specs.Readings.{Noted, Note, Begins, Renews, Says, Observation, Unobserved, Registers, Updates, Outdates, Cancels, noted}
 use Rattle.history_laws.specs.Readings as R
 use Rattle.history_laws.specs.Transmissions.{FirstSending, first_at}
 use Rattle.history_laws.specs.Exchanges.{Begun, openings, awaited, waits_for}
@@ -252,6 +252,7 @@ apart-by l t (Asks c a) note legal follows all = by a.sense note
   where
     by : (s : Sense) (n : Note) → Apart (asked_by t s n (watches l))
     by (Requests q) (Begins r) = apart-filter (λ (w : Watch). not (is_for q w)) (watches l) all
+    by (Requests q) (Renews r s) = apart-filter (λ (w : Watch). not (is_for q w)) (watches l) all
     by (Requests q) n = apart-touched (asked_again q t) (again-token q t) (watches l) all
     by (Refuses cause status) n = all
 apart-by l t (Hears p b) (Says m (Some i) notice) legal follows all = told-apart l t p b m i notice legal follows all

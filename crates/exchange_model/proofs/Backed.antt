@@ -4,7 +4,7 @@ use Rattle.std.proofs.lemmas.Bool.Decides.{eqb_tells}
 use Rattle.coap_codec.specs.Spelling.{Content}
 use Rattle.coap_codec.specs.declared.block.Block.{Block}
 use Rattle.uri_map.specs.declared.peer.Peer.{Peer}
-use Rattle.ask_model.specs.Requests.{CoapRequest, Requests, asking}
+use Rattle.ask_model.specs.Requests.{CoapRequest, Requests, asking, Manner}
 use Rattle.ask_model.specs.Sharing.{asks_same, is_get}
 use Rattle.ask_model.specs.Views.{Ask}
 use Rattle.journal_book.specs.Entries.{Mark, Past, Done, done_of, Deed, Asks, Sends, Hears, Carries}
@@ -63,9 +63,9 @@ module _ (gs : List ℕ) where
     pub asked : asked_at l o ≡ Some exchange
     pub listed : has gs o ≡ true
     pub peer : p ≡ exchange.request.peer
-    pub observes : Bool
+    pub manner : Manner
     pub block : Option Block
-    pub asks : m ≡ asking observes exchange.request block m.mid m.token
+    pub asks : m ≡ asking manner exchange.request block m.mid m.token
 
   -- a reply to such a sending
   pub record BackedReply (l : List Noted) (p : Peer) (m : Content) : Type 0 where

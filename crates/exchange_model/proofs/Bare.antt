@@ -9,14 +9,17 @@ use Rattle.blockwise.specs.Uploads.{UploadValue, answer_to, next_of}
 use Rattle.blockwise.specs.declared.upload.Answered.{Answered}
 use Rattle.blockwise.specs.declared.upload.Answered.TheVariants as A
 use Rattle.history_laws.specs.Responses.{response_of, is_tellable}
-use Rattle.history_laws.specs.Progress.{Reply, numbers, messages, Ending, Whole, NotUnderstood, Reset, TimedOut, Turned, Progress, Fetches, Gives, Ends, answered_so, anew, fetched_by, fetched_whole, step}
+use Rattle.history_laws.specs.Progress.{Reply, numbers, messages, Ending, Whole, Renewed, NotUnderstood, Reset, TimedOut, Turned, Progress, Fetches, Gives, Ends, answered_so, anew, fetched_by, fetched_whole, step}
 use Rattle.exchange_model.specs.Steps.{got_by}
+use Rattle.history_laws.specs.Observing.{as_first, first_reply}
+use Rattle.resp_cache.specs.Stored.{Stored}
 
 abbrev pub bare : Reply → Reply
 bare r = record r { sending = 0 }
 
 abbrev pub bare_ending : Ending → Ending
 bare_ending (Whole w rs) = Whole w (map bare rs)
+bare_ending (Renewed s r) = Renewed s (bare r)
 bare_ending NotUnderstood = NotUnderstood
 bare_ending Reset = Reset
 bare_ending TimedOut = TimedOut
@@ -84,3 +87,17 @@ step-bare (Fetches k p got) r = by (is_tellable r.message)
         ap (fetched_by (judged p r.message) k (with_piece p r.message)) (bare-push got r)
         ∙ by-bare (judged p r.message) k (with_piece p r.message) (got ++ r ∷ [])
     by false = refl
+
+-- The first reply to a GET by itself renews nothing.
+pub first-unrenewed : (n i : ℕ) (m : Content) (s : Stored) (u : Reply) → as_first n i m ≡ Ends (Renewed s u) → ⊥
+first-unrenewed n i m s u e = by (is_tellable m) (judged no_pieces m) e
+  where
+    by : (b : Bool) (j : Judged) → cond b (fetched_by j 0 (with_piece no_pieces m) (first_reply n i m ∷ [])) (Ends NotUnderstood) ≡ Ends (Renewed s u) → ⊥
+    by false j f = cc
+    by true (Err F.Changed) f = cc
+    by true (Err F.Size) f = cc
+    by true (Err F.Gap) f = cc
+    by true (Err F.TooLarge) f = cc
+    by true (Err F.Memory) f = cc
+    by true (Ok (Next c)) f = cc
+    by true (Ok Last) f = cc

@@ -34,6 +34,7 @@ use Rattle.exchange_model.specs.Entering.{going_as, sent_as, first_deeds, in_tur
 use Rattle.exchange_model.proofs.Opened.{OpenIn, open-ones}
 use Rattle.exchange_model.proofs.Entered.{put, next-put, turn_of, out-at}
 use Rattle.exchange_model.proofs.LinksHeard.{Turns, turns}
+use Rattle.exchange_model.specs.declared.kept.Stale.{Stale}
 
 pub refusals-enter : RefusalsEnter
 refusals-enter t c a n cause status S e =
@@ -98,12 +99,12 @@ turn-at-once w (Some o) ws h = refl
 turn-at-once w None ws h = ap (λ (us : List Waiting). in_turn true (us ++ w ∷ [])) h
 
 -- A message that goes out is nothing to these tables.
-opens-framed : (t : ℕ) (p : Peer) (m : Option ℕ) (w : Option Waiting) (n : ℕ) (es : List Exchange) (rs : List Reader) (vs : List Registration) (xs : List PeerLink)
+opens-framed : (t : ℕ) (p : Peer) (m : Option ℕ) (w : Option Waiting) (n : ℕ) (es : List Exchange) (us : List Stale) (rs : List Reader) (vs : List Registration) (xs : List PeerLink)
     (fs : List Exchange) (ys : List PeerLink) (S : State)
-    → put t (first_deeds t p m w) es xs (record S { issued = n; exchanges = fs; readers = rs; watches = vs; links = ys })
-    ≡ (let S1 = entered_all t (first_deeds t p m w) S in record S1 { issued = n; exchanges = es; readers = rs; watches = vs; links = xs })
-opens-framed t p m None n es rs vs xs fs ys S = refl
-opens-framed t p m (Some w) n es rs vs xs fs ys S = refl
+    → put t (first_deeds t p m w) es xs (record S { issued = n; exchanges = fs; stales = us; readers = rs; watches = vs; links = ys })
+    ≡ (let S1 = entered_all t (first_deeds t p m w) S in record S1 { issued = n; exchanges = es; stales = us; readers = rs; watches = vs; links = xs })
+opens-framed t p m None n es us rs vs xs fs ys S = refl
+opens-framed t p m (Some w) n es us rs vs xs fs ys S = refl
 
 -- No watch is under the new token: those have lower numbers.
 new-apart : (l : List Noted) (S : State) (r : Reads l S) (drop : Registration → Bool) (token : List ℕ) → token_number token ≡ S.issued
@@ -134,7 +135,7 @@ begins-enter t c a q n S may drained numbered sense none place =
     (new-sent w (length S.entries + 1) s.outstanding S.exchanges
     (exchange_for t a q n.token S) refl refl refl fresh)
     ∙ (ap (λ (u : LinkState). put t ds (begun t c a q n S).exchanges (with_link q.peer (given_out u) S.links) S1) released
-    ∙ opens-framed t q.peer s.last_mid up (S.issued + 1) (begun t c a q n S).exchanges S1.readers S1.watches (begun t c a q n S).links S1.exchanges S1.links (entered t (Asks c a) S))))))))
+    ∙ opens-framed t q.peer s.last_mid up (S.issued + 1) (begun t c a q n S).exchanges S1.stales S1.readers S1.watches (begun t c a q n S).links S1.exchanges S1.links (entered t (Asks c a) S))))))))
   where
     s : LinkState
     s = unwatched q S

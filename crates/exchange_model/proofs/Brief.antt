@@ -1,6 +1,6 @@
 -- A whole response has few pieces, so that what is told of it isn't long.
-use Rattle.std.proofs.Common.{◌≡◌, ℕ, ◌+◌, ◌*◌, ◌≤◌, Bool, true, false, not, cond, eqb, ltb, leb, inl, inr, List, [], ◌∷◌, ◌++◌, length, Option, Some, None, refl, sym, ap, subst, ◌∙◌, arith, length-append}
-use Rattle.std.specs.Prelude.{◌&&◌, is_some}
+use Rattle.std.proofs.Common.{◌≡◌, ℕ, ◌+◌, ◌*◌, ◌≤◌, Bool, true, false, not, cond, eqb, ltb, leb, inl, inr, List, [], ◌∷◌, ◌++◌, length, Option, Some, None, refl, sym, ap, subst, ◌∙◌, arith, length-append, suc, zero, append-nil, ◌<◌}
+use Rattle.std.specs.Prelude.{◌&&◌, is_some, filter}
 use Rattle.std.specs.List.{list_all}
 use Rattle.std.proofs.lemmas.Bool.{false≢true, and_parts, ltb-false}
 use Rattle.std.proofs.lemmas.Bool.Decides.{eqb_tells}
@@ -23,15 +23,18 @@ use Rattle.ask_model.specs.Sharing.{asked_key, asks_same, is_get}
 use Rattle.history_laws.specs.Exchanges.{Begun, begun as begun_in}
 use Rattle.history_laws.specs.Joining.{asks_the_same}
 use Rattle.journal_book.specs.Entries.{grounds_size}
-use Rattle.history_laws.specs.Readings.{Noted}
+use Rattle.history_laws.specs.Readings.{Noted, at, before}
 use Rattle.history_laws.specs.Responses.{Response, is_tellable, joined, whole_by, whole_fetched, whole_given, whole_of}
-use Rattle.history_laws.specs.Progress.{Reply, numbers, messages, Ending, Whole, NotUnderstood, Reset, TimedOut, Turned}
-use Rattle.history_laws.specs.Justified.{Ends}
-use Rattle.history_laws.specs.Storing.{ComesSo, IsBrought, IsStored}
-use Rattle.history_laws.proofs.CallerLemmas.{ends-all, first-whole, none-some}
+use Rattle.history_laws.specs.Progress.{Reply, numbers, messages, Ending, Whole, NotUnderstood, Reset, TimedOut, Turned, Renewed}
+use Rattle.history_laws.specs.Justified.{Ends, Legal}
+use Rattle.history_laws.specs.Storing.{ComesSo, IsBrought, IsStored, IsAsHeard, IsRenewal, is_valid_in, pieces_in, renewed_list}
+use Rattle.history_laws.proofs.CallerLemmas.{ends-all, first-whole, none-some, begun-below, ends-renewed, heard-of, legal-before, length-before, renewed-of, RenewsFor, replies-fit}
 use Rattle.resp_cache.specs.Stored.{Stored}
 use Rattle.exchange_model.specs.declared.kept.Reader.{Reader}
 use Rattle.exchange_model.specs.Calls.{grounds_for}
+use Rattle.std.proofs.lemmas.List.Sums.{length-filter, count_by-le-length}
+use Rattle.std.proofs.lemmas.List.Elements.{filter-append}
+use Rattle.exchange_model.proofs.Renewals.{renewal-for, says-valid}
 
 -- what holds of a piece that may be the next one
 faultless : (a p r d : Bool) → cond a (Some Changed) (cond (not p) (Some Size) (cond (not r) (Some Gap) (cond d (Some TooLarge) None))) ≡ None
@@ -157,13 +160,22 @@ ends-few l o e w rs short h =
     let two = length-map rs (λ (r : Reply). r.number) in
     omega (arith, few, one, two)
 
+-- Of what is renewed few pieces are told.
+abbrev pub TellsFew : Ending → Type 0
+TellsFew (Renewed s u) = length s.list ≤ 4097
+TellsFew how = Unit {0}
+
 -- so of what an exchange ended with
-pub ends-brief : (l : List Noted) (o n : ℕ) (how : Ending) (sending : Option ℕ) (r : Reader) → IsShortFor l o → Ends l o n how → grounds_size (grounds_for how n sending r) ≤ 16388
-ends-brief l o n (Whole w rs) sending r short h = let few = ends-few l o n w rs short h in omega (arith, few)
-ends-brief l o n NotUnderstood sending r short h = omega arith
-ends-brief l o n Reset sending r short h = omega arith
-ends-brief l o n TimedOut sending r short h = omega arith
-ends-brief l o n Turned sending r short h = omega arith
+pub ends-brief : (l : List Noted) (o n : ℕ) (how : Ending) (sending : Option ℕ) (r : Reader) → IsShortFor l o → TellsFew how → Ends l o n how
+    → grounds_size (grounds_for how n sending r) ≤ 16392
+ends-brief l o n (Whole w rs) sending r short tells h = let few = ends-few l o n w rs short h in omega (arith, few)
+ends-brief l o n (Renewed s u) sending r short tells h =
+    let more = length-append s.list (u.number ∷ []) in
+    omega (arith, tells, more)
+ends-brief l o n NotUnderstood sending r short tells h = omega arith
+ends-brief l o n Reset sending r short tells h = omega arith
+ends-brief l o n TimedOut sending r short tells h = omega arith
+ends-brief l o n Turned sending r short tells h = omega arith
 
 -- and of what is stored
 brought-few : (l : List Noted) (q : CoapRequest) (s : Stored) → IsBrought l q s → length s.list ≤ 4097
@@ -184,9 +196,9 @@ brought-few l q s a =
         let one = ap (λ (rs : List Reply). length (numbers rs)) (first-whole a.ending told.sending told.message s.response (a.first ∷ a.more) told.whole) in
         omega (arith, one)
 
-pub stored-few : (l : List Noted) (q : CoapRequest) (s : Stored) → IsStored l q s → length s.list ≤ 4097
-stored-few l q s (inl a) = brought-few l q s a
-stored-few l q s (inr a) =
+heard-few : (l : List Noted) (q : CoapRequest) (s : Stored) → IsAsHeard l q s → length s.list ≤ 4097
+heard-few l q s (inl a) = brought-few l q s a
+heard-few l q s (inr a) =
     let rs : List Reply = a.first ∷ a.more in
     let get : eqb a.carries.exchange.request.method 1 ≡ true = alike-get q a.carries.exchange.request a.same in
     let few = whole-few a.carries.exchange.request (messages rs) s.response (λ write. absurd (false≢true (sym write ∙ get))) a.carries.whole in
@@ -194,3 +206,52 @@ stored-few l q s (inr a) =
     let two = length-map rs (λ (r : Reply). r.number) in
     let same = ap (λ (js : List ℕ). length js) a.list in
     omega (arith, few, one, two, same)
+
+fewer : (f : ℕ → Bool) (js : List ℕ) → length (filter f js) ≤ length js
+fewer f js = let is = length-filter f js in let le = count_by-le-length f js in omega (arith, is, le)
+
+-- The 2.03 is none of them.
+last-valid : (l : List Noted) (q : CoapRequest) (e : ℕ) → Legal l → (a : IsRenewal l q e) → is_valid_in (at l a.reply.number) ≡ true
+last-valid l q e legal a =
+    let fits = replies-fit l a.opening a.reply legal (renewed-of l a.opening e a.kept a.reply a.ended) in
+    let was = ends-renewed l a.opening e a.kept a.reply a.ended in
+    ap is_valid_in fits.heard ∙ says-valid a.kept.response.etag a.reply.message was.turned.tells
+
+pub renewed-pieces-are : (l : List Noted) (q : CoapRequest) (e : ℕ) → Legal l → (a : IsRenewal l q e)
+    → pieces_in l (renewed_list a.kept a.reply.number) ≡ pieces_in l a.kept.list
+renewed-pieces-are l q e legal a =
+    filter-append (λ (j : ℕ). not (is_valid_in (at l j))) a.kept.list (a.reply.number ∷ [])
+    ∙ rw (last-valid l q e legal a) (append-nil (pieces_in l a.kept.list))
+
+pub pieces-few : (fuel : ℕ) (l : List Noted) (q : CoapRequest) (s : Stored) → length l < fuel → Legal l → IsStored l q s → length (pieces_in l s.list) ≤ 4097
+pieces-few zero l q s lt legal is = absurd (omega (arith, lt))
+pieces-few (suc fuel) l q s lt legal (inl it) =
+    let few = heard-few l q s (heard-of l q s it) in
+    let less = fewer (λ (j : ℕ). not (is_valid_in (at l j))) s.list in
+    omega (arith, few, less)
+pieces-few (suc fuel) l q s lt legal (inr it) =
+    let f = renewal-for l q it.ending legal it.renewal in
+    let o : ℕ = it.renewal.opening in
+    let below = begun-below l o f.exchange f.opened in
+    let len = length-before l o _ f.renews.stands in
+    let few = pieces-few fuel (before l o) f.exchange.request f.renews.stored (omega (arith, lt, below, len)) (legal-before l o legal) f.renews.is in
+    let was = ap (λ (v : Stored). length v.list) f.renews.pieces in
+    let all = ap (λ (js : List ℕ). length (pieces_in l js)) it.list ∙ ap (λ (js : List ℕ). length js) (renewed-pieces-are l q it.ending legal it.renewal) in
+    let less = fewer (λ (j : ℕ). not (is_valid_in (at l j))) it.renewal.kept.list in
+    omega (arith, few, was, all, less)
+
+-- So of what an exchange asks about.
+pub kept-few : (l : List Noted) (o : ℕ) (b : Begun) (s : Stored) → Legal l → RenewsFor l o b s → length s.list ≤ 4097
+kept-few l o b s legal it =
+    let few = pieces-few (suc (length (before l o))) (before l o) b.request it.stored (omega arith) (legal-before l o legal) it.is in
+    let same = ap (λ (v : Stored). length v.list) it.pieces in
+    omega (arith, few, same)
+
+pub stored-few : (l : List Noted) (q : CoapRequest) (s : Stored) → Legal l → IsStored l q s → length s.list ≤ 4098
+stored-few l q s legal (inl it) = let few = heard-few l q s (heard-of l q s it) in omega (arith, few)
+stored-few l q s legal (inr it) =
+    let f = renewal-for l q it.ending legal it.renewal in
+    let few = kept-few l it.renewal.opening f.exchange it.renewal.kept legal f.renews in
+    let all = ap (λ (js : List ℕ). length js) it.list in
+    let more = length-append it.renewal.kept.list (it.renewal.reply.number ∷ []) in
+    omega (arith, few, all, more)

@@ -11,7 +11,9 @@ pub use Rattle.exchange_model.proofs.Heeded.{garbled-enters, message-enters, giv
 pub use Rattle.exchange_model.proofs.Heeding.{is-bytes}
 pub use Rattle.exchange_model.proofs.Held.{held-before}
 pub use Rattle.exchange_model.proofs.InRoom.{asks-in-room, fits-parts, hears-in-room, opens-in-room, shuts-in-room, start-in-room, ticks-in-room, ticks-promptly, within-limits}
-pub use Rattle.exchange_model.proofs.Known.{readers-known, readers-rise, store-heard}
+pub use Rattle.exchange_model.proofs.Known.{readers-known, readers-rise}
+pub use Rattle.exchange_model.proofs.HeardIn.{stales-below, stales-heard, store-heard}
+pub use Rattle.exchange_model.proofs.Tags.{kept-short, tags-short}
 pub use Rattle.exchange_model.proofs.Readers.{Apart}
 pub use Rattle.exchange_model.proofs.LinksTicked.{Few, few-copies}
 pub use Rattle.exchange_model.proofs.Lists.{all-map, all-mapped}
@@ -26,7 +28,7 @@ pub use Rattle.exchange_model.proofs.TickAdds.{ticked-adds}
 pub use Rattle.exchange_model.proofs.TickEnters.{stays-drained, ticks-enter}
 pub use Rattle.exchange_model.proofs.Ticking.{ticks-do}
 pub use Rattle.exchange_model.proofs.TurnedRoom.{rotates-drained, rotates-in-room}
-pub use Rattle.exchange_model.proofs.OverTold.{EndsWhole, over-heard}
+pub use Rattle.exchange_model.proofs.OverTold.{EndsConfirmed, EndsWhole, over-heard, over-renewed}
 pub use Rattle.exchange_model.proofs.Works.{all-asked-for, all-digested, comes-get, restarts-few, work-of}
 pub use Rattle.exchange_model.proofs.Opened.{OpenIn, open-ones}
 pub use Rattle.exchange_model.proofs.Handed.{asks-get, fetched-count, reset-notes}

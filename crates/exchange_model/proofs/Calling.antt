@@ -126,7 +126,7 @@ asked-adds l t c a n S r h has short = by a.sense
         with None = place (has_place t q.peer S)
 
         -- Of what is stored the replies are named.
-        serving : (s : Stored) → length s.list ≤ 4097 → Adds 3 (92152 + came_size a.came) S (serves t c a q s S)
+        serving : (s : Stored) → length s.list ≤ 4098 → Adds 3 (92152 + came_size a.came) S (serves t c a q s S)
         serving s few =
             let S1 = recalls t c a (asked_key q) S in
             at-most 2 (90064 + came_size a.came + 0) 3 (92152 + came_size a.came) S (serves t c a q s S)
@@ -137,7 +137,7 @@ asked-adds l t c a n S r h has short = by a.sense
             (has-asked c (length S.entries) None S.conns has) (omega (arith, few))))
 
         for : (v : Option Stored) → served_in q t S ≡ v → Adds 3 (92152 + came_size a.came) S (asked_for v t c a q n S)
-        for (Some s) is = serving s (stored-few l q s (served-stored l t q s S r is).0)
+        for (Some s) is = serving s (stored-few l q s r.legal (served-stored l t q s S r is).0)
         for None is = with (joined q S)
 
 -- A datagram, its ACK or RST, the next message, and an answer.

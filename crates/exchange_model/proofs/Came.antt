@@ -12,7 +12,7 @@ use Rattle.journal_book.specs.Entries.{Hears, Sends}
 use Rattle.history_laws.specs.Readings.{First, Noted, Notice, Says, at, before, noted}
 use Rattle.history_laws.specs.Responses.{Response}
 use Rattle.history_laws.specs.Progress.{Reply, Whole}
-use Rattle.history_laws.specs.Exchanges.{Begun, End, begun, end_here, end_of, replies, turn}
+use Rattle.history_laws.specs.Exchanges.{Begun, End, begun, end_here, end_of, kept, replies, turn}
 use Rattle.history_laws.specs.Observing.{counting, outdated, outdates, watch_under}
 use Rattle.history_laws.specs.Storing.{ComesSo, EndsSo, UpdatesSo}
 use Rattle.history_laws.specs.Justified.{Legal}
@@ -28,7 +28,7 @@ comes-keeps x l o e w rs h =
     comes-since (x ∷ l) (length l) x o e w rs (at-new x l) (subst (λ (k : List Noted). ComesSo k o e w rs) (sym (before-new x l)) h)
 
 pub comes-back : (x : Noted) (l : List Noted) (o e : ℕ) (w : Response) (rs : List Reply) → ComesSo (x ∷ l) o e w rs → e ≢ length l → ComesSo l o e w rs
-comes-back x l o e w rs (inl h) other = elim (end-old (end_here (begun l o) (length l) (replies l o) (turn l o x)) (length l) (end_of l o) _ h.ended) [
+comes-back x l o e w rs (inl h) other = elim (end-old (end_here (begun l o) (kept l o) (length l) (replies l o) (turn l o x)) (length l) (end_of l o) _ h.ended) [
   | inl old ↦ inl (record { ended = old; code = h.code })
   | inr new ↦ absurd (other (sym new.1))
 ]
@@ -115,21 +115,19 @@ pub record Same (o p : ℕ) (w v : Response) (rs ts : List Reply) : Type 0 where
   pub response : w ≡ v
   pub replies : rs ≡ ts
 
-one-end : (l : List Noted) (o p e : ℕ) (w v : Response) (rs ts : List Reply) → Legal l → EndsSo l o e w rs → EndsSo l p e v ts → Same o p w v rs ts
-one-end l o p e w v rs ts legal a b =
-    let one = ends-all l o e w rs a.ended in
-    let other = ends-all l p e v ts b.ended in
-    let opening = opened-by-one one.last other.last (one.listed one.last (is-last one.others one.last rs one.all))
-    (other.listed other.last (is-last other.others other.last ts other.all)) (one.number ∙ sym other.number) in
-    let how = whole-same (ap (λ (z : End). z.how) (some-is _ _ (sym a.ended ∙ (ap (end_of l) opening ∙ b.ended)))) in
-    record { opening = opening; response = how.0; replies = how.1 }
+-- A reply is one to one exchange.
+pub is-last-of : (rs : List Reply) (r : Reply) (all : List Reply) → all ≡ rs ++ r ∷ [] → Contains all r
+is-last-of rs r all e = subst (λ (v : List Reply). Contains v r) (sym e) (Contains-append_right rs (r ∷ []) r (zero, omega arith, refl))
+
+pub opened-by-one : (l : List Noted) (o p : ℕ) (r v : Reply) → Legal l → Contains (replies l o) r → Contains (replies l p) v → r.number ≡ v.number → o ≡ p
+opened-by-one l o p r v legal has had number =
+    let f = replies-fit l o r legal has in
+    let g = replies-fit l p v legal had in
+    let sending : r.sending ≡ v.sending = said f.moment g.moment f.peer g.peer f.bytes g.bytes r.message v.message r.sending v.sending f.notice g.notice
+    (some-is _ _ (sym f.heard ∙ (ap (at l) number ∙ g.heard))) in
+    sent f.sent_at g.sent_at f.peer g.peer f.first.bytes g.first.bytes f.first.timeout g.first.timeout f.sent g.sent o p
+    (some-is _ _ (sym f.first.stands ∙ (ap (at l) sending ∙ g.first.stands)))
   where
-    is-last : (rs : List Reply) (r : Reply) (all : List Reply) → all ≡ rs ++ r ∷ [] → Contains all r
-    is-last rs r all e = subst (λ (v : List Reply). Contains v r) (sym e) (Contains-append_right rs (r ∷ []) r (zero, omega arith, refl))
-
-    whole-same : Whole w rs ≡ Whole v ts → (w ≡ v) × (rs ≡ ts)
-    whole-same e = (cc, cc)
-
     said : (t v : ℕ) (p r : Peer) (c d : List ℕ) (m n : Content) (i j : ℕ) (f g : Notice) → noted t (Hears p c) (Says m (Some i) f) ≡ noted v (Hears r d) (Says n (Some j) g) → i ≡ j
     said t v p r c d m n i j f g e = says (ap (λ (x : Noted). x.note) e)
       where
@@ -142,14 +140,17 @@ one-end l o p e w v rs ts legal a b =
         firsts-of : First o m ≡ First k n → o ≡ k
         firsts-of h = cc
 
-    opened-by-one : (r v : Reply) → Contains (replies l o) r → Contains (replies l p) v → r.number ≡ v.number → o ≡ p
-    opened-by-one r v has had number =
-        let f = replies-fit l o r legal has in
-        let g = replies-fit l p v legal had in
-        let sending : r.sending ≡ v.sending = said f.moment g.moment f.peer g.peer f.bytes g.bytes r.message v.message r.sending v.sending f.notice g.notice
-        (some-is _ _ (sym f.heard ∙ (ap (at l) number ∙ g.heard))) in
-        sent f.sent_at g.sent_at f.peer g.peer f.first.bytes g.first.bytes f.first.timeout g.first.timeout f.sent g.sent o p
-        (some-is _ _ (sym f.first.stands ∙ (ap (at l) sending ∙ g.first.stands)))
+one-end : (l : List Noted) (o p e : ℕ) (w v : Response) (rs ts : List Reply) → Legal l → EndsSo l o e w rs → EndsSo l p e v ts → Same o p w v rs ts
+one-end l o p e w v rs ts legal a b =
+    let one = ends-all l o e w rs a.ended in
+    let other = ends-all l p e v ts b.ended in
+    let opening = opened-by-one l o p one.last other.last legal (one.listed one.last (is-last-of one.others one.last rs one.all))
+    (other.listed other.last (is-last-of other.others other.last ts other.all)) (one.number ∙ sym other.number) in
+    let how = whole-same (ap (λ (z : End). z.how) (some-is _ _ (sym a.ended ∙ (ap (end_of l) opening ∙ b.ended)))) in
+    record { opening = opening; response = how.0; replies = how.1 }
+  where
+    whole-same : Whole w rs ≡ Whole v ts → (w ≡ v) × (rs ≡ ts)
+    whole-same e = (cc, cc)
 
 pub one-comes : (l : List Noted) (o p e : ℕ) (w v : Response) (rs ts : List Reply) → Legal l → ComesSo l o e w rs → ComesSo l p e v ts → Same o p w v rs ts
 one-comes l o p e w v rs ts legal (inl a) (inl b) = one-end l o p e w v rs ts legal a b

@@ -13,7 +13,7 @@ use Rattle.history_laws.specs.Readings.{Noted, Note, Plain, carries}
 use Rattle.history_laws.specs.Progress.{Reply}
 use Rattle.history_laws.specs.Exchanges.{Begun, begun_by}
 use Rattle.history_laws.specs.Carrying.{asked_for, carried, carried_by, CarriesSo}
-use Rattle.history_laws.specs.Laws.{IsCarriedReply}
+use Rattle.history_laws.specs.Grounds.{IsCarriedReply}
 use Rattle.history_laws.specs.Storing.{IsCarriedUnder}
 use Rattle.history_laws.specs.Justified.{Follows, IsCopiedOnce, Legal}
 use Rattle.history_laws.proofs.CallerLemmas.{at-below, carried-below, carried-fit, carried-own, carried-replies-own, eqb-same, none-some, some-is}

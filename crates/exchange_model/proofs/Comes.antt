@@ -37,7 +37,7 @@ got-replied l o going r has = by (begun l o) (goes-so l o going) has
     by (Some b) h k = got-among b.request (replies l o) (progress b.request (replies l o)) h.1 r k
 
 -- Each stands in the journal.
-stands-in : (l : List Noted) (S : State) (o : ℕ) (r : Reply) → Reads l S → IsReplyTo l o r → heard_in S.entries r.number ≡ Some (bare r)
+pub stands-in : (l : List Noted) (S : State) (o : ℕ) (r : Reply) → Reads l S → IsReplyTo l o r → heard_in S.entries r.number ≡ Some (bare r)
 stands-in l S o r reads fit =
     let stands : slice_get S.entries r.number ≡ Some (record { moment = fit.moment; deed = Hears fit.peer fit.bytes }) =
     subst (λ (ws : List Written). slice_get ws r.number ≡ Some (record { moment = fit.moment; deed = Hears fit.peer fit.bytes })) reads.entries_are

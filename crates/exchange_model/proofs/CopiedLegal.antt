@@ -143,7 +143,7 @@ module _ (f : ℕ → ℕ) (gs : List ℕ) (t : ℕ) where
         exchange = h.exchange;
         asked = carried-copied gs f t l o h.exchange placed h.listed h.asked;
         peer = h.peer;
-        observes = h.observes;
+        manner = h.manner;
         block = h.block;
         asks = h.asks;
       },

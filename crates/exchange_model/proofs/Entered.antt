@@ -21,6 +21,7 @@ use Rattle.exchange_model.specs.Calls.{next_by, next}
 use Rattle.exchange_model.specs.Entering.{entered_all, Going, going_as, sent_as, first_deeds, in_turn}
 use Rattle.exchange_model.proofs.Tables.{link-same}
 use Rattle.exchange_model.proofs.LinksHeard.{turned}
+use Rattle.exchange_model.specs.declared.kept.Stale.{Stale}
 
 -- entries, and two tables after them
 abbrev pub put : ℕ → List Deed → List Exchange → List PeerLink → State → State
@@ -38,17 +39,17 @@ apart : (t : ℕ) (ds : List Deed) (es : List Exchange) (xs : List PeerLink) (S 
 apart t [] es xs S = refl
 apart t (d ∷ ds) es xs S = apart t ds es xs (entered t d S)
 
-pub stored : (t : ℕ) (ds : List Deed) (pieces : List Piece) (watches : List Registration) (store : List Pair) (S : State)
-    → entered_all t ds (record S { pieces = pieces; watches = watches; store = store })
-    ≡ (let S1 = entered_all t ds S in record S1 { pieces = pieces; watches = watches; store = store })
-stored t [] pieces watches store S = refl
-stored t (d ∷ ds) pieces watches store S = stored t ds pieces watches store (entered t d S)
+pub stored : (t : ℕ) (ds : List Deed) (pieces : List Piece) (stales : List Stale) (watches : List Registration) (store : List Pair) (S : State)
+    → entered_all t ds (record S { pieces = pieces; stales = stales; watches = watches; store = store })
+    ≡ (let S1 = entered_all t ds S in record S1 { pieces = pieces; stales = stales; watches = watches; store = store })
+stored t [] pieces stales watches store S = refl
+stored t (d ∷ ds) pieces stales watches store S = stored t ds pieces stales watches store (entered t d S)
 
-pub issued-stored : (t : ℕ) (ds : List Deed) (n : ℕ) (pieces : List Piece) (watches : List Registration) (store : List Pair) (S : State)
-    → entered_all t ds (record S { issued = n; pieces = pieces; watches = watches; store = store })
-    ≡ (let S1 = entered_all t ds S in record S1 { issued = n; pieces = pieces; watches = watches; store = store })
-issued-stored t [] n pieces watches store S = refl
-issued-stored t (d ∷ ds) n pieces watches store S = issued-stored t ds n pieces watches store (entered t d S)
+pub issued-stored : (t : ℕ) (ds : List Deed) (n : ℕ) (pieces : List Piece) (stales : List Stale) (watches : List Registration) (store : List Pair) (S : State)
+    → entered_all t ds (record S { issued = n; pieces = pieces; stales = stales; watches = watches; store = store })
+    ≡ (let S1 = entered_all t ds S in record S1 { issued = n; pieces = pieces; stales = stales; watches = watches; store = store })
+issued-stored t [] n pieces stales watches store S = refl
+issued-stored t (d ∷ ds) n pieces stales watches store S = issued-stored t ds n pieces stales watches store (entered t d S)
 
 pub entered-both : (t : ℕ) (ds fs : List Deed) (S : State)
     → entered_all t (ds ++ fs) S ≡ entered_all t fs (entered_all t ds S)

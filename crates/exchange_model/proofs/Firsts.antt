@@ -37,9 +37,11 @@ use Rattle.exchange_model.proofs.Begins.{waits-with}
 use Rattle.exchange_model.proofs.Lists.{all-map, all-both}
 use Rattle.exchange_model.proofs.Opened.{cancel, OpenIn, one-rank, open-ones}
 use Rattle.exchange_model.proofs.Silent.{later-than, link-before, moment-now}
-use Rattle.exchange_model.proofs.Watches.{newest-quiet}
+use Rattle.exchange_model.proofs.Watches.{newest-quiet, outdated-quiet}
 use Rattle.exchange_model.proofs.Stores.{store-still}
 use Rattle.exchange_model.proofs.Tables.{given-agrees, exchange-stays, all-links}
+use Rattle.exchange_model.proofs.Stales.{kept-stays, stales-quiet, stales-sent}
+use Rattle.history_laws.specs.Storing.{first_in}
 
 keys-kept : (token : List ℕ) (i : ℕ) (es : List Exchange) → map opening_of es ≡ map opening_of (map (went_out token i) es)
 keys-kept token i [] = refl
@@ -90,17 +92,22 @@ mine {start = start} l t p bytes timeout o m w legal waits a token e h goes_on u
       current = current-sent l t p bytes timeout o m e h;
       newest = λ get. subst (λ (rs : List Reply). IsNewest (x ∷ l) (asked_key h.request) rs e.newest) (sym (got-stays x l e.opening _ h.opening quiet))
           (newest-quiet x l (asked_key h.request) (got_in l e.opening) e.newest refl (h.newest get));
+      newest_kept = λ s k. outdated-quiet x l (asked_key h.request) (first_in s.list) refl
+          ∙ h.newest_kept s (sym (kept-stays x l e.opening _ h.opening quiet) ∙ k);
       progress = ap (progress h.request) quiet ∙ (h.progress ∙ ap (progress_with e.work) (sym (got-stays x l e.opening _ h.opening quiet)));
       short = h.short;
       digests = h.digests;
       conn = h.conn;
       ask = h.ask;
+      note = h.note;
+      opens = h.opens;
       stands = at-keeps x l e.opening _ h.stands;
     }
 mine {start = start} l t p bytes timeout o m w legal waits a token e h goes_on under false is =
     let x = sent t p bytes timeout o m in
     exchange-stays x l e e.current e.newest unborne (waits-sent l t p bytes timeout o m e.opening ∙ rw (other) refl) (rw (other) refl) refl h (current-sent l t p bytes timeout o m e h)
     (λ get. newest-quiet x l (asked_key h.request) (got_in l e.opening) e.newest refl (h.newest get))
+    (λ s k. outdated-quiet x l (asked_key h.request) (first_in s.list) refl ∙ h.newest_kept s k)
   where
     peer-of : o ≡ e.opening → e.peer ≡ p
     peer-of at =
@@ -161,6 +168,9 @@ first-leads l t p w ws S b q small few free is =
           pieces_are = pieces-sent n w.token (length S.entries) S.exchanges S.pieces
               (pieces-quiet x l S.exchanges S.pieces (OpenIn b.reads.start l) (λ e h. (_, h.0.opening))
               (λ e h. replies-stay (length l) _ _ (sent-quiet l t p v.datagram (Some v.timeout) o m e.opening)) (open-ones l S r) r.pieces_are);
+          stales_are = stales-sent n w.token (length S.entries) S.exchanges S.stales
+              (stales-quiet x l S.exchanges S.stales (OpenIn b.reads.start l) (λ e h. (_, h.0.opening))
+              (λ e h. replies-stay (length l) _ _ (sent-quiet l t p v.datagram (Some v.timeout) o m e.opening)) (open-ones l S r) r.stales_are);
           watches_are = r.watches_are;
           store_is = store-still x l (r.legal, later, made.5.follows) (λ k. ends-sent l t p v.datagram (Some v.timeout) o m k) refl tt S.store r.store_is;
           tokens_are = (let less = rank-below l o _ r.legal made.3.opening (ap is_none (waiting-goes l p o made.2)) in let number = made.3.numbered in let issued = r.issued_are in let token = ap token_number made.4 in omega (arith, less, number, issued, token), r.tokens_are);

@@ -16,7 +16,7 @@ use Rattle.observe_share.specs.declared.notice.Notice.{Notice}
 use Rattle.observe_share.specs.declared.notice.Notice.TheVariants.{Update, Other}
 use Rattle.observe_share.specs.Watches as W
 use Rattle.history_laws.specs.Readings.{Noted}
-use Rattle.history_laws.specs.Progress.{Progress, Fetches, Gives, Ends}
+use Rattle.history_laws.specs.Progress.{Progress, Fetches, Gives, Ends, Renewed}
 use Rattle.history_laws.specs.Transmissions.{bears_token}
 use Rattle.history_laws.specs.Observing.{as_first, notice_in, watches}
 use Rattle.history_laws.proofs.CallerLemmas.{contains-mapped, filtered-from, find-any, find-some, watch-fits}
@@ -25,10 +25,12 @@ use Rattle.exchange_model.specs.declared.kept.Exchange.{Exchange}
 use Rattle.exchange_model.specs.State.{State, link_of}
 use Rattle.exchange_model.specs.Watching.{counts_to, is_one_of, is_written_by, registers, token_of, tokens_of}
 use Rattle.exchange_model.specs.Reads.{held_of, Reads}
-use Rattle.exchange_model.specs.Steps.{Matter, Nothing, Tells, Goes, Over, answered_in, asked_in, comes_to, found_in, gone_by, has_next_place, is_under, matter_by, matter_of, replied, tells_of, told_alone, unless_registered, unless_updated}
+use Rattle.exchange_model.specs.Steps.{Matter, Nothing, Tells, Goes, Over, answered_in, asked_in, comes_to, found_in, gone_by, has_next_place, is_under, matter_by, matter_of, replied, tells_of, told_alone, unless_registered, unless_updated, reply_at, stale_in, unless_valid}
 use Rattle.exchange_model.proofs.Apart.{under-of}
 use Rattle.exchange_model.proofs.Borne.{ended-borne}
 use Rattle.exchange_model.proofs.Hearing.{borne-bears}
+use Rattle.history_laws.specs.Responses.{confirms}
+use Rattle.resp_cache.specs.Stored.{Stored}
 
 -- What a message is to is one that was found.
 abbrev IsOf : State → Option Exchange → Matter → Type 0
@@ -44,6 +46,14 @@ of-replied S true e (Ends how) = refl
 of-replied S false e (Fetches restarts pieces got) = refl
 of-replied S false e (Gives upload got) = refl
 of-replied S false e (Ends how) = refl
+
+of-valid : (m : Content) (S : State) (e : Exchange) (v : Option Stored) (place : Bool) (u : Progress) → IsOf S (Some e) (unless_valid v m S e (replied place e u))
+of-valid m S e None place u = of-replied S place e u
+of-valid m S e (Some s) place u = by (confirms s.response.etag m)
+  where
+    by : (b : Bool) → IsOf S (Some e) (cond b (Over e (Renewed s (reply_at (length S.entries) m))) (replied place e u))
+    by true = refl
+    by false = of-replied S place e u
 
 of-told : (t : ℕ) (m : Content) (S : State) (v : Option Registration) → find (W.is_under m.token) S.watches ≡ v → IsOf S None (tells_of t m S v)
 of-told t m S None is = tt
@@ -62,9 +72,9 @@ of-alone t N.Lost m S = tt
 of-matter : (t : ℕ) (news : News) (place : Bool) (m : Content) (S : State) (found : Option Exchange) → IsOf S found (matter_by t news place m S found)
 of-matter t news place m S None = of-alone t news m S
 of-matter t (N.Reset token) place m S (Some e) = refl
-of-matter t N.Quiet place m S (Some e) = of-replied S place e (comes_to m S e)
-of-matter t N.Response place m S (Some e) = of-replied S place e (comes_to m S e)
-of-matter t N.Lost place m S (Some e) = of-replied S place e (comes_to m S e)
+of-matter t N.Quiet place m S (Some e) = of-valid m S e (stale_in e.opening S.stales) place (comes_to m S e)
+of-matter t N.Response place m S (Some e) = of-valid m S e (stale_in e.opening S.stales) place (comes_to m S e)
+of-matter t N.Lost place m S (Some e) = of-valid m S e (stale_in e.opening S.stales) place (comes_to m S e)
 
 module _ (t : ℕ) (p : Peer) (m : Content) (l : List Noted) (S : State) (r : Reads l S) where
   abbrev ended : Option (List ℕ)

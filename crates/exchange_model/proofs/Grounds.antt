@@ -4,15 +4,19 @@ use Rattle.ask_model.specs.declared.cause.Cause.TheVariants as C
 use Rattle.journal_book.specs.Entries.{Grounds, Live, Kept, Fault}
 use Rattle.history_laws.specs.Responses.{Response}
 use Rattle.history_laws.specs.Readings.{Noted, at, ticked}
-use Rattle.history_laws.specs.Progress.{Reply, numbers, Whole, NotUnderstood, Reset, TimedOut, Turned}
+use Rattle.history_laws.specs.Progress.{Reply, numbers, Whole, NotUnderstood, Reset, TimedOut, Turned, Renewed}
 use Rattle.history_laws.specs.Transmissions.{sent_last}
 use Rattle.history_laws.specs.Exchanges.{End, end_of}
 use Rattle.history_laws.specs.Justified.{Ends, HasGrounds, reads, reads_by}
 use Rattle.exchange_model.specs.Calls.{Telling}
+use Rattle.resp_cache.specs.Stored.{Stored}
+use Rattle.history_laws.specs.Storing.{renewed_list}
 
--- By what was heard the exchange ended so.
+-- By what was heard the exchange ended so, or what it asked about was renewed.
 abbrev pub GroundsOf : List Noted → ℕ → Grounds → Type 0
-GroundsOf l o (Live js) = (n : ℕ) × (w : Response) × (rs : List Reply) × Ends l o n (Whole w rs) × (js ≡ numbers rs)
+GroundsOf l o (Live js) =
+    ((n : ℕ) × (w : Response) × (rs : List Reply) × Ends l o n (Whole w rs) × (js ≡ numbers rs))
+    ⊎ ((n : ℕ) × (s : Stored) × (r : Reply) × Ends l o n (Renewed s r) × (js ≡ renewed_list s r.number))
 GroundsOf l o (Fault C.NotUnderstood n) = Ends l o n NotUnderstood
 GroundsOf l o (Fault C.Reset n) = Ends l o n Reset
 GroundsOf l o _ = ⊥
@@ -39,7 +43,8 @@ pub record IsTold (l : List Noted) (x : Telling) : Type 0 where
   pub grounds : GroundsFor l x.reader.ask x.reader.opening x.grounds
 
 by-grounds : (l : List Noted) (t k o : ℕ) (g : Grounds) → reads l k ≡ Some o → GroundsFor l k o g → HasGrounds l t k g
-by-grounds l t k o (Live js) is (n, w, rs, ends, same) = (o, n, w, rs, is, ends, same)
+by-grounds l t k o (Live js) is (inl (n, w, rs, ends, same)) = inl (o, n, w, rs, is, ends, same)
+by-grounds l t k o (Live js) is (inr (n, s, r, ends, same)) = inr (o, n, s, r, is, ends, same)
 by-grounds l t k o (Kept js) is h = absurd h
 by-grounds l t k o (Fault C.NotUnderstood n) is h = (o, is, h)
 by-grounds l t k o (Fault C.Reset n) is h = (o, is, h)
@@ -69,7 +74,8 @@ both-go l m n a b = record {
 }
 
 moved : (l n : List Noted) (o : ℕ) (g : Grounds) → GoesOn l n → GroundsOf l o g → GroundsOf n o g
-moved l n o (Live js) a (k, w, rs, ends, same) = (k, w, rs, a.ends o _ ends, same)
+moved l n o (Live js) a (inl (k, w, rs, ends, same)) = inl (k, w, rs, a.ends o _ ends, same)
+moved l n o (Live js) a (inr (k, s, r, ends, same)) = inr (k, s, r, a.ends o _ ends, same)
 moved l n o (Kept js) a h = absurd h
 moved l n o (Fault C.NotUnderstood k) a h = a.ends o _ h
 moved l n o (Fault C.Reset k) a h = a.ends o _ h

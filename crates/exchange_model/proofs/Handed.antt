@@ -12,12 +12,12 @@ use Rattle.ask_model.specs.Observing.{is_named, may_observe}
 use Rattle.ask_model.specs.Sharing.{is_get}
 use Rattle.message_layer.specs.Hearing.{verdict_of}
 use Rattle.message_layer.specs.declared.verdict.News.TheVariants as N
-use Rattle.history_laws.specs.Readings.{Noted, at, before}
-use Rattle.history_laws.specs.Exchanges.{end_of, is_going, replies}
+use Rattle.history_laws.specs.Readings.{Noted, at, before, Note, Begins, Renews}
+use Rattle.history_laws.specs.Exchanges.{end_of, is_going, replies, opens_by}
 use Rattle.history_laws.specs.Hearing.{is_update}
-use Rattle.history_laws.specs.Observing.{as_first, is_some_of, notice_by, notice_in, unless_replied, version, wants_in}
+use Rattle.history_laws.specs.Observing.{as_first, is_some_of, notice_by, notice_in, unless_replied, version, wants_in, wants_by}
 use Rattle.history_laws.specs.Progress.{Reply, numbers}
-use Rattle.history_laws.proofs.CallerLemmas.{all-more, all-of}
+use Rattle.history_laws.proofs.CallerLemmas.{all-more, all-of, some-is, none-some}
 use Rattle.exchange_model.specs.declared.kept.Exchange.{Exchange}
 use Rattle.exchange_model.specs.Keeping.{Kept}
 use Rattle.exchange_model.specs.State.{State, link_of}
@@ -29,6 +29,8 @@ use Rattle.exchange_model.proofs.Lists.{each-of}
 use Rattle.exchange_model.proofs.Opened.{OpenIn, open-ones}
 use Rattle.exchange_model.proofs.Outrun.{asked-here}
 use Rattle.exchange_model.proofs.Over.{reset-empty}
+use Rattle.ask_model.specs.Views.{Ask}
+use Rattle.journal_book.specs.Entries.{Asks}
 
 -- One whose next message asks to observe is for a GET.
 abbrev pub ReadsIt : State → Exchange → Type 0
@@ -38,6 +40,12 @@ wanted : (b : Bool) (rs : List Reply) → unless_replied b rs ≡ true → b ≡
 wanted b [] e = e
 wanted b (r ∷ rs) e = absurd (false≢true e)
 
+-- What wants to observe may.
+pub wants-may : (l : List Noted) (c : ℕ) (a : Ask) (note : Note) (q : CoapRequest) → opens_by note ≡ Some q → wants_by l (Asks c a) note ≡ true → may_observe a.rules q ≡ true
+wants-may l c a (Begins r) q e so = subst (λ (v : CoapRequest). may_observe a.rules v ≡ true) (some-is r q e) (and_parts (may_observe a.rules r) _ so).0
+wants-may l c a (Renews r s) q e so = absurd (false≢true so)
+wants-may l c a note q e so = absurd (none-some q e)
+
 pub asks-get : (S : State) → Kept S → AllByRecursion (ReadsIt S) S.exchanges
 asks-get S k =
     let l = k.reading in let r = k.rests.reads in
@@ -45,7 +53,7 @@ asks-get S k =
     (λ (e : Exchange) a observes.
     let wants : wants_in (before l e.opening) (at l e.opening) ≡ true = wanted _ (replies l e.opening) (a.observes ∙ observes) in
     let so = subst (λ (v : Option Noted). wants_in (before l e.opening) v ≡ true) a.stands wants in
-    (a.request, asked-here l S r e a, (and_parts (is_get a.request) (is_named a.ask.rules.observed a.request.target.host) (and_parts (may_observe a.ask.rules a.request) _ so).0).0))
+    (a.request, asked-here l S r e a, (and_parts (is_get a.request) (is_named a.ask.rules.observed a.request.target.host) (wants-may (before l e.opening) a.conn a.ask a.note a.request a.opens so)).0))
     S.exchanges r.exchanges_are
 
 -- Each of the replies by which it goes on stands in the entries.

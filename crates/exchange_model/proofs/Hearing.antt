@@ -24,11 +24,14 @@ use Rattle.history_links.specs.Agrees.{Start, Agrees}
 use Rattle.history_links.specs.Steps.{ended_token, heard}
 use Rattle.history_links.proofs.CallerLemmas.{ends_what, going-still, hit, is_ended, Judged, one-token, still-after, waits-after}
 use Rattle.exchange_model.specs.declared.kept.Exchange.{Exchange}
-use Rattle.exchange_model.specs.Reads.{IsNewest, IsSentUnder, awaited_by, ExchangeIn, got_in, opening_of}
+use Rattle.exchange_model.specs.Reads.{IsNewest, IsSentUnder, awaited_by, ExchangeIn, got_in, opening_of, kept_in}
 use Rattle.exchange_model.specs.Steps.{is_other}
 use Rattle.exchange_model.proofs.Lists.{filter-map, filter-both}
 use Rattle.exchange_model.proofs.Borne.{IsBorne, ended-borne, answers-peer}
 use Rattle.exchange_model.proofs.Tables.{exchange-stays}
+use Rattle.resp_cache.specs.Stored.{Stored}
+use Rattle.history_laws.specs.Storing.{first_in}
+use Rattle.history_laws.specs.Observing.{outdated}
 
 -- lists
 
@@ -160,9 +163,10 @@ pub kept-one : {start : Start} (l : List Noted) (t : ℕ) (p : Peer) (s : LinkSt
     → (e : Exchange) (b c : Bool) → (a : ExchangeIn start l e) → hit (answers l p m) m (waits_for l e.opening) ≡ false
     → b ≡ not (outrun (heard l t p d m ∷ l) (asked_place a.request) e.opening)
     → (is_get a.request ≡ true → IsNewest (heard l t p d m ∷ l) (asked_key a.request) (got_in l e.opening) c)
+    → ((s : Stored) → kept_in l e.opening ≡ Some s → outdated (heard l t p d m ∷ l) (asked_key a.request) (first_in s.list) ≡ not c)
     → ExchangeIn start (heard l t p d m ∷ l) (record e { current = b; newest = c })
-kept-one l t p s d m legal e b c a stays current newest =
-    exchange-stays (heard l t p d m) l e b c (λ k. k) (waits-after l t p d m (answers l p m) (notice_of l t p m (answers l p m)) e.opening ∙ stay-waiting (hit (answers l p m) m (waits_for l e.opening)) (waits_for l e.opening) stays) refl refl a current newest
+kept-one l t p s d m legal e b c a stays current newest kept_newest =
+    exchange-stays (heard l t p d m) l e b c (λ k. k) (waits-after l t p d m (answers l p m) (notice_of l t p m (answers l p m)) e.opening ∙ stay-waiting (hit (answers l p m) m (waits_for l e.opening)) (waits_for l e.opening) stays) refl refl a current newest kept_newest
 
 -- Nor does it get a reply, or end.
 pub replies-kept : (l : List Noted) (t : ℕ) (p : Peer) (d : List ℕ) (m : Content) (o : ℕ) → hit (answers l p m) m (waits_for l o) ≡ false

@@ -24,7 +24,7 @@ use Rattle.history_laws.specs.Exchanges.{waiting}
 use Rattle.history_laws.proofs.CallerLemmas.{some-is}
 use Rattle.history_links.specs.Steps.{ended_token, heard_link}
 use Rattle.exchange_model.specs.Watching.{is_one_of}
-use Rattle.exchange_model.specs.Steps.{Numbers, Matter, Nothing, Tells, Goes, Over, gone_by, watches_by, matter_by, matter_of, has_next_place, answered_in, more_by, link_with, issued_by, exchanges_by, pieces_by, store_by, given_out, hears, hears_nothing, confirms}
+use Rattle.exchange_model.specs.Steps.{Numbers, Matter, Nothing, Tells, Goes, Over, gone_by, watches_by, matter_by, matter_of, has_next_place, answered_in, more_by, link_with, issued_by, exchanges_by, pieces_by, store_by, given_out, hears, hears_nothing, confirms, stales_by}
 use Rattle.exchange_model.specs.Calls.{next_by, next, given_back, Telling, tells, told_for, takes_new, takes_by, repeats, resets, reads_so, goes_with, goes_as, heard}
 use Rattle.exchange_model.specs.declared.kept.Exchange.{Exchange}
 use Rattle.exchange_model.specs.State.{PeerLink, State, link_of, with_link}
@@ -98,7 +98,7 @@ new-heeded t p d m n S come ahead =
     after t (H ++ F) G es2 es2 xs2 xs2 K C (fold (tells t) C (told_for (length S.entries) x S.readers)) whole told
     ∙ (ap (λ (ds : List Deed). put t (Hears p d ∷ ds) es2 xs2 K) (append_assoc R F G)
     ∙ ap (λ (U : State). record U { exchanges = es2; links = xs2 })
-    (issued-stored t (Hears p d ∷ (R ++ (F ++ G))) (issued_by x S.issued) (pieces_by (length S.entries) x S.pieces) (watches_by t m S.entries x S.watches) (store_by S.entries t x S.store) S))
+    (issued-stored t (Hears p d ∷ (R ++ (F ++ G))) (issued_by x S.issued) (pieces_by (length S.entries) x S.pieces) (stales_by x S.stales) (watches_by t m S.entries x S.watches) (store_by S.entries t x S.store) S))
   where
     s : LinkState
     s = link_of S.links p
@@ -126,6 +126,7 @@ new-heeded t p d m n S come ahead =
     K = record S {
       issued = issued_by x S.issued;
       pieces = pieces_by (length S.entries) x S.pieces;
+      stales = stales_by x S.stales;
       watches = watches_by t m S.entries x S.watches;
       store = store_by S.entries t x S.store;
     }
@@ -246,7 +247,7 @@ idle-heeded t p d mid token v n S come r e q =
     (given-itself (link_of S.links p) (out-at p S.links come.drained.out))
     ∙ link-there p S.links come.known))
     ∙ (ap (λ (U : State). record U { exchanges = S.exchanges; links = with_link p (given_out (link_of S.links p)) S.links })
-    (issued-stored t (Hears p d ∷ (map (confirm p) (replies mid v.reply) ++ [])) S.issued S.pieces S.watches S.store S)
+    (issued-stored t (Hears p d ∷ (map (confirm p) (replies mid v.reply) ++ [])) S.issued S.pieces S.stales S.watches S.store S)
     ∙ ap (λ (k : Verdict). heeded t p d mid token k (no_effect n S) S) (quiet-is v r e q))))
 
 -- a datagram

@@ -1,11 +1,9 @@
 -- A datagram that is heard: a step keeps what holds between steps.
-use Rattle.std.proofs.Common.{◌≡◌, ℕ, zero, ◌+◌, ◌<◌, ◌⊎◌, inl, inr, Bool, true, false, cond, ltb, leb, ◌≤◌, ◌-◌, List, [], ◌∷◌, length, Option, Some, None, Result, Ok, Err, refl, sym, ap, subst, ◌∙◌, arith}
-use Rattle.std.specs.Prelude.{map, filter, find, ◌&&◌, is_some, option_map, count_by}
+use Rattle.std.proofs.Common.{◌≡◌, ℕ, ◌<◌, ◌⊎◌, inl, inr, Bool, true, false, cond, ltb, leb, ◌≤◌, ◌-◌, List, [], ◌∷◌, length, Option, Some, None, Result, Ok, Err, refl, sym, ap, subst, ◌∙◌, arith}
+use Rattle.std.specs.Prelude.{find, ◌&&◌, is_some, option_map, count_by}
 use Rattle.std.specs.List.{AllByRecursion, Contains}
-use Rattle.std.proofs.lemmas.Bool.{false≢true, leb-true, ltb-true, not-false}
-use Rattle.std.proofs.lemmas.Slice.Eq.{bytes_eq-Decides}
+use Rattle.std.proofs.lemmas.Bool.{false≢true, leb-true, ltb-true}
 use Rattle.std.proofs.lemmas.Option.{none-some}
-use Rattle.limits.specs.declared.TheConstants.{MAX_MESSAGE_IDS, MAX_TRANSMIT_WAIT}
 use Rattle.coap_codec.specs.Spelling.{Content, Spells}
 use Rattle.coap_codec.specs.Reading.{message_at}
 use Rattle.coap_codec.specs.declared.fault.CodecFault.{CodecFault}
@@ -18,23 +16,20 @@ use Rattle.uri_map.specs.declared.peer.Peer.{Peer}
 use Rattle.uri_map.specs.Peers.{same_peer}
 use Rattle.uri_map.proofs.CallerLemmas.{same_peer-same}
 use Rattle.message_layer.specs.Values.{LinkState}
-use Rattle.message_layer.specs.Sending.{due_of, mids_in_use, waits}
+use Rattle.message_layer.specs.Sending.{due_of}
 use Rattle.message_layer.specs.Hearing.{is_fresh, is_repeat, replies, reset_for, heard_verdict, verdict_by, verdict_of}
 use Rattle.message_layer.specs.declared.state.Heard.{Heard}
-use Rattle.message_layer.specs.declared.state.Outstanding.{Outstanding}
-use Rattle.message_layer.specs.declared.state.Waiting.{Waiting}
 use Rattle.message_layer.specs.declared.state.Reply.{Reply}
 use Rattle.message_layer.specs.declared.verdict.News.{News}
 use Rattle.message_layer.specs.declared.state.Reply.TheVariants as R
 use Rattle.message_layer.specs.declared.verdict.News.TheVariants as N
-use Rattle.journal_book.specs.Entries.{Grounds, grounds_size, Hears, Written}
-use Rattle.history_laws.specs.Numbering.{token_number}
-use Rattle.history_laws.specs.Progress.{Ending, Whole, NotUnderstood, Reset as ResetSo, TimedOut, Turned, Progress, Fetches, Gives, Ends}
+use Rattle.journal_book.specs.Entries.{Grounds, grounds_size, Hears}
+use Rattle.history_laws.specs.Progress.{Ending, Whole, NotUnderstood, Reset as ResetSo, TimedOut, Turned, Progress, Renewed}
 use Rattle.history_laws.specs.Readings.{Noted, Repeats, Garbled, ticked, noted}
 use Rattle.history_laws.specs.Confirming.{owed}
 use Rattle.history_laws.specs.Hearing.{is_such, heard_before, repeated, can_be_remembered}
-use Rattle.history_laws.specs.Justified.{Legal, HasGrounds}
-use Rattle.history_laws.proofs.CallerLemmas.{all-filter, all-more, begun-keeps, some-is, all-of, and-left, and-right, any-of, contains-later, entries-length, find-any, is-some}
+use Rattle.history_laws.specs.Justified.{HasGrounds}
+use Rattle.history_laws.proofs.CallerLemmas.{all-filter, all-more, begun-keeps, some-is, and-left, and-right, any-of, entries-length, find-any, is-some}
 use Rattle.history_links.specs.Agrees.{Start, IsFrom, due, Agrees}
 use Rattle.history_links.specs.Steps.{ended_token, heard_link, heard as heard_entry, reset}
 use Rattle.history_links.proofs.CallerLemmas.{none-before}
@@ -45,14 +40,9 @@ use Rattle.exchange_model.specs.State.{State, link_of}
 use Rattle.ask_model.specs.Requests.{CoapRequest}
 use Rattle.history_laws.specs.Exchanges.{Begun}
 use Rattle.exchange_model.specs.Reads.{ExchangeIn}
-use Rattle.cache_key.specs.Keys.{CacheKey}
-use Rattle.observe_share.specs.declared.registration.Registration.{Registration}
-use Rattle.observe_share.specs.Watches as W
-use Rattle.std.specs.Option.{option_map_or}
-use Rattle.history_laws.specs.Observing.{as_first, notice_in}
-use Rattle.exchange_model.specs.Watching.{counts_to, is_one_of}
-use Rattle.exchange_model.specs.Steps.{is_under, is_other, asked_in, found_in, gone_by, outdated_by, reads_key, Numbers, Matter, Nothing, Tells, tells_of, told_alone, Goes, Over, answered_in, let_go, matter_by, matter_of, replied, comes_to, has_next_place, continued, goes_so, exchanges_by, more_by, link_with, hears, hears_nothing}
-use Rattle.exchange_model.specs.Resting.{IsUndue, LinkRests, HasExchange}
+use Rattle.exchange_model.specs.Watching.{is_one_of}
+use Rattle.exchange_model.specs.Steps.{gone_by, Numbers, Nothing, Goes, Over, answered_in, let_go, matter_of, has_next_place, exchanges_by, more_by, link_with, hears, hears_nothing}
+use Rattle.exchange_model.specs.Resting.{LinkRests, HasExchange}
 use Rattle.exchange_model.specs.Growing.{RiseByAsk}
 use Rattle.exchange_model.specs.Laws.{Before, MayHear, Heeds, IsContinued}
 use Rattle.exchange_model.specs.Calls.{Telling, grounds_for, tell_of, told_for, next, given_back, takes_new, takes_by, repeats, resets, reads_so}
@@ -61,9 +51,8 @@ use Rattle.exchange_model.proofs.Amid.{Amid, Moved, RestAt, IsEarly, next-moves,
 use Rattle.exchange_model.proofs.Telling.{readers_in, AreServed, IsAmong, ReadWith, all-in, all-told, kept-told}
 use Rattle.exchange_model.proofs.Readers.{ReaderIn, reader-keeps, readers-wait, readers-rise-in, readers-apart, rise-filter, Apart}
 use Rattle.exchange_model.proofs.Tellings.{is-told, over_in, reads_it, ended_list, grounds-bare, grounds-as, readers-for, among-for, for-all}
-use Rattle.exchange_model.proofs.Lists.{all-map, all-both}
-use Rattle.exchange_model.proofs.Outrun.{left-all, left-has}
-use Rattle.exchange_model.proofs.Opened.{cancel, OpenIn, one-rank, open-ones}
+use Rattle.exchange_model.proofs.Lists.{all-both}
+use Rattle.exchange_model.proofs.Opened.{open-ones}
 use Rattle.exchange_model.proofs.Brief.{IsShortFor, ends-brief}
 use Rattle.exchange_model.proofs.Calling.{IsBriefBy}
 use Rattle.exchange_model.proofs.Grounds.{GroundsFor, IsTold, told-grounds, told-moves, both-go}
@@ -73,8 +62,9 @@ use Rattle.exchange_model.proofs.LinksHeard.{waits-with}
 use Rattle.exchange_model.proofs.Over.{IsOver, IsMatter, is-matter}
 use Rattle.exchange_model.proofs.Quiet.{repeats-leads, garbled-leads}
 use Rattle.exchange_model.proofs.Silent.{now-from}
-use Rattle.exchange_model.proofs.Stepping.{may-come, before-step, enough-ids}
+use Rattle.exchange_model.proofs.Stepping.{may-come, before-step}
 use Rattle.exchange_model.proofs.Tables.{all-links, link-same, link-other}
+use Rattle.exchange_model.proofs.Ongoing.{by-since, served-part, goes-place, ids-with, early-after, tells-few}
 
 pub may-hear : (t : ℕ) (p : Peer) (d : List ℕ) (S : State) (m : MayStep t S) → is_some (link_of S.links p).last_mid ≡ true → leb (length d) 2048 ≡ true → MayHear m.kept.reading t p d S
 may-hear t p d S m known short = record {
@@ -167,141 +157,12 @@ lost-or-new l t p s m k is a later e = by k is
 
 -- A message that is new.
 
-has-part : (q : Exchange → Bool) (es : List Exchange) (k : ℕ) → HasExchange es k → HasExchange (filter q es) k ⊎ ((e : Exchange) × Contains es e × (q e ≡ false) × (e.opening ≡ k))
-has-part q [] k h = absurd h
-has-part q (e ∷ es) k (inl h) = by (q e) refl
-  where
-    by : (b : Bool) → q e ≡ b → HasExchange (cond b (e ∷ filter q es) (filter q es)) k ⊎ ((y : Exchange) × Contains (e ∷ es) y × (q y ≡ false) × (y.opening ≡ k))
-    by true is = inl (inl h)
-    by false is = inr (e, (zero, omega arith, refl), is, h)
-has-part q (e ∷ es) k (inr h) = elim (has-part q es k h) [
-  | inl w ↦ inl (by (q e) w)
-  | inr w ↦ inr (w.0, contains-later e es w.0 w.1, w.2, w.3)
-]
-  where
-    by : (b : Bool) → HasExchange (filter q es) k → HasExchange (cond b (e ∷ filter q es) (filter q es)) k
-    by true w = inr w
-    by false w = w
-
 find-none : {X : Type 0} (q : X → Bool) (xs : List X) (x : X) → find q xs ≡ None → Contains xs x → q x ≡ true → ⊥
 find-none q xs x e h is = let it = find-any q xs (any-of q xs x h is) in none-some it.0 (sym e ∙ it.1)
 
 pub is-bytes : (d : List ℕ) → AllByRecursion (λ (b : ℕ). b < 256) d → IsBytes d
 is-bytes [] a = tt
 is-bytes (b ∷ d) a = (a.0, is-bytes d a.1)
-
--- What an exchange keeps that goes on.
-
-goes-opening : (e : Exchange) (token : List ℕ) (progress : Progress) (y : Exchange) → (goes_so e token progress y).opening ≡ y.opening
-goes-opening e token progress y = by (is_under e.token y) progress
-  where
-    by : (b : Bool) (progress : Progress) → (cond b (continued token progress y) y).opening ≡ y.opening
-    by false progress = refl
-    by true progress = refl
-
-goes-since : (e : Exchange) (token : List ℕ) (progress : Progress) (y : Exchange) → (goes_so e token progress y).since ≡ y.since
-goes-since e token progress y = by (is_under e.token y) progress
-  where
-    by : (b : Bool) (progress : Progress) → (cond b (continued token progress y) y).since ≡ y.since
-    by false progress = refl
-    by true progress = refl
-
-goes-has : (e : Exchange) (token : List ℕ) (progress : Progress) (es : List Exchange) (k : ℕ) → HasExchange es k → HasExchange (map (goes_so e token progress) es) k
-goes-has e token progress [] k h = absurd h
-goes-has e token progress (y ∷ es) k (inl h) = inl (goes-opening e token progress y ∙ h)
-goes-has e token progress (y ∷ es) k (inr h) = inr (goes-has e token progress es k h)
-
-outdated-since : (ws : List Written) (key : CacheKey) (y : Exchange) → (outdated_by ws key y).since ≡ y.since
-outdated-since ws key y = by (option_map_or (reads_key key) (asked_in ws y.opening) false)
-  where
-    by : (b : Bool) → (cond b (record y { newest = false }) y).since ≡ y.since
-    by true = refl
-    by false = refl
-
-outdated-has : (ws : List Written) (key : CacheKey) (es : List Exchange) (k : ℕ) → HasExchange es k → HasExchange (map (outdated_by ws key) es) k
-outdated-has ws key [] k h = absurd h
-outdated-has ws key (y ∷ es) k (inl h) = inl (by (option_map_or (reads_key key) (asked_in ws y.opening) false))
-  where
-    by : (b : Bool) → (cond b (record y { newest = false }) y).opening ≡ k
-    by true = h
-    by false = h
-outdated-has ws key (y ∷ es) k (inr h) = inr (outdated-has ws key es k h)
-
-by-since : (tick : ℕ) (ws : List Written) (token : List ℕ) (x : Matter) (es : List Exchange) → AllByRecursion (λ (e : Exchange). tick < e.since + MAX_TRANSMIT_WAIT) es
-    → AllByRecursion (λ (e : Exchange). tick < e.since + MAX_TRANSMIT_WAIT) (exchanges_by ws token x es)
-by-since tick ws token Nothing es a = a
-by-since tick ws token (Tells r stored) es a =
-    all-map (outdated_by ws r.key) (λ (y : Exchange). tick < y.since + MAX_TRANSMIT_WAIT) es
-    (all-more (λ (y : Exchange). tick < y.since + MAX_TRANSMIT_WAIT) (λ (y : Exchange). tick < (outdated_by ws r.key y).since + MAX_TRANSMIT_WAIT)
-    (λ y h. subst (λ (n : ℕ). tick < n + MAX_TRANSMIT_WAIT) (sym (outdated-since ws r.key y)) h) es a)
-by-since tick ws token (Goes e progress) es a =
-    all-map (goes_so e token progress) (λ (y : Exchange). tick < y.since + MAX_TRANSMIT_WAIT) es
-    (all-more (λ (y : Exchange). tick < y.since + MAX_TRANSMIT_WAIT) (λ (y : Exchange). tick < (goes_so e token progress y).since + MAX_TRANSMIT_WAIT)
-    (λ y h. subst (λ (n : ℕ). tick < n + MAX_TRANSMIT_WAIT) (sym (goes-since e token progress y)) h) es a)
-by-since tick ws token (Over e how) es a =
-    left-all (λ (e : Exchange). tick < e.since + MAX_TRANSMIT_WAIT) (λ e h. h) ws (e ∷ []) (filter (is_other e.token) es)
-    (all-filter (λ (e : Exchange). tick < e.since + MAX_TRANSMIT_WAIT) (is_other e.token) es a)
-
--- what was open is open still, or has just ended
-served-part : (start : Start) (l : List Noted) (S : State) (token : List ℕ) (x : Matter) → Legal l → AllByRecursion (OpenIn start l) S.exchanges
-    → ((e : Exchange) (how : Ending) → x ≡ Over e how → Contains S.exchanges e) → (k : ℕ) → HasExchange S.exchanges k
-    → HasExchange (exchanges_by S.entries token x S.exchanges) k ⊎ HasExchange (ended_list (over_in x)) k
-served-part start l S token Nothing legal all among k h = inl h
-served-part start l S token (Tells r stored) legal all among k h = inl (outdated-has S.entries r.key S.exchanges k h)
-served-part start l S token (Goes e progress) legal all among k h = inl (goes-has e token progress S.exchanges k h)
-served-part start l S token (Over e how) legal all among k h = elim (has-part (is_other e.token) S.exchanges k h) [
-  | inl w ↦ inl (left-has S.entries (e ∷ []) (filter (is_other e.token) S.exchanges) k w)
-  | inr w ↦ inr (inl (by w.0 w.1 w.2 ∙ w.3))
-]
-  where
-    by : (y : Exchange) → Contains S.exchanges y → is_other e.token y ≡ false → e.opening ≡ y.opening
-    by y has is =
-        let its = all-of (OpenIn start l) S.exchanges e all (among e how refl) in
-        let mine = all-of (OpenIn start l) S.exchanges y all has in
-        let same : y.token ≡ e.token = (bytes_eq-Decides y.token e.token).0 (not-false (is_under e.token y) is) in
-        one-rank l e.opening y.opening _ _ legal its.0.opening mine.0.opening its.1 mine.1 (cancel start.issued _ _ (its.0.number ∙ (ap token_number (sym same) ∙ sym mine.0.number)))
-
--- There is a place for the next message of an exchange that goes on.
-
-replied-goes : (place : Bool) (f : Exchange) (u : Progress) (e : Exchange) (progress : Progress) → replied place f u ≡ Goes e progress → place ≡ true
-replied-goes true f u e progress h = refl
-replied-goes false f (Fetches restarts pieces got) e progress h = absurd cc
-replied-goes false f (Gives upload got) e progress h = absurd cc
-replied-goes false f (Ends how) e progress h = absurd cc
-
-told-goes : (t : ℕ) (m : Content) (S : State) (v : Option Registration) (e : Exchange) (progress : Progress) → tells_of t m S v ≡ Goes e progress → ⊥
-told-goes t m S None e progress h = cc
-told-goes t m S (Some r) e progress h = by (counts_to t m r) h
-  where
-    by : (b : Bool) → cond b (Tells r (found_in t S (notice_in m) r.opening (as_first (length S.entries) 0 m))) Nothing ≡ Goes e progress → ⊥
-    by true f = cc
-    by false f = cc
-
-alone-goes : (t : ℕ) (news : News) (m : Content) (S : State) (e : Exchange) (progress : Progress) → told_alone t news m S ≡ Goes e progress → ⊥
-alone-goes t N.Response m S e progress h = told-goes t m S (find (W.is_under m.token) S.watches) e progress h
-alone-goes t N.Quiet m S e progress h = cc
-alone-goes t (N.Reset token) m S e progress h = cc
-alone-goes t N.Lost m S e progress h = cc
-
-goes-place : (t : ℕ) (news : News) (place : Bool) (m : Content) (S : State) (v : Option Exchange) (e : Exchange) (progress : Progress)
-    → matter_by t news place m S v ≡ Goes e progress → place ≡ true
-goes-place t news place m S None e progress h = absurd (alone-goes t news m S e progress h)
-goes-place t (N.Reset token) place m S (Some f) e progress h = absurd cc
-goes-place t N.Quiet place m S (Some f) e progress h = replied-goes place f (comes_to m S f) e progress h
-goes-place t N.Response place m S (Some f) e progress h = replied-goes place f (comes_to m S f) e progress h
-goes-place t N.Lost place m S (Some f) e progress h = replied-goes place f (comes_to m S f) e progress h
-
-ids-with : (t : ℕ) (x : Matter) (n : Numbers) (s u : LinkState) → HasMids u → mids_in_use t u ≡ mids_in_use t s
-    → ((e : Exchange) (progress : Progress) → x ≡ Goes e progress → mids_in_use t s < MAX_MESSAGE_IDS) → HasMids (link_with t (more_by n x) u)
-ids-with t Nothing n s u h same few = h
-ids-with t (Tells r stored) n s u h same few = h
-ids-with t (Over e how) n s u h same few = h
-ids-with t (Goes e progress) n s u h same few =
-    let less = few e progress refl in enough-ids t u (waits n.token n.text n.word) h (omega arith) (omega (arith, less, same))
-
-early-after : (tick : ℕ) (ends : Bool) (v : Option Outstanding) (ws : List Waiting) (o : Outstanding) → IsUndue tick v ws → cond ends None v ≡ Some o → tick < due_of o
-early-after tick true v ws o h e = cc
-early-after tick false v ws o h e = subst (λ (k : Option Outstanding). IsUndue tick k ws) e h
 
 new-keeps : (t : ℕ) (p : Peer) (d : List ℕ) (mess : Content) (n : Numbers) (S : State) (m : MayStep t S) → MayHear m.kept.reading t p d S → Spells mess d → repeated m.kept.reading t p mess ≡ None
     → can_be_remembered m.kept.reading t p mess ≡ true
@@ -371,7 +232,8 @@ new-keeps t p d mess n S m h spelled none room onward =
         let x = heard_entry l t p d mess in
         let it = over e how is in
         let long : length l ≡ length S.entries = sym (entries-length l) ∙ ap length m.kept.rests.reads.entries_are in
-        let told : GroundsFor (x ∷ l) r.ask e.opening (grounds_for it.real (length l) e.sending r) = grounds-as (x ∷ l) e.opening (length l) it.real e.sending r it.ends it.it.kept.sending in
+        let told : GroundsFor (x ∷ l) r.ask e.opening (grounds_for it.real (length l) e.sending r) =
+        grounds-as (x ∷ l) e.opening (length l) it.real e.sending r it.ends it.it.kept.sending in
         let equal : grounds_for it.real (length l) e.sending r ≡ grounds_for how (length S.entries) e.sending r =
         ap (λ (k : ℕ). grounds_for it.real k e.sending r) long ∙ (grounds-bare it.real (length S.entries) e.sending r ∙ ap (λ (u : Ending). grounds_for u (length S.entries) e.sending r) (sym it.same)) in
         subst (λ (o : ℕ). GroundsFor (x ∷ l) r.ask o (grounds_for how (length S.entries) e.sending r)) (sym same)
@@ -474,9 +336,10 @@ heard-brief t p d S m k at again kept known short e how r is = elim (lost-or-new
   | inr w ↦
       let h = may-hear t p d S m known short in
       let it : IsOver h.before.reads.start l t p d k S e how = subst (IsMatter h.before.reads.start l t p d k S) is (is-matter l t p d k S h w.0 w.1) in
-      let small = ends-brief (heard_entry l t p d k ∷ l) e.opening (length l) it.real e.sending r (short-for l (heard_entry l t p d k) e it.it.kept) it.ends in
-      let as_real : grounds_size (grounds_for it.real (length S.entries) e.sending r) ≤ 16388 = any-number it.real (length l) (length S.entries) e.sending r small in
-      subst (λ (g : Grounds). grounds_size g ≤ 16388) (grounds-bare it.real (length S.entries) e.sending r ∙ ap (λ (u : Ending). grounds_for u (length S.entries) e.sending r) (sym it.same)) as_real
+      let small = ends-brief (heard_entry l t p d k ∷ l) e.opening (length l) it.real e.sending r (short-for l (heard_entry l t p d k) e it.it.kept)
+      (tells-few l t p d k S m.kept.rests.reads e it.it.kept it.real it.ends) it.ends in
+      let as_real : grounds_size (grounds_for it.real (length S.entries) e.sending r) ≤ 16392 = any-number it.real (length l) (length S.entries) e.sending r small in
+      subst (λ (g : Grounds). grounds_size g ≤ 16392) (grounds-bare it.real (length S.entries) e.sending r ∙ ap (λ (u : Ending). grounds_for u (length S.entries) e.sending r) (sym it.same)) as_real
 ]
   where
     l : List Noted
@@ -488,8 +351,9 @@ heard-brief t p d S m k at again kept known short e how r is = elim (lost-or-new
     later : IsFrom m.kept.rests.reads.start l t
     later = now-from l t S record { reads = m.kept.rests.reads; later = m.later }
 
-    any-number : (how : Ending) (i j : ℕ) (sending : Option ℕ) (r : Reader) → grounds_size (grounds_for how i sending r) ≤ 16388 → grounds_size (grounds_for how j sending r) ≤ 16388
+    any-number : (how : Ending) (i j : ℕ) (sending : Option ℕ) (r : Reader) → grounds_size (grounds_for how i sending r) ≤ 16392 → grounds_size (grounds_for how j sending r) ≤ 16392
     any-number (Whole w rs) i j sending r h = h
+    any-number (Renewed s u) i j sending r h = h
     any-number NotUnderstood i j sending r h = h
     any-number ResetSo i j sending r h = h
     any-number TimedOut i j sending r h = h

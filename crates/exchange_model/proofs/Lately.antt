@@ -12,9 +12,9 @@ use Rattle.observe_share.specs.declared.registration.Registration.{Registration}
 use Rattle.observe_share.specs.declared.notice.Notice as Shared
 use Rattle.observe_share.specs.declared.notice.Notice.TheVariants.{Update, Other}
 use Rattle.observe_share.specs.Watches.{counted, counts_for, first_changed, in_place}
-use Rattle.history_laws.specs.Readings.{Noted, Note, Begins, Joins, Says, Notice, Observation, Unobserved, Registers, Updates, Outdates, Cancels, noted, ticked, ticked_by}
+use Rattle.history_laws.specs.Readings.{Noted, Note, Begins, Joins, Says, Notice, Observation, Unobserved, Registers, Updates, Outdates, Cancels, noted, ticked, ticked_by, Renews}
 use Rattle.history_laws.specs.Transmissions.{FirstSending, first_at}
-use Rattle.history_laws.specs.Exchanges.{Begun, begun, begun_by, End, end_by, end_here, end_of, expires, Expired, is_late, Nothing, opens_by, replies, waits_for}
+use Rattle.history_laws.specs.Exchanges.{Begun, begun, begun_by, End, end_by, end_here, end_of, expires, Expired, is_late, Nothing, opens_by, replies, waits_for, kept as kept_of}
 use Rattle.history_laws.specs.Observing.{Watch, asked_again, asked_by, asked_last, asked_last_by, current_by, held_by, idles, is_current, is_for, is_under, notice_in, registered, registered_of, told_by, watches, watches_by}
 use Rattle.history_laws.specs.Justified.{is_asked_for, Legal}
 use Rattle.history_laws.proofs.CallerLemmas.{all-filter, all-join, all-more, all-passes, at-newest, begun-opening, going-before, IsRegistering, none-some, open-exactly, registering, said, some-is, ticked-newest}
@@ -26,6 +26,11 @@ use Rattle.exchange_model.proofs.Lists.{all-map, all-pass}
 since-step : (l : List Noted) (o t : ℕ) (note : Note) (b : Begun) → (begun l o ≡ Some b → b.since ≤ asked_last l o) → (begun l o ≡ Some b → b.since ≤ t)
     → begun_by (opens_by note) (eqb (length l) o) t (begun l o) ≡ Some b → b.since ≤ asked_last_by o (length l) t note (asked_last l o)
 since-step l o t (Begins q) b ih old e = by (eqb (length l) o) e
+  where
+    by : (c : Bool) → begun_by (Some q) c t (begun l o) ≡ Some b → b.since ≤ cond c t (asked_last l o)
+    by true e = let same = ap (λ (f : Begun). f.since) (some-is _ b e) in omega (arith, same)
+    by false e = ih e
+since-step l o t (Renews q s) b ih old e = by (eqb (length l) o) e
   where
     by : (c : Bool) → begun_by (Some q) c t (begun l o) ≡ Some b → b.since ≤ cond c t (asked_last l o)
     by true e = let same = ap (λ (f : Begun). f.since) (some-is _ b e) in omega (arith, same)
@@ -44,13 +49,13 @@ since-asked (x ∷ older) o b legal e =
   where
     before : begun older o ≡ Some b → b.since ≤ x.written.moment
     before is =
-        let first = at-newest older o _ legal.0 (begun-opening older o b is).1 in
+        let first = at-newest older o _ legal.0 (begun-opening older o b is).2 in
         let later = legal.1 in
         omega (arith, first, later)
 
 -- What is open was opened since the last tick, or is no older than it may be.
 
-ends-late : (l : List Noted) (o t n : ℕ) (a : Bool) (old : Option End) → end_by (end_here (begun l o) n (replies l o) (cond a Expired Nothing)) n old ≡ None → a ≡ false
+ends-late : (l : List Noted) (o t n : ℕ) (a : Bool) (old : Option End) → end_by (end_here (begun l o) (kept_of l o) n (replies l o) (cond a Expired Nothing)) n old ≡ None → a ≡ false
 ends-late l o t n false old e = refl
 ends-late l o t n true None e = absurd (none-some _ (sym e))
 ends-late l o t n true (Some f) e = absurd (none-some _ (sym e))
@@ -155,6 +160,7 @@ asked-step l t (Asks c a) note legal all = by a.sense note
 
     by : (s : Sense) (n : Note) → AllByRecursion P (asked_by t s n (watches l))
     by (Requests q) (Begins r) = all-filter P (λ (w : Watch). not (is_for q w)) (watches l) all
+    by (Requests q) (Renews r s) = all-filter P (λ (w : Watch). not (is_for q w)) (watches l) all
     by (Requests q) n = all-map (asked_again q t) P (watches l) (all-more P (λ (w : Watch). P (asked_again q t w)) (again q) (watches l) all)
     by (Refuses cause status) n = all
 asked-step l t (Hears p b) (Says m (Some i) notice) legal all = told-asked l t p b m i notice legal all

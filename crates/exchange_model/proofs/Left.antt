@@ -20,9 +20,9 @@ use Rattle.history_links.specs.Steps.{heard_link, heard, Heeds as LinkHeeds, IsU
 use Rattle.history_links.proofs.CallerLemmas.{says-elsewhere}
 use Rattle.exchange_model.specs.declared.kept.Exchange.{Exchange}
 use Rattle.exchange_model.specs.State.{State, link_of, with_link}
-use Rattle.exchange_model.specs.Reads.{ExchangeIn, held_of, opening_of, PiecesIn, StoreIn, WaitsUnder}
+use Rattle.exchange_model.specs.Reads.{ExchangeIn, held_of, opening_of, PiecesIn, StoreIn, WaitsUnder, StalesIn}
 use Rattle.exchange_model.specs.Watching.{is_one_of}
-use Rattle.exchange_model.specs.Steps.{Matter, entered, exchanges_by, gone_by, issued_by, link_with, more_by, Numbers, pieces_by, store_by, watches_by}
+use Rattle.exchange_model.specs.Steps.{Matter, entered, exchanges_by, gone_by, issued_by, link_with, more_by, Numbers, pieces_by, store_by, watches_by, stales_by}
 use Rattle.exchange_model.specs.Laws.{Heeds, MayHear}
 use Rattle.exchange_model.proofs.Borne.{answers-peer}
 use Rattle.exchange_model.proofs.Silent.{later-than, link-before, moment-now}
@@ -40,6 +40,7 @@ after t p d m n x S =
       issued = issued_by x S.issued;
       exchanges = exchanges_by S.entries n.token x S.exchanges;
       pieces = pieces_by (length S.entries) x S.pieces;
+      stales = stales_by x S.stales;
       watches = watches_by t m S.entries x S.watches;
       store = store_by S.entries t x S.store;
       links = with_link p (link_with t (more_by n x) (heard_link t m.mid m.token (is_one_of (gone_by m S.entries x S.watches)) (verdict_of t s m) s)) S.links;
@@ -65,6 +66,7 @@ module _ (l : List Noted) (t : ℕ) (p : Peer) (d : List ℕ) (m : Content) (n :
     pub keys : open_exchanges (x ∷ l) ≡ map opening_of (exchanges_by S.entries n.token k S.exchanges)
     pub exchanges_are : AllByRecursion (ExchangeIn h.before.reads.start (x ∷ l)) (exchanges_by S.entries n.token k S.exchanges)
     pub pieces_are : PiecesIn (x ∷ l) (exchanges_by S.entries n.token k S.exchanges) (pieces_by (length S.entries) k S.pieces)
+    pub stales_are : StalesIn (x ∷ l) (exchanges_by S.entries n.token k S.exchanges) (stales_by k S.stales)
     pub watches_are : map held_of (watches (x ∷ l)) ≡ watches_by t m S.entries k S.watches
     pub unnoticed : (q : Peer) → same_peer p q ≡ false → IsUnnoticed l x q
     pub store_is : StoreIn (x ∷ l) (store_by S.entries t k S.store)
@@ -93,6 +95,7 @@ module _ (l : List Noted) (t : ℕ) (p : Peer) (d : List ℕ) (m : Content) (n :
             keys = left.keys;
             exchanges_are = left.exchanges_are;
             pieces_are = left.pieces_are;
+            stales_are = left.stales_are;
             watches_are = left.watches_are;
             store_is = left.store_is;
             tokens_are = left.tokens_are;

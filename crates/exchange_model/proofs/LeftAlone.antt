@@ -8,7 +8,7 @@ use Rattle.uri_map.specs.declared.peer.Peer.{Peer}
 use Rattle.history_laws.specs.Readings.{Noted}
 use Rattle.history_laws.specs.Hearing.{answers, can_be_remembered, notice_of, repeated}
 use Rattle.history_laws.specs.Justified.{Ends}
-use Rattle.history_laws.specs.Progress.{Reply, Whole}
+use Rattle.history_laws.specs.Progress.{Reply, Whole, Ending, Renewed}
 use Rattle.history_laws.specs.Exchanges.{end_of, is_going}
 use Rattle.history_laws.proofs.CallerLemmas.{all-more, contains-none, filter-all}
 use Rattle.history_links.specs.Steps.{heard}
@@ -27,7 +27,7 @@ use Rattle.exchange_model.proofs.Hearing.{end-kept, kept-one, open-later, replie
 use Rattle.exchange_model.proofs.Left.{follows-so, Left, legal-so}
 use Rattle.exchange_model.proofs.Noticing.{IsSilent, told}
 use Rattle.exchange_model.proofs.Observed.{silent-forgets, silent-resets, silent-unnoticed}
-use Rattle.exchange_model.proofs.Watches.{newest-quiet}
+use Rattle.exchange_model.proofs.Watches.{newest-quiet, outdated-quiet}
 use Rattle.exchange_model.proofs.Written.{none-dropped, told-stand, written-left}
 use Rattle.exchange_model.proofs.Lists.{each-of}
 use Rattle.exchange_model.proofs.Outrun.{current-still, EndsThose}
@@ -36,6 +36,8 @@ use Rattle.exchange_model.proofs.Pieces.{pieces-quiet}
 use Rattle.exchange_model.proofs.Retiring.{store-retired}
 use Rattle.exchange_model.proofs.Settling.{is-ended}
 use Rattle.exchange_model.proofs.Silent.{link-before}
+use Rattle.exchange_model.proofs.Stales.{stales-quiet}
+use Rattle.history_laws.specs.Storing.{first_in}
 
 module _ (l : List Noted) (t : ℕ) (p : Peer) (d : List ℕ) (m : Content) (n : Numbers) (S : State) (h : MayHear l t p d S)
     (spelled : Spells m d) (none : repeated l t p m ≡ None) (room : can_be_remembered l t p m ≡ true)
@@ -55,8 +57,8 @@ module _ (l : List Noted) (t : ℕ) (p : Peer) (d : List ℕ) (m : Content) (n :
   no-over : (e : Exchange) → Contains S.exchanges e → hits l t p d m S h none room e.opening ≡ true → is_going (x ∷ l) e.opening ≡ false
   no-over e has hit = absurd (false≢true (sym (unhit e has) ∙ hit))
 
-  no-whole-now : (o : ℕ) (w : _) (rs : List Reply) → end_of l o ≡ None → Ends (x ∷ l) o (length l) (Whole w rs) → ⊥
-  no-whole-now o w rs going so =
+  none-now : (o : ℕ) (how : Ending) → end_of l o ≡ None → Ends (x ∷ l) o (length l) how → ⊥
+  none-now o how going so =
       let g = is-ended x l S h.before.reads (legal-so l t p d m n S h spelled none room) [] ends o _ going so in
       contains-none g.0 g.1
 
@@ -76,12 +78,15 @@ module _ (l : List Noted) (t : ℕ) (p : Peer) (d : List ℕ) (m : Content) (n :
         exchanges_are = each-of (ExchangeIn r.start (x ∷ l)) S.exchanges (λ e has.
             let a = kept-in l t p d m S h none room e has in
             kept-one l t p (link_of S.links p) d m r.legal e e.current e.newest a (unhit e has) (current-still x l S r [] ends (legal-so l t p d m n S h spelled none room) refl e a)
-            (λ get. newest-quiet x l (asked_key a.request) (got_in l e.opening) e.newest silent.uncounted (a.newest get)));
+            (λ get. newest-quiet x l (asked_key a.request) (got_in l e.opening) e.newest silent.uncounted (a.newest get))
+            (λ s k. outdated-quiet x l (asked_key a.request) (first_in s.list) silent.uncounted ∙ a.newest_kept s k));
         pieces_are = pieces-quiet x l S.exchanges S.pieces (λ (e : Exchange). ExchangeIn r.start l e × (hits l t p d m S h none room e.opening ≡ false))
             (λ e k. (_, k.0.opening)) (λ e k. replies-kept l t p d m e.opening k.1) (each-of _ S.exchanges (λ e has. (kept-in l t p d m S h none room e has, unhit e has))) r.pieces_are;
+        stales_are = stales-quiet x l S.exchanges S.stales (λ (e : Exchange). ExchangeIn r.start l e × (hits l t p d m S h none room e.opening ≡ false))
+            (λ e k. (_, k.0.opening)) (λ e k. replies-kept l t p d m e.opening k.1) (each-of _ S.exchanges (λ e has. (kept-in l t p d m S h none room e has, unhit e has))) r.stales_are;
         watches_are = left;
         unnoticed = λ q away. silent-unnoticed l t p d m n S h spelled none room is left q;
-        store_is = store-retired x l S r (legal-so l t p d m n S h spelled none room) [] ends silent.uncounted tt no-whole-now;
+        store_is = store-retired x l S r (legal-so l t p d m n S h spelled none room) [] ends silent.uncounted tt (λ o w rs going so. none-now o (Whole w rs) going so) (λ o s u going so. none-now o (Renewed s u) going so);
         tokens_are = r.tokens_are;
         waiting_are = waits-with p _ S.links S.exchanges (all-more _ _ (λ e k at_p. subst (λ (q : Peer). WaitsUnder (link_of S.links q).waiting e) at_p k) S.exchanges r.waiting_are) r.waiting_are;
         link_is = says-agrees _ l t p (link_of S.links p) d m (is_one_of []) (link-before l t S h.before p) none room

@@ -18,8 +18,8 @@ use Rattle.history_laws.specs.Hearing.{answers, can_be_remembered, notice_of, re
 use Rattle.history_laws.specs.Observing.{counting, watches}
 use Rattle.history_laws.specs.Joining.{outrun}
 use Rattle.history_laws.specs.Justified.{Ends}
-use Rattle.history_laws.specs.Progress.{Reply, numbers, Progress, Whole}
-use Rattle.history_laws.specs.Exchanges.{end_of, is_going}
+use Rattle.history_laws.specs.Progress.{Reply, numbers, Progress, Whole, Ending, Renewed}
+use Rattle.history_laws.specs.Exchanges.{end_of, is_going, kept as kept_of, replies}
 use Rattle.history_laws.proofs.CallerLemmas.{all-filter, all-more, all-of, all-push, at-below, contains-none, entries-length, eqb-itself, eqb-same, filter-all, IsGoing}
 use Rattle.history_links.specs.Steps.{EndsReset, heard, heard_link}
 use Rattle.history_links.proofs.CallerLemmas.{goes-on-agrees}
@@ -27,8 +27,8 @@ use Rattle.exchange_model.specs.declared.kept.Exchange.{Exchange}
 use Rattle.exchange_model.specs.declared.kept.Piece.{Piece}
 use Rattle.exchange_model.specs.State.{State, link_of, with_link}
 use Rattle.exchange_model.specs.Watching.{is_one_of, registered}
-use Rattle.exchange_model.specs.Reads.{ExchangeIn, got_in, held_of, opening_of, PiecesIn, WaitsUnder}
-use Rattle.exchange_model.specs.Steps.{Goes, asked_in, gone_by, unless_registered, continued, goes_so, got_by, is_of_other, is_under, Numbers, numbers_of, pieces_with}
+use Rattle.exchange_model.specs.Reads.{ExchangeIn, got_in, held_of, opening_of, PiecesIn, WaitsUnder, StalesIn, kept_in, kept_yet}
+use Rattle.exchange_model.specs.Steps.{Goes, asked_in, gone_by, unless_registered, continued, goes_so, got_by, is_of_other, is_under, Numbers, numbers_of, pieces_with, is_stale_of_other, stale_in}
 use Rattle.exchange_model.specs.Laws.{IsContinued, MayHear}
 use Rattle.exchange_model.proofs.Answered.{hits, other-going, other-opening, other-unhit, same-opening, start}
 use Rattle.exchange_model.proofs.Bare.{bare, bare_progress, got-bare}
@@ -38,10 +38,10 @@ use Rattle.exchange_model.proofs.Hearing.{kept-one, open-later, replies-kept}
 use Rattle.exchange_model.proofs.Left.{follows-so, Left, legal-so, told}
 use Rattle.exchange_model.proofs.Noticing.{answered-silent, answered-told, told as told_in}
 use Rattle.exchange_model.proofs.Observed.{answered-resets, registered-forgets, registered-unnoticed}
-use Rattle.exchange_model.proofs.Watches.{newest-quiet}
+use Rattle.exchange_model.proofs.Watches.{newest-quiet, outdated-quiet}
 use Rattle.exchange_model.proofs.Written.{none-dropped, told-stand, written-left}
 use Rattle.exchange_model.proofs.Lists.{all-map, each-of}
-use Rattle.exchange_model.proofs.Onward.{goes-on, got-now, is-more, issued-now, kept-on, waits-new, waits-old, waits-yet}
+use Rattle.exchange_model.proofs.Onward.{goes-on, got-now, is-more, issued-now, kept-on, waits-new, waits-old, waits-yet, replies-now}
 use Rattle.exchange_model.proofs.Opened.{OpenIn, open-ones}
 use Rattle.exchange_model.proofs.Outrun.{current-still, EndsThose}
 use Rattle.exchange_model.proofs.Over.{IsOnward, reply_of}
@@ -49,6 +49,8 @@ use Rattle.exchange_model.proofs.Pieces.{below-more, got-stays}
 use Rattle.exchange_model.proofs.Retiring.{store-retired}
 use Rattle.exchange_model.proofs.Settling.{is-ended}
 use Rattle.exchange_model.proofs.Silent.{link-before}
+use Rattle.exchange_model.proofs.Stales.{kept-replied, kept-stays, stale-gone, stale-others, stales-below}
+use Rattle.history_laws.specs.Storing.{first_in}
 
 goes-openings : (e : Exchange) (token : List ℕ) (how : Progress) (fs : List Exchange)
     → map opening_of (map (goes_so e token how) fs) ≡ map opening_of fs
@@ -92,8 +94,8 @@ module _ (l : List Noted) (t : ℕ) (p : Peer) (d : List ℕ) (m : Content) (n :
   ends : EndsThose x l S []
   ends = record { ended = λ f c. absurd (contains-none f c); all = λ f has gone. absurd (false≢true (sym gone ∙ goes f has)) }
 
-  no-whole-now : (o : ℕ) (w : Response) (rs : List Reply) → end_of l o ≡ None → Ends (x ∷ l) o (length l) (Whole w rs) → ⊥
-  no-whole-now o w rs going so =
+  none-now : (o : ℕ) (end : Ending) → end_of l o ≡ None → Ends (x ∷ l) o (length l) end → ⊥
+  none-now o end going so =
       let found = is-ended x l S h.before.reads (legal-so l t p d m n S h spelled none room) [] ends o _ going so in
       contains-none found.0 found.1
 
@@ -123,6 +125,7 @@ module _ (l : List Noted) (t : ℕ) (p : Peer) (d : List ℕ) (m : Content) (n :
       let a = open-in f has in
       kept-one l t p (link_of S.links p) d m h.before.reads.legal f f.current f.newest a.0 (unhit f a other) (current f a.0)
       (λ get. newest-quiet x l (asked_key a.0.request) (got_in l f.opening) f.newest silent (a.0.newest get))
+      (λ s k. outdated-quiet x l (asked_key a.0.request) (first_in s.list) silent ∙ a.0.newest_kept s k)
 
   -- the pieces
 
@@ -212,6 +215,29 @@ module _ (l : List Noted) (t : ℕ) (p : Peer) (d : List ℕ) (m : Content) (n :
           (all-push (λ (y : Piece). y.opening < length (x ∷ l)) S.pieces last old
           (let below = at-below l e.opening _ on.it.kept.stands in omega (arith, below)))
 
+  -- What it asked about is nothing to it any more.
+  stale-now : (f : Exchange) → Contains S.exchanges f → kept_in (x ∷ l) f.opening ≡ stale_in f.opening (filter (is_stale_of_other e) S.stales)
+  stale-now f has = elim (told (is_under e.token f)) [
+    | inl under ↦
+        let same = at-it f (open-in f has) under in
+        ap (kept_in (x ∷ l)) same
+        ∙ (ap (kept_yet (kept_of (x ∷ l) e.opening)) (replies-now l t p d m S h none room e real_now how is_going_on on real n g)
+        ∙ (kept-replied (kept_of (x ∷ l) e.opening) (replies l e.opening) (reply_of l on.it.sending m)
+        ∙ (sym (stale-gone e S.stales) ∙ ap (λ (o : ℕ). stale_in o (filter (is_stale_of_other e) S.stales)) (sym same))))
+    | inr other ↦
+        let a = open-in f has in
+        kept-stays x l f.opening _ a.0.opening (replies-kept l t p d m f.opening (unhit f a other))
+        ∙ (all-of (λ (f : Exchange). kept_in l f.opening ≡ stale_in f.opening S.stales) S.exchanges f h.before.reads.stales_are.kept has
+        ∙ sym (stale-others e f.opening (apart f has other) S.stales))
+  ]
+
+  stales-left : StalesIn (x ∷ l) (map (goes_so e n.token now) S.exchanges) (filter (is_stale_of_other e) S.stales)
+  stales-left = record {
+    kept = all-map (goes_so e n.token now) (λ (f : Exchange). kept_in (x ∷ l) f.opening ≡ stale_in f.opening (filter (is_stale_of_other e) S.stales)) S.exchanges
+        (each-of _ S.exchanges (λ f has. subst (λ (o : ℕ). kept_in (x ∷ l) o ≡ stale_in o (filter (is_stale_of_other e) S.stales)) (sym (opening-of f (is_under e.token f))) (stale-now f has)));
+    below = all-filter _ (is_stale_of_other e) S.stales (stales-below l (x ∷ l) S.stales (omega arith) h.before.reads.stales_are.below);
+  }
+
   -- what waits
 
   abbrev new_link : LinkState
@@ -247,9 +273,10 @@ module _ (l : List Noted) (t : ℕ) (p : Peer) (d : List ℕ) (m : Content) (n :
             ∙ sym (goes-openings e n.token now S.exchanges));
         exchanges_are = all-map (goes_so e n.token now) (ExchangeIn r.start (x ∷ l)) S.exchanges (each-of _ S.exchanges (λ f has. one-kept f has (is_under e.token f) refl));
         pieces_are = pieces-left;
+        stales_are = stales-left;
         watches_are = left;
         unnoticed = λ q away. registered-unnoticed l t p d m n S h spelled none room e on.it left q away;
-        store_is = store-retired x l S r (legal-so l t p d m n S h spelled none room) [] ends silent tt no-whole-now;
+        store_is = store-retired x l S r (legal-so l t p d m n S h spelled none room) [] ends silent tt (λ o w rs going so. none-now o (Whole w rs) going so) (λ o s u going so. none-now o (Renewed s u) going so);
         tokens_are = all-more _ (λ (f : FirstSending). token_number f.message.token < S.issued + 1) (λ f less. omega (arith, less)) (firsts l) r.tokens_are;
         waiting_are = waits-left;
         link_is = goes-on-agrees _ l t p (link_of S.links p) d m e.opening n.token n.text n.word (is_one_of (unless_registered m e S.watches)) (link-before l t S h.before p) none room

@@ -1,5 +1,5 @@
 -- A message that ends an exchange leaves the others.
-use Rattle.std.proofs.Common.{◌≡◌, ℕ, zero, ◌+◌, true, false, not, eqb, List, [], ◌∷◌, ◌++◌, map, Option, Some, None, inl, inr, refl, sym, ap, subst, ◌∙◌, arith}
+use Rattle.std.proofs.Common.{◌≡◌, ℕ, zero, ◌+◌, true, false, not, eqb, List, [], ◌∷◌, ◌++◌, length, map, Option, Some, None, inl, inr, refl, sym, ap, subst, ◌∙◌, arith}
 use Rattle.std.specs.Prelude.{filter, is_none}
 use Rattle.std.specs.List.{AllByRecursion, Contains}
 use Rattle.std.proofs.lemmas.Bool.{false≢true, not-false}
@@ -11,7 +11,7 @@ use Rattle.ask_model.specs.Sharing.{asked_key, is_get}
 use Rattle.observe_share.specs.Watches.{without}
 use Rattle.history_laws.specs.Observing.{counting, outdated, watches}
 use Rattle.history_laws.specs.Responses.{Response}
-use Rattle.history_laws.specs.Progress.{Ending, Ends as EndsSoFar, numbers, Progress, progress, Reply, step, Whole}
+use Rattle.history_laws.specs.Progress.{Ending, Ends as EndsSoFar, numbers, Progress, progress, Reply, step, Whole, Renewed, NotUnderstood, Reset, TimedOut, Turned}
 use Rattle.history_laws.specs.Exchanges.{Begun, End, end_of, is_going, replies}
 use Rattle.ask_model.specs.Requests.{CoapRequest}
 use Rattle.history_laws.proofs.CallerLemmas.{all-filter, all-more, all-of, all-passes, contains-none, eqb-same, filter-by, first-or-later, progress-push, some-is}
@@ -22,8 +22,8 @@ use Rattle.exchange_model.specs.State.{State, link_of}
 use Rattle.exchange_model.specs.declared.kept.Work.{Work}
 use Rattle.exchange_model.specs.declared.kept.Work.TheVariants as W
 use Rattle.exchange_model.specs.Watching.{is_one_of, is_written_by, tokens_of}
-use Rattle.exchange_model.specs.Reads.{ExchangeIn, got_in, held_of, opening_of, PiecesIn, StoreIn, WaitsUnder}
-use Rattle.exchange_model.specs.Steps.{Over, asked_in, gone_by, got_by, newest_by, newest_content, progress_with, watches_by, is_of_other, is_other, left_by, Numbers, numbers_of, outrun_by, settled}
+use Rattle.exchange_model.specs.Reads.{ExchangeIn, got_in, held_of, opening_of, PiecesIn, StoreIn, WaitsUnder, StalesIn, kept_in}
+use Rattle.exchange_model.specs.Steps.{Over, asked_in, gone_by, got_by, newest_by, newest_content, progress_with, watches_by, is_of_other, is_other, left_by, Numbers, numbers_of, outrun_by, settled, is_stale_of_other, stale_in}
 use Rattle.exchange_model.specs.Laws.{MayHear}
 use Rattle.exchange_model.proofs.Answered.{hits, issued-still, kept-hits, none-goes-on, other-going, other-opening, other-unhit, same-opening, start}
 use Rattle.exchange_model.proofs.Begins.{waits-with}
@@ -33,7 +33,7 @@ use Rattle.exchange_model.proofs.Fresh.{newest-more, step-all}
 use Rattle.exchange_model.proofs.Left.{follows-so, Left, legal-so, told}
 use Rattle.exchange_model.proofs.Noticing.{answered-silent, answered-told, told as told_in}
 use Rattle.exchange_model.proofs.Observed.{answered-resets, over-forgets, over-unnoticed}
-use Rattle.exchange_model.proofs.Watches.{newest-quiet}
+use Rattle.exchange_model.proofs.Watches.{newest-quiet, outdated-quiet}
 use Rattle.exchange_model.proofs.Written.{one-written, told-stand, written-left}
 use Rattle.exchange_model.proofs.Lists.{all-both, each-of}
 use Rattle.exchange_model.proofs.Opened.{OpenIn, open-ones}
@@ -43,6 +43,11 @@ use Rattle.exchange_model.proofs.Pieces.{below-more, got-stays}
 use Rattle.exchange_model.proofs.Settled.{store-settled}
 use Rattle.exchange_model.proofs.Settling.{kept}
 use Rattle.exchange_model.proofs.Silent.{link-before}
+use Rattle.exchange_model.proofs.Stales.{kept-stays, stale-others, stales-below}
+use Rattle.history_laws.specs.Storing.{first_in}
+use Rattle.resp_cache.specs.Stored.{Stored}
+use Rattle.exchange_model.proofs.Bare.{bare_ending}
+use Rattle.exchange_model.proofs.Resettled.{store-resettled}
 
 module _ (l : List Noted) (t : ℕ) (p : Peer) (d : List ℕ) (m : Content) (n : Numbers) (S : State) (h : MayHear l t p d S)
     (spelled : Spells m d) (none : repeated l t p m ≡ None) (room : can_be_remembered l t p m ≡ true)
@@ -119,6 +124,20 @@ module _ (l : List Noted) (t : ℕ) (p : Peer) (d : List ℕ) (m : Content) (n :
     below = all-filter _ (is_of_other e) S.pieces (below-more l (x ∷ l) S.pieces (omega arith) h.before.reads.pieces_are.below);
   }
 
+  -- and what those ask about
+  one-stale : (f : Exchange) → (kept_in l f.opening ≡ stale_in f.opening S.stales) × (OpenIn h.before.reads.start l f × (is_other e.token f ≡ true))
+      → kept_in (x ∷ l) f.opening ≡ stale_in f.opening (filter (is_stale_of_other e) S.stales)
+  one-stale f a =
+      kept-stays x l f.opening _ a.1.0.0.opening (replies-kept l t p d m f.opening (other-unhit l t p d m S h none room e over.it f a.1.0.0 a.1.1))
+      ∙ (a.0 ∙ sym (stale-others e f.opening (apart f a.1.0 a.1.1) S.stales))
+
+  stales-left : StalesIn (x ∷ l) (left_by S.entries (e ∷ []) others) (filter (is_stale_of_other e) S.stales)
+  stales-left = record {
+    kept = left-all (λ (f : Exchange). kept_in (x ∷ l) f.opening ≡ stale_in f.opening (filter (is_stale_of_other e) S.stales)) (λ f k. k) S.entries (e ∷ []) others
+        (all-more _ _ one-stale others (all-both _ _ others (all-filter _ (is_other e.token) S.exchanges h.before.reads.stales_are.kept) each-other));
+    below = all-filter _ (is_stale_of_other e) S.stales (stales-below l (x ∷ l) S.stales (omega arith) h.before.reads.stales_are.below);
+  }
+
   silent : counting l x.note ≡ None
   silent = answered-silent l t p d m S h none room e over.it
 
@@ -157,6 +176,26 @@ module _ (l : List Noted) (t : ℕ) (p : Peer) (d : List ℕ) (m : Content) (n :
       got-with (W.Fetches k p) got = refl
       got-with (W.Gives u) got = refl
 
+  -- what is stored after it
+  settles : Ending → Type 0
+  settles real = StoreIn (x ∷ l) (settled S.entries (Some e) (newest_content S.entries t e (bare_ending real)) S.store)
+
+  plainly : ((u : Stored) (v : Reply) → over.real ≡ Renewed u v → ⊥) → settles over.real
+  unfolding settles
+  plainly plain = store-settled x l S h.before.reads (legal-so l t p d m n S h spelled none room) e over.it.has ends over.real over.ends silent refl plain tt first-fresh
+
+  store-over : (real : Ending) → over.real ≡ real → StoreIn (x ∷ l) (settled S.entries (Some e) (newest_content S.entries t e (bare_ending over.real)) S.store)
+  unfolding settles
+  store-over (Renewed s u) is =
+      subst settles (sym is)
+      (store-resettled x l S h.before.reads (legal-so l t p d m n S h spelled none room) e over.it.has ends s u
+      (subst (λ (how : Ending). end_of (x ∷ l) e.opening ≡ Some (record { number = length l; how = how })) is over.ends) silent tt)
+  store-over (Whole w rs) is = plainly (λ u v f. cc (sym is ∙ f))
+  store-over NotUnderstood is = plainly (λ u v f. cc (sym is ∙ f))
+  store-over Reset is = plainly (λ u v f. cc (sym is ∙ f))
+  store-over TimedOut is = plainly (λ u v f. cc (sym is ∙ f))
+  store-over Turned is = plainly (λ u v f. cc (sym is ∙ f))
+
   pub left-over : Left l t p d m n S h spelled none room (Over e how)
   left-over =
       let r = h.before.reads in
@@ -170,12 +209,14 @@ module _ (l : List Noted) (t : ℕ) (p : Peer) (d : List ℕ) (m : Content) (n :
         exchanges_are = left-each (ExchangeIn r.start (x ∷ l)) (λ (f : Exchange). OpenIn r.start l f × (is_other e.token f ≡ true)) S.entries (e ∷ [])
             (λ f a. kept-one l t p (link_of S.links p) d m r.legal f (outrun_by S.entries (e ∷ []) f).current f.newest a.0.0
             (other-unhit l t p d m S h none room e over.it f a.0.0 a.1) (current-now x l S r (e ∷ []) ends legal f a.0.0)
-            (λ get. newest-quiet x l (asked_key a.0.0.request) (got_in l f.opening) f.newest silent (a.0.0.newest get))) others each-other;
+            (λ get. newest-quiet x l (asked_key a.0.0.request) (got_in l f.opening) f.newest silent (a.0.0.newest get))
+            (λ s k. outdated-quiet x l (asked_key a.0.0.request) (first_in s.list) silent ∙ a.0.0.newest_kept s k)) others each-other;
         pieces_are = pieces-left;
+        stales_are = stales-left;
         watches_are = left;
         unnoticed = λ q away. over-unnoticed l t p d m n S h spelled none room e over.it left q away;
         store_is = subst (λ (u : Ending). StoreIn (x ∷ l) (settled S.entries (Some e) (newest_content S.entries t e u) S.store)) (sym over.same)
-            (store-settled x l S r legal e over.it.has ends over.real over.ends silent refl tt first-fresh);
+            (store-over over.real refl);
         tokens_are = r.tokens_are;
         waiting_are = left-all (λ (f : Exchange). WaitsUnder (link_of _ f.peer).waiting f) (λ f k. k) S.entries (e ∷ []) others
             (waits-with p _ S.links others (all-more _ _ (λ f k at_p. subst (λ (q : Peer). WaitsUnder (link_of S.links q).waiting f) at_p k) others waits) waits);

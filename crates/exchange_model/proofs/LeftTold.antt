@@ -1,5 +1,5 @@
 -- A notification that counts leaves all exchanges, of which those for the same are out of date.
-use Rattle.std.proofs.Common.{◌≡◌, ◌<◌, ℕ, zero, ◌+◌, Bool, true, false, cond, ltb, List, [], ◌∷◌, length, map, Option, None, refl, sym, ap, subst, ◌∙◌, arith}
+use Rattle.std.proofs.Common.{◌≡◌, ◌<◌, ℕ, zero, ◌+◌, Bool, true, false, not, cond, ltb, List, [], ◌∷◌, length, map, Option, Some, None, refl, sym, ap, subst, ◌∙◌, arith}
 use Rattle.std.specs.Prelude.{is_none, ◌&&◌, ◌||◌}
 use Rattle.std.specs.List.{AllByRecursion, Contains}
 use Rattle.std.specs.Option.{option_map_or}
@@ -27,8 +27,8 @@ use Rattle.history_links.proofs.CallerLemmas.{says-agrees}
 use Rattle.exchange_model.specs.declared.kept.Exchange.{Exchange}
 use Rattle.exchange_model.specs.State.{State, link_of}
 use Rattle.exchange_model.specs.Watching.{is_one_of}
-use Rattle.exchange_model.specs.Reads.{ExchangeIn, got_in, held_of, IsNewest, opening_of, PiecesIn, WaitsUnder}
-use Rattle.exchange_model.specs.Steps.{Tells, answered_in, asked_in, Numbers, numbers_of, outdated_by, reads_key, unless_updated}
+use Rattle.exchange_model.specs.Reads.{ExchangeIn, got_in, held_of, IsNewest, opening_of, PiecesIn, WaitsUnder, StalesIn, kept_in}
+use Rattle.exchange_model.specs.Steps.{Tells, answered_in, asked_in, Numbers, numbers_of, outdated_by, reads_key, unless_updated, stale_in}
 use Rattle.exchange_model.specs.Laws.{MayHear}
 use Rattle.exchange_model.proofs.Answered.{ended, hits, issued-still, kept-in, none-goes-on, none-hit}
 use Rattle.exchange_model.proofs.Begins.{waits-with}
@@ -44,6 +44,9 @@ use Rattle.exchange_model.proofs.Pieces.{pieces-quiet}
 use Rattle.exchange_model.proofs.Retold.{store-told}
 use Rattle.exchange_model.proofs.Silent.{link-before}
 use Rattle.exchange_model.proofs.Written.{none-dropped, told-stand, written-left}
+use Rattle.exchange_model.proofs.Stales.{stales-quiet}
+use Rattle.exchange_model.proofs.Renewals.{kept-first, kept-get}
+use Rattle.history_laws.specs.Storing.{first_in}
 
 outdated-openings : (ws : List Written) (key : CacheKey) (es : List Exchange) → map opening_of (map (outdated_by ws key) es) ≡ map opening_of es
 outdated-openings ws key [] = refl
@@ -111,10 +114,11 @@ module _ (l : List Noted) (t : ℕ) (p : Peer) (d : List ℕ) (m : Content) (n :
       a = kept-in l t p d m S h none room e has
 
       kept : (c : Bool) → (is_get a.request ≡ true → IsNewest (x ∷ l) (asked_key a.request) (got_in l e.opening) c)
+          → ((s : Stored) → kept_in l e.opening ≡ Some s → outdated (x ∷ l) (asked_key a.request) (first_in s.list) ≡ not c)
           → ExchangeIn h.before.reads.start (x ∷ l) (record e { newest = c })
-      kept c newest =
+      kept c newest kept_newest =
           kept-one l t p (link_of S.links p) d m h.before.reads.legal e e.current c a (unhit e has)
-          (current-still x l S h.before.reads [] ends (legal-so l t p d m n S h spelled none room) refl e a) newest
+          (current-still x l S h.before.reads [] ends (legal-so l t p d m n S h spelled none room) refl e a) newest kept_newest
 
       test : option_map_or (reads_key r.key) (asked_in S.entries e.opening) false ≡ reads_key r.key a.request
       test = ap (λ (v : Option CoapRequest). option_map_or (reads_key r.key) v false) (asked-here l S h.before.reads e a)
@@ -138,7 +142,12 @@ module _ (l : List Noted) (t : ℕ) (p : Peer) (d : List ℕ) (m : Content) (n :
       by : (b : Bool) → option_map_or (reads_key r.key) (asked_in S.entries e.opening) false ≡ b
           → ExchangeIn h.before.reads.start (x ∷ l) (cond b (record e { newest = false }) e)
       by true f = kept false (λ get. first-out (got_in l e.opening) (got-before e has) (turned true (and_parts (is_get a.request) _ (sym test ∙ f)).1))
+          (λ s k. out-now (asked_key a.request) (first_in s.list) (turned true (and_parts (is_get a.request) _ (sym test ∙ f)).1)
+          (kept-first l e.opening _ s h.before.reads.legal a.opening k))
       by false f = kept e.newest (λ get. first-not (got_in l e.opening) (turned false (ap (λ (b : Bool). b && same_key (asked_key a.request) r.key) (sym get) ∙ (sym test ∙ f))) (a.newest get))
+          (λ s k. out-not (asked_key a.request) (first_in s.list)
+          (turned false (ap (λ (b : Bool). b && same_key (asked_key a.request) r.key) (sym (kept-get l e.opening _ s h.before.reads.legal a.opening k)) ∙ (sym test ∙ f)))
+          ∙ a.newest_kept s k)
 
   pieces : PiecesIn (x ∷ l) (map (outdated_by S.entries r.key) S.exchanges) S.pieces
   pieces =
@@ -155,6 +164,24 @@ module _ (l : List Noted) (t : ℕ) (p : Peer) (d : List ℕ) (m : Content) (n :
       one e a = by (option_map_or (reads_key r.key) (asked_in S.entries e.opening) false)
         where
           by : (b : Bool) → numbers (got_in (x ∷ l) (cond b (record e { newest = false }) e).opening) ≡ numbers_of (cond b (record e { newest = false }) e).opening S.pieces
+          by true = a
+          by false = a
+
+  stales : StalesIn (x ∷ l) (map (outdated_by S.entries r.key) S.exchanges) S.stales
+  stales =
+      let old = stales-quiet x l S.exchanges S.stales (λ (e : Exchange). ExchangeIn h.before.reads.start l e × (hits l t p d m S h none room e.opening ≡ false))
+      (λ e k. (_, k.0.opening)) (λ e k. replies-kept l t p d m e.opening k.1) (each-of _ S.exchanges (λ e has. (kept-in l t p d m S h none room e has, unhit e has))) h.before.reads.stales_are in
+      record {
+        kept = all-map (outdated_by S.entries r.key) (λ (e : Exchange). kept_in (x ∷ l) e.opening ≡ stale_in e.opening S.stales) S.exchanges
+            (all-more (λ (e : Exchange). kept_in (x ∷ l) e.opening ≡ stale_in e.opening S.stales) _ one S.exchanges old.kept);
+        below = old.below;
+      }
+    where
+      one : (e : Exchange) → kept_in (x ∷ l) e.opening ≡ stale_in e.opening S.stales
+          → kept_in (x ∷ l) (outdated_by S.entries r.key e).opening ≡ stale_in (outdated_by S.entries r.key e).opening S.stales
+      one e a = by (option_map_or (reads_key r.key) (asked_in S.entries e.opening) false)
+        where
+          by : (b : Bool) → kept_in (x ∷ l) (cond b (record e { newest = false }) e).opening ≡ stale_in (cond b (record e { newest = false }) e).opening S.stales
           by true = a
           by false = a
 
@@ -182,6 +209,7 @@ module _ (l : List Noted) (t : ℕ) (p : Peer) (d : List ℕ) (m : Content) (n :
             ∙ sym (outdated-openings S.entries r.key S.exchanges));
         exchanges_are = all-map (outdated_by S.entries r.key) (ExchangeIn b.start (x ∷ l)) S.exchanges (each-of _ S.exchanges one-told);
         pieces_are = pieces;
+        stales_are = stales;
         watches_are = left;
         unnoticed = λ q away. told-unnoticed l t p d m n S h spelled none room is r found k left (notice_in m) refl q away;
         store_is = store-told l t p d m n S h spelled none room is r found k ends out-now out-not;

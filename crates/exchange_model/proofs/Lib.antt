@@ -14,6 +14,7 @@ mod BackedFirsts
 mod CopiedLegal
 mod StoredFacts
 mod Traced
+mod Shape
 mod Taken
 mod TakenBacked
 mod TakenReplies
@@ -25,6 +26,7 @@ mod Outrun
 mod Joined
 mod Bare
 mod Pieces
+mod Stales
 mod Tables
 mod Silent
 mod Quiet
@@ -32,6 +34,8 @@ mod Begins
 mod Firsts
 mod Borne
 mod Carried
+mod StoredOne
+mod StoredAlike
 mod Storing
 mod Uses
 mod Stores
@@ -44,6 +48,7 @@ mod Conns
 mod ConnsTell
 mod Readers
 mod Brief
+mod HeardIn
 mod Known
 mod Resting
 mod Grounds
@@ -53,8 +58,10 @@ mod Tellings
 mod Expiring
 mod Passing
 mod Stepping
+mod Ongoing
 mod Heeding
 mod Comes
+mod Confirmed
 mod Places
 mod Over
 mod Answered
@@ -97,8 +104,13 @@ mod Works
 mod Apart
 mod Watches
 mod Came
+mod Renewals
+mod Outlasts
+mod Resettled
+mod Notices
 mod Noticing
 mod Written
+mod Watched
 mod Observed
 mod Unwritten
 mod Fresh
@@ -110,3 +122,4 @@ mod Gone
 mod LetGo
 mod Started
 mod Handed
+mod Tags

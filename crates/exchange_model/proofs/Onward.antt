@@ -8,22 +8,22 @@ use Rattle.coap_codec.specs.Spelling.{Content}
 use Rattle.uri_map.specs.declared.peer.Peer.{Peer}
 use Rattle.message_layer.specs.Sending.{waits}
 use Rattle.message_layer.specs.declared.state.Waiting.{Waiting}
-use Rattle.ask_model.specs.Requests.{CoapRequest}
+use Rattle.ask_model.specs.Requests.{CoapRequest, Manner, Plainly, observing_if}
 use Rattle.ask_model.specs.Sharing.{asked_key, asked_place, is_get}
 use Rattle.history_laws.specs.Numbering.{token_number}
 use Rattle.history_laws.specs.Readings.{Noted, at, before}
-use Rattle.history_laws.specs.Observing.{counting, observes, unless_replied, wants_in}
+use Rattle.history_laws.specs.Observing.{counting, observes, unless_replied, wants_in, manner, manner_by, tag_of}
 use Rattle.history_laws.specs.Transmissions.{firsts, bears_token}
 use Rattle.history_laws.specs.Progress.{Reply, Progress, Fetches, Gives, Ends, next_message, progress, step}
-use Rattle.history_laws.specs.Exchanges.{Begun, begun, Turn, waits_by, replies_by, replies, is_going, is_issued_at, issued, submitted_by, submitted, rank, waits_for}
+use Rattle.history_laws.specs.Exchanges.{Begun, begun, Turn, waits_by, replies_by, replies, is_going, is_issued_at, issued, submitted_by, submitted, rank, waits_for, kept as kept_of}
 use Rattle.history_laws.specs.Hearing.{repeated, can_be_remembered}
 use Rattle.history_laws.specs.Joining.{outrun}
-use Rattle.history_laws.proofs.CallerLemmas.{at-keeps, before-new, begun-keeps, eqb-itself, IsGoing, issued-more, progress-push, rank-below, some-is}
+use Rattle.history_laws.proofs.CallerLemmas.{at-keeps, before-new, begun-keeps, eqb-itself, IsGoing, issued-more, progress-push, rank-below, some-is, none-some}
 use Rattle.history_links.specs.Steps.{GoesOn, heard}
 use Rattle.exchange_model.specs.declared.kept.Exchange.{Exchange}
 use Rattle.exchange_model.specs.State.{State, link_of}
 use Rattle.exchange_model.specs.declared.kept.Work.{Work}
-use Rattle.exchange_model.specs.Reads.{ExchangeIn, got_for, got_in, IsNewest, WaitsUnder}
+use Rattle.exchange_model.specs.Reads.{ExchangeIn, got_for, got_in, IsNewest, WaitsUnder, kept_in, kept_yet}
 use Rattle.exchange_model.specs.Steps.{Numbers, continued, got_by, newest_by, progress_with, work_by}
 use Rattle.exchange_model.specs.Laws.{IsContinued, MayHear}
 use Rattle.exchange_model.proofs.Answered.{start}
@@ -35,6 +35,8 @@ use Rattle.exchange_model.proofs.Noticing.{answered-silent}
 use Rattle.exchange_model.proofs.Opened.{OpenIn}
 use Rattle.exchange_model.proofs.Outrun.{asked-here}
 use Rattle.exchange_model.proofs.Over.{IsOnward, reply_of}
+use Rattle.exchange_model.proofs.Stales.{kept-replied}
+use Rattle.resp_cache.specs.Stored.{Stored}
 
 submitted-last : (o : ℕ) (rs : List Reply) (r : Reply) → submitted_by o (rs ++ r ∷ []) ≡ r.number
 submitted-last o [] r = refl
@@ -66,7 +68,7 @@ module _ (l : List Noted) (t : ℕ) (p : Peer) (d : List ℕ) (m : Content) (S :
   opened : begun (x ∷ l) e.opening ≡ Some (record { since = e.since; request = q })
   opened = begun-keeps x l e.opening _ on.it.kept.opening
 
-  replies-now : replies (x ∷ l) e.opening ≡ replies l e.opening ++ r ∷ []
+  pub replies-now : replies (x ∷ l) e.opening ≡ replies l e.opening ++ r ∷ []
   replies-now = ap (λ (u : Turn). replies_by (length l) u (replies l e.opening)) on.turned
 
   progress-now : progress q (replies (x ∷ l) e.opening) ≡ now
@@ -111,14 +113,24 @@ module _ (l : List Noted) (t : ℕ) (p : Peer) (d : List ℕ) (m : Content) (S :
       replied [] is = ap (unless_replied (wants_in (before (x ∷ l) e.opening) (at (x ∷ l) e.opening))) is
       replied (s ∷ rs) is = ap (unless_replied (wants_in (before (x ∷ l) e.opening) (at (x ∷ l) e.opening))) is
 
-  next-is : next_message (observes (x ∷ l) e.opening) q (progress q (replies (x ∷ l) e.opening)) 0 n.token ≡ Some g.message
-  next-is =
-      ap (λ (b : Bool). next_message b q (progress q (replies (x ∷ l) e.opening)) 0 n.token) observes-now
-      ∙ (ap (λ (u : Progress). next_message false q u 0 n.token) progress-now
-      ∙ (next-bare now ∙ (ap (λ (u : Progress). next_message false q u 0 n.token) (sym same-how)
-      ∙ subst (λ (a : CoapRequest). next_message false a how 0 n.token ≡ Some g.message) request-is g.next)))
+  manner-now : manner (x ∷ l) e.opening ≡ Plainly
+  manner-now =
+      ap (λ (v : Option (List ℕ)). manner_by v (observes (x ∷ l) e.opening)) (ap (tag_of (kept_of (x ∷ l) e.opening)) replies-now ∙ untagged (kept_of (x ∷ l) e.opening) (replies l e.opening))
+      ∙ ap observing_if observes-now
     where
-      next-bare : (u : Progress) → next_message false q u 0 n.token ≡ next_message false q (bare_progress u) 0 n.token
+      untagged : (old : Option Stored) (rs : List Reply) → tag_of old (rs ++ r ∷ []) ≡ None
+      untagged None rs = refl
+      untagged (Some s) [] = refl
+      untagged (Some s) (y ∷ rs) = refl
+
+  next-is : next_message (manner (x ∷ l) e.opening) q (progress q (replies (x ∷ l) e.opening)) 0 n.token ≡ Some g.message
+  next-is =
+      ap (λ (b : Manner). next_message b q (progress q (replies (x ∷ l) e.opening)) 0 n.token) manner-now
+      ∙ (ap (λ (u : Progress). next_message Plainly q u 0 n.token) progress-now
+      ∙ (next-bare now ∙ (ap (λ (u : Progress). next_message Plainly q u 0 n.token) (sym same-how)
+      ∙ subst (λ (a : CoapRequest). next_message Plainly a how 0 n.token ≡ Some g.message) request-is g.next)))
+    where
+      next-bare : (u : Progress) → next_message Plainly q u 0 n.token ≡ next_message Plainly q (bare_progress u) 0 n.token
       next-bare (Fetches k pieces got) = refl
       next-bare (Gives upload got) = refl
       next-bare (Ends how) = refl
@@ -164,11 +176,15 @@ module _ (l : List Noted) (t : ℕ) (p : Peer) (d : List ℕ) (m : Content) (S :
     sent = apart;
     current = current;
     newest = newest-of;
+    newest_kept = λ s k. absurd (none-some s (sym (ap (kept_in (x ∷ l)) same
+        ∙ (ap (kept_yet (kept_of (x ∷ l) e.opening)) replies-now ∙ kept-replied (kept_of (x ∷ l) e.opening) (replies l e.opening) r)) ∙ k));
     progress = progress-of;
     short = a.short;
     digests = a.digests;
     conn = a.conn;
     ask = a.ask;
+    note = a.note;
+    opens = a.opens;
     stands = at-keeps x l f.opening _ a.stands;
   }
     where

@@ -6,11 +6,11 @@ use Rattle.std.proofs.lemmas.Bool.{false≢true}
 use Rattle.ask_model.specs.Requests.{CoapRequest, Sense, Requests, Refuses}
 use Rattle.ask_model.specs.Sharing.{asked_place, writes_to}
 use Rattle.journal_book.specs.Entries.{Asks, Written}
-use Rattle.history_laws.specs.Readings.{Noted, Begins, before}
-use Rattle.history_laws.specs.Exchanges.{Begun, begun, End, end_of, is_going, open_exchanges}
+use Rattle.history_laws.specs.Readings.{Noted, Note, Begins, Renews, before}
+use Rattle.history_laws.specs.Exchanges.{Begun, begun, End, end_of, is_going, open_exchanges, opens_by}
 use Rattle.history_laws.specs.Joining.{outrun}
 use Rattle.history_laws.specs.Justified.{AskNote, Legal}
-use Rattle.history_laws.proofs.CallerLemmas.{all-of, any-of, at-below, at-entries, contains-none, contains-map, contains-mapped, EndsWrite, find-any, find-some, follows-at, open-exactly, outrun-keeps, outrun-new, write-outruns}
+use Rattle.history_laws.proofs.CallerLemmas.{all-of, any-of, at-below, at-entries, contains-none, contains-map, contains-mapped, EndsWrite, find-any, find-some, follows-at, open-exactly, outrun-keeps, outrun-new, write-outruns, none-some, some-is}
 use Rattle.exchange_model.specs.declared.kept.Exchange.{Exchange}
 use Rattle.exchange_model.specs.State.{State}
 use Rattle.exchange_model.specs.Steps.{asked_in, request_by, request_in, outruns, outrun_by, left_by}
@@ -19,9 +19,13 @@ use Rattle.exchange_model.specs.Resting.{HasExchange}
 
 -- what an exchange was opened for
 
-pub begins-sense : (l : List Noted) (t : ℕ) (s : Sense) (q : CoapRequest) → AskNote l t s (Begins q) → s ≡ Requests q
-begins-sense l t (Requests r) q h = ap Requests (sym h.0)
-begins-sense l t (Refuses cause status) q h = absurd h
+pub begins-sense : (l : List Noted) (t : ℕ) (s : Sense) (note : Note) (q : CoapRequest) → opens_by note ≡ Some q → AskNote l t s note → s ≡ Requests q
+begins-sense l t (Requests r) (Begins v) q e h = ap Requests (sym h.0 ∙ some-is v q e)
+begins-sense l t (Requests r) (Renews v s) q e h = ap Requests (sym h.0 ∙ some-is v q e)
+begins-sense l t (Requests r) note q e h = absurd (none-some q e)
+begins-sense l t (Refuses cause status) (Begins v) q e h = absurd h
+begins-sense l t (Refuses cause status) (Renews v s) q e h = absurd h
+begins-sense l t (Refuses cause status) note q e h = absurd (none-some q e)
 
 pub asked-here : (l : List Noted) (S : State) (r : Reads l S) (e : Exchange) → (a : ExchangeIn r.start l e) → asked_in S.entries e.opening ≡ Some a.request
 asked-here l S r e a = ap (option_and_then (λ (w : Written). request_by w.deed)) stands ∙ ap request_in sense
@@ -30,7 +34,7 @@ asked-here l S r e a = ap (option_and_then (λ (w : Written). request_by w.deed)
     stands = subst (λ (h : List Written). slice_get h e.opening ≡ Some (record { moment = e.since; deed = Asks a.conn a.ask })) r.entries_are (at-entries l e.opening _ a.stands)
 
     sense : a.ask.sense ≡ Requests a.request
-    sense = begins-sense (before l e.opening) e.since a.ask.sense a.request (follows-at l e.opening _ r.legal a.stands).3
+    sense = begins-sense (before l e.opening) e.since a.ask.sense a.note a.request a.opens (follows-at l e.opening _ r.legal a.stands).3
 
 -- what holds whether one is outrun or not
 

@@ -18,23 +18,23 @@ use Rattle.message_layer.specs.declared.verdict.News.{News}
 use Rattle.message_layer.specs.declared.verdict.Verdict.{Verdict}
 use Rattle.message_layer.specs.declared.verdict.News.TheVariants as N
 use Rattle.history_laws.specs.Readings.{Noted}
-use Rattle.history_laws.specs.Responses.{Response}
-use Rattle.history_laws.specs.Progress.{Reply, Ending, Whole, Reset, Turned, Progress, Fetches, Gives, Ends as EndsSoFar, progress, ended_by}
-use Rattle.history_laws.specs.Exchanges.{Begun, begun, Turn, Replied, Rejected, answered_by, turn, waits_for, replies, replied_end, end_here, end_of, open_exchanges}
+use Rattle.history_laws.specs.Responses.{Response, confirms}
+use Rattle.history_laws.specs.Progress.{Reply, Ending, Whole, Reset, Turned, Progress, Fetches, Gives, Ends as EndsSoFar, progress, ended_by, Renewed}
+use Rattle.history_laws.specs.Exchanges.{Begun, begun, Turn, Replied, Rejected, answered_by, turn, waits_for, replies, replied_end, end_here, end_of, open_exchanges, kept as kept_of, unless_renewed, end_by}
 use Rattle.history_laws.specs.Hearing.{repeated, can_be_remembered, answers, notice_of}
 use Rattle.history_laws.specs.Observing.{as_first, notice_in}
 use Rattle.history_laws.specs.Justified.{Ends}
 use Rattle.observe_share.specs.declared.registration.Registration.{Registration}
 use Rattle.observe_share.specs.Watches as W
-use Rattle.history_laws.proofs.CallerLemmas.{all-of, and-left, and-right, contains-map, eqb-itself, find-some, open-exactly}
+use Rattle.history_laws.proofs.CallerLemmas.{all-of, and-left, and-right, contains-map, eqb-itself, find-some, open-exactly, none-some, some-is, entries-length}
 use Rattle.history_links.specs.Agrees.{Start}
 use Rattle.history_links.specs.Steps.{ended_token, heard}
 use Rattle.history_links.proofs.CallerLemmas.{ends_by, hit, is_to, judge}
 use Rattle.exchange_model.specs.declared.kept.Exchange.{Exchange}
 use Rattle.exchange_model.specs.State.{State, link_of}
-use Rattle.exchange_model.specs.Reads.{ExchangeIn, opening_of, Reads}
+use Rattle.exchange_model.specs.Reads.{ExchangeIn, opening_of, Reads, kept_in, kept_yet}
 use Rattle.exchange_model.specs.Watching.{counts_to}
-use Rattle.exchange_model.specs.Steps.{is_under, answered_in, Matter, Nothing, Tells, Goes, Over, found_in, replied, matter_by, matter_of, has_next_place, tells_of, told_alone}
+use Rattle.exchange_model.specs.Steps.{is_under, answered_in, Matter, Nothing, Tells, Goes, Over, found_in, replied, matter_by, matter_of, has_next_place, tells_of, told_alone, reply_at, stale_in, unless_valid}
 use Rattle.exchange_model.specs.Laws.{MayHear}
 use Rattle.exchange_model.proofs.Bare.{bare_ending, bare_progress}
 use Rattle.exchange_model.proofs.Borne.{split}
@@ -42,6 +42,7 @@ use Rattle.exchange_model.proofs.Comes.{comes-to}
 use Rattle.exchange_model.proofs.Hearing.{hit-kept, is_apart}
 use Rattle.exchange_model.proofs.Places.{place-same}
 use Rattle.exchange_model.proofs.Silent.{now-from}
+use Rattle.resp_cache.specs.Stored.{Stored}
 
 -- which news answers an exchange: a Reset of an RST, and of any other message a response
 
@@ -87,7 +88,7 @@ reset-only m (Some o) token of e = elim (split ((eqb m.code 0) && (eqb o.mid m.m
 
 -- how it ends
 
-pub ends-now : (l : List Noted) (o : ℕ) (x : Noted) (u : Turn) (how : Ending) → turn l o x ≡ u → end_of l o ≡ None → end_here (begun l o) (length l) (replies l o) u ≡ Some how → Ends (x ∷ l) o (length l) how
+pub ends-now : (l : List Noted) (o : ℕ) (x : Noted) (u : Turn) (how : Ending) → turn l o x ≡ u → end_of l o ≡ None → end_here (begun l o) (kept_of l o) (length l) (replies l o) u ≡ Some how → Ends (x ∷ l) o (length l) how
 ends-now l o x u how is going here = rw (is, going, here) refl
 
 turn-now : (l : List Noted) (t : ℕ) (p : Peer) (d : List ℕ) (m : Content) (o i : ℕ) → waits_for l o ≡ Some i → answers l p m ≡ Some i
@@ -211,51 +212,91 @@ IsMatter start l t p d m S (Tells r found) = answered_in (ended_token (verdict_o
 IsMatter start l t p d m S (Goes e how) = IsOnward start l t p d m S e how
 IsMatter start l t p d m S (Over e how) = IsOver start l t p d m S e how
 
+-- What the exchange asks about ends it by its first reply alone, where that says that this is valid.
+unless-none : (old : Option Stored) (rs : List Reply) (r : Reply) (other : Option Ending) → kept_yet old rs ≡ None → unless_renewed old rs r other ≡ other
+unless-none None rs r other e = refl
+unless-none (Some s) [] r other e = absurd (none-some s (sym e))
+unless-none (Some s) (y ∷ rs) r other e = refl
+
+unless-as : (old : Option Stored) (rs : List Reply) (r : Reply) (other : Option Ending) (s : Stored) → kept_yet old rs ≡ Some s
+    → unless_renewed old rs r other ≡ cond (confirms s.response.etag r.message) (Some (Renewed s r)) other
+unless-as None [] r other s e = absurd (none-some s e)
+unless-as None (y ∷ rs) r other s e = absurd (none-some s e)
+unless-as (Some u) [] r other s e = ap (λ (v : Stored). cond (confirms v.response.etag r.message) (Some (Renewed v r)) other) (some-is u s e)
+unless-as (Some u) (y ∷ rs) r other s e = absurd (none-some s e)
+
 by-end : (l : List Noted) (t : ℕ) (p : Peer) (d : List ℕ) (m : Content) (S : State) (h : MayHear l t p d S) (e : Exchange)
     (it : AnswersIt h.before.reads.start l t p m S e) → (place : Bool)
     → turn l e.opening (heard l t p d m) ≡ Replied it.sending m place
+    → ((other : Option Ending) → unless_renewed (kept_of l e.opening) (replies l e.opening) (reply_of l it.sending m) other ≡ other)
     → (u : Progress) → progress it.kept.request (replies l e.opening ++ reply_of l it.sending m ∷ []) ≡ u
     → IsMatter h.before.reads.start l t p d m S (replied place e (bare_progress u))
-by-end l t p d m S h e it place turned (EndsSoFar how) is = record {
-  it = it;
-  real = how;
-  ends = ends-now l e.opening (heard l t p d m) _ how turned it.going
-      (ap (λ (b : Option Begun). replied_end b place (replies l e.opening ++ reply_of l it.sending m ∷ [])) it.kept.opening ∙ ap (ended_by place) is);
-  same = refl;
-  whole = λ w rs f. is ∙ ap EndsSoFar f;
-}
-by-end l t p d m S h e it true turned (Gives u got) is = record {
-  it = it;
-  turned = turned;
-  going = rw (turned, it.going, it.kept.opening, is) refl;
-  real = Gives u got;
-  comes = is;
-  same = refl;
-}
-by-end l t p d m S h e it true turned (Fetches k q got) is = record {
-  it = it;
-  turned = turned;
-  going = rw (turned, it.going, it.kept.opening, is) refl;
-  real = Fetches k q got;
-  comes = is;
-  same = refl;
-}
-by-end l t p d m S h e it false turned (Gives u got) is = record {
-  it = it;
-  real = Turned;
-  ends = ends-now l e.opening (heard l t p d m) _ Turned turned it.going
-      (ap (λ (b : Option Begun). replied_end b false (replies l e.opening ++ reply_of l it.sending m ∷ [])) it.kept.opening ∙ ap (ended_by false) is);
-  same = refl;
-  whole = λ w rs f. absurd cc;
-}
-by-end l t p d m S h e it false turned (Fetches k q got) is = record {
-  it = it;
-  real = Turned;
-  ends = ends-now l e.opening (heard l t p d m) _ Turned turned it.going
-      (ap (λ (b : Option Begun). replied_end b false (replies l e.opening ++ reply_of l it.sending m ∷ [])) it.kept.opening ∙ ap (ended_by false) is);
-  same = refl;
-  whole = λ w rs f. absurd cc;
-}
+by-end l t p d m S h e it place turned still u is = by place u turned is
+  where
+    rs : List Reply
+    rs = replies l e.opening ++ reply_of l it.sending m ∷ []
+
+    here : (c : Bool) (v : Progress) → progress it.kept.request rs ≡ v
+        → end_here (begun l e.opening) (kept_of l e.opening) (length l) (replies l e.opening) (Replied it.sending m c) ≡ ended_by c v
+    here c v at = still (replied_end (begun l e.opening) c rs) ∙ (ap (λ (b : Option Begun). replied_end b c rs) it.kept.opening ∙ ap (ended_by c) at)
+
+    on : (v : Progress) → turn l e.opening (heard l t p d m) ≡ Replied it.sending m true → progress it.kept.request rs ≡ v → ended_by true v ≡ None
+        → end_of (heard l t p d m ∷ l) e.opening ≡ None
+    on v so at going =
+        ap (λ (w : Turn). end_by (end_here (begun l e.opening) (kept_of l e.opening) (length l) (replies l e.opening) w) (length l) (end_of l e.opening)) so
+        ∙ (ap (λ (w : Option Ending). end_by w (length l) (end_of l e.opening)) (here true v at ∙ going) ∙ it.going)
+
+    over : (c : Bool) (v : Progress) (how : Ending) → turn l e.opening (heard l t p d m) ≡ Replied it.sending m c → progress it.kept.request rs ≡ v → ended_by c v ≡ Some how
+        → Ends (heard l t p d m ∷ l) e.opening (length l) how
+    over c v how so at is_so = ends-now l e.opening (heard l t p d m) _ how so it.going (here c v at ∙ is_so)
+
+    by : (c : Bool) (v : Progress) → turn l e.opening (heard l t p d m) ≡ Replied it.sending m c → progress it.kept.request rs ≡ v
+        → IsMatter h.before.reads.start l t p d m S (replied c e (bare_progress v))
+    by c (EndsSoFar how) so at = record { it = it; real = how; ends = over c (EndsSoFar how) how so at refl; same = refl; whole = λ w ts f. at ∙ ap EndsSoFar f }
+    by true (Gives v got) so at = record { it = it; turned = so; going = on (Gives v got) so at refl; real = Gives v got; comes = at; same = refl }
+    by true (Fetches k q got) so at = record { it = it; turned = so; going = on (Fetches k q got) so at refl; real = Fetches k q got; comes = at; same = refl }
+    by false (Gives v got) so at = record { it = it; real = Turned; ends = over false (Gives v got) Turned so at refl; same = refl; whole = λ w ts f. absurd cc }
+    by false (Fetches k q got) so at = record { it = it; real = Turned; ends = over false (Fetches k q got) Turned so at refl; same = refl; whole = λ w ts f. absurd cc }
+
+-- What it asks about in the state is what it does in the history.
+asks-about : (l : List Noted) (S : State) (e : Exchange) → Reads l S → Contains S.exchanges e → kept_yet (kept_of l e.opening) (replies l e.opening) ≡ stale_in e.opening S.stales
+asks-about l S e r has = all-of (λ (f : Exchange). kept_in l f.opening ≡ stale_in f.opening S.stales) S.exchanges e r.stales_are.kept has
+
+by-valid : (l : List Noted) (t : ℕ) (p : Peer) (d : List ℕ) (m : Content) (S : State) (h : MayHear l t p d S) (e : Exchange)
+    (it : AnswersIt h.before.reads.start l t p m S e) → (place : Bool)
+    → turn l e.opening (heard l t p d m) ≡ Replied it.sending m place
+    → (v : Option Stored) → stale_in e.opening S.stales ≡ v
+    → IsMatter h.before.reads.start l t p d m S (unless_valid v m S e (replied place e (bare_progress (progress it.kept.request (replies l e.opening ++ reply_of l it.sending m ∷ [])))))
+by-valid l t p d m S h e it place turned None none =
+    by-end l t p d m S h e it place turned
+    (λ other. unless-none (kept_of l e.opening) (replies l e.opening) (reply_of l it.sending m) other (asks-about l S e h.before.reads it.has ∙ none))
+    _ refl
+by-valid l t p d m S h e it place turned (Some s) asks = by (confirms s.response.etag m) refl
+  where
+    about : kept_yet (kept_of l e.opening) (replies l e.opening) ≡ Some s
+    about = asks-about l S e h.before.reads it.has ∙ asks
+
+    reply : Reply
+    reply = reply_of l it.sending m
+
+    here : length S.entries ≡ length l
+    here = ap length (sym h.before.reads.entries_are) ∙ entries-length l
+
+    by : (b : Bool) → confirms s.response.etag m ≡ b
+        → IsMatter h.before.reads.start l t p d m S (cond b (Over e (Renewed s (reply_at (length S.entries) m)))
+        (replied place e (bare_progress (progress it.kept.request (replies l e.opening ++ reply ∷ [])))))
+    by true is = record {
+      it = it;
+      real = Renewed s reply;
+      ends = ends-now l e.opening (heard l t p d m) _ (Renewed s reply) turned it.going
+          (unless-as (kept_of l e.opening) (replies l e.opening) reply _ s about
+          ∙ ap (λ (c : Bool). cond c (Some (Renewed s reply)) (replied_end (begun l e.opening) place (replies l e.opening ++ reply ∷ []))) is);
+      same = ap (λ (k : ℕ). Renewed s (reply_at k m)) here;
+      whole = λ w ts f. absurd cc;
+    }
+    by false is = by-end l t p d m S h e it place turned
+        (λ other. unless-as (kept_of l e.opening) (replies l e.opening) reply other s about ∙ ap (λ (c : Bool). cond c (Some (Renewed s reply)) other) is)
+        _ refl
 
 pub is-matter : (l : List Noted) (t : ℕ) (p : Peer) (d : List ℕ) (m : Content) (S : State) → (h : MayHear l t p d S) → repeated l t p m ≡ None → can_be_remembered l t p m ≡ true
     → IsMatter h.before.reads.start l t p d m S (matter_of t p m (verdict_of t (link_of S.links p) m) S)
@@ -276,9 +317,8 @@ is-matter l t p d m S h none room = by (answered_in (ended_token v.news m.token)
         let same_place = place-same l t p m S e.opening it.sending h.before none room it.waits it.answered in
         let comes = comes-to l S e it.sending m h.before.reads it.has it.going it.kept in
         subst (λ (n : News). IsMatter h.before.reads.start l t p d m S (matter_by t n place m S (Some e))) (sym news)
-        (subst (λ (u : Progress). IsMatter h.before.reads.start l t p d m S (replied place e u)) (sym comes)
-        (by-end l t p d m S h e it place (turned ∙ ap (Replied it.sending m) same_place)
-        (progress it.kept.request (replies l e.opening ++ reply_of l it.sending m ∷ [])) refl))
+        (subst (λ (u : Progress). IsMatter h.before.reads.start l t p d m S (unless_valid (stale_in e.opening S.stales) m S e (replied place e u))) (sym comes)
+        (by-valid l t p d m S h e it place (turned ∙ ap (Replied it.sending m) same_place) (stale_in e.opening S.stales) refl))
 
     none-told : answered_in (ended_token v.news m.token) S.exchanges ≡ None → (n : News) → IsMatter h.before.reads.start l t p d m S (told_alone t n m S)
     none-told is N.Response = each (find (W.is_under m.token) S.watches)

@@ -15,7 +15,7 @@ use Rattle.journal_book.specs.Entries.{Deed, Passes, Sends}
 use Rattle.history_laws.proofs.CallerLemmas.{all-more, all-push}
 use Rattle.observe_share.specs.Watches.{without}
 use Rattle.history_links.specs.Steps.{is_over}
-use Rattle.exchange_model.specs.Steps.{is_unwatched, retired, given_out, sends_copy, passed, passes, is_gone, goes_on, is_of_none, left_by, timed_out}
+use Rattle.exchange_model.specs.Steps.{is_unwatched, retired, given_out, sends_copy, passed, passes, is_gone, goes_on, is_of_none, left_by, timed_out, is_stale_of_none}
 use Rattle.exchange_model.specs.declared.kept.Exchange.{Exchange}
 use Rattle.exchange_model.specs.State.{PeerLink, State, link_of, with_link}
 use Rattle.exchange_model.specs.Calls.{moves_by, moves, peer_of, move_all}
@@ -333,6 +333,7 @@ pub moved-put : (t : ℕ) (S : State) → MayStep t S → IsDrained S
     (left_by S.entries (timed_out t S) (filter (goes_on t S) S.exchanges))) (map (link_after t gone) S.links)
     (record S {
       pieces = filter (is_of_none (timed_out t S)) S.pieces;
+      stales = filter (is_stale_of_none (timed_out t S)) S.stales;
       watches = without (is_unwatched t S) S.watches;
       store = retired S.entries (timed_out t S) S.store;
     })
@@ -357,6 +358,7 @@ moved-put t S may drained =
     K : State
     K = record S {
       pieces = filter (is_of_none (timed_out t S)) S.pieces;
+      stales = filter (is_stale_of_none (timed_out t S)) S.stales;
       watches = without (is_unwatched t S) S.watches;
       store = retired S.entries (timed_out t S) S.store;
     }

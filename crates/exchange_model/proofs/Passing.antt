@@ -1,7 +1,7 @@
 -- A tick ends what took too long.
 use Rattle.std.proofs.lemmas.Bool.{false≢true}
 use Rattle.std.proofs.Common.{◌⊎◌, inl, inr, length, ◌≡◌, ℕ, ◌+◌, Bool, true, false, cond, List, [], ◌∷◌, ◌++◌, map, Option, Some, None, is_some, refl, sym, ap, subst, ◌∙◌, eqb}
-use Rattle.std.specs.Prelude.{filter, not, ◌&&◌, ◌||◌}
+use Rattle.std.specs.Prelude.{filter, not, ◌&&◌, ◌||◌, ⊤}
 use Rattle.std.specs.List.{AllByRecursion, Contains, list_any}
 use Rattle.std.proofs.lemmas.Bool.{and_parts, not-true, not-false}
 use Rattle.std.proofs.lemmas.Slice.Eq.{bytes_eq-Decides}
@@ -16,8 +16,8 @@ use Rattle.observe_share.specs.declared.registration.Registration.{Registration}
 use Rattle.observe_share.specs.Watches.{without}
 use Rattle.journal_book.specs.Entries.{Passes, Written}
 use Rattle.history_laws.specs.Responses.{Response}
-use Rattle.history_laws.specs.Progress.{Reply, Reset, TimedOut, Whole}
-use Rattle.history_laws.specs.Exchanges.{Turn, Nothing, Sent, Replied, Rejected, Expired, turn, replies, end_here, end_by, end_of, Begun, begun, is_late, expires as ends_at, waits_for, goes_to, is_going, is_waiting, waiting, rank, openings, open_exchanges}
+use Rattle.history_laws.specs.Progress.{Reply, Reset, TimedOut, Whole, Ending, Renewed}
+use Rattle.history_laws.specs.Exchanges.{Turn, Nothing, Sent, Replied, Rejected, Expired, turn, replies, end_here, end_by, end_of, Begun, begun, is_late, expires as ends_at, waits_for, goes_to, is_going, is_waiting, waiting, rank, openings, open_exchanges, kept as kept_of, End}
 use Rattle.history_laws.specs.Justified.{Ends, Legal}
 use Rattle.history_laws.specs.Observing.{idles, is_current, Watch, watches}
 use Rattle.history_laws.specs.Readings.{Noted, Plain, noted}
@@ -30,9 +30,9 @@ use Rattle.history_links.specs.Steps.{passed_link, EndWaiting, EndTokens}
 use Rattle.history_links.proofs.CallerLemmas.{going-passed, pass-agrees, passed-quiet, token-found, waits-passed}
 use Rattle.exchange_model.specs.declared.kept.Exchange.{Exchange}
 use Rattle.exchange_model.specs.State.{PeerLink, State, link_of}
-use Rattle.exchange_model.specs.Reads.{held_of, IsSentUnder, ExchangeIn, WaitsUnder, opening_of, Reads, awaited_by, got_in, PiecesIn}
+use Rattle.exchange_model.specs.Reads.{held_of, IsSentUnder, ExchangeIn, WaitsUnder, opening_of, Reads, awaited_by, got_in, PiecesIn, StalesIn, kept_in}
 use Rattle.exchange_model.specs.Watching.{is_one_of, tokens_of}
-use Rattle.exchange_model.specs.Steps.{expires, is_gone, is_under, is_unwatched, is_written_late, outrun_by, passed, timed_out, is_of_none, numbers_of, left_by}
+use Rattle.exchange_model.specs.Steps.{expires, is_gone, is_under, is_unwatched, is_written_late, outrun_by, passed, timed_out, is_of_none, numbers_of, left_by, is_stale_of_none, stale_in}
 use Rattle.exchange_model.specs.Laws.{PassesLeads}
 use Rattle.exchange_model.specs.declared.kept.Piece.{Piece}
 use Rattle.history_laws.specs.Progress.{numbers}
@@ -40,7 +40,7 @@ use Rattle.exchange_model.proofs.Pieces.{pieces-quiet}
 use Rattle.exchange_model.proofs.Settling.{no-whole}
 use Rattle.exchange_model.proofs.Retiring.{store-retired}
 use Rattle.exchange_model.proofs.Apart.{comes_to, notified-tells, watches-apart}
-use Rattle.exchange_model.proofs.Watches.{coming-stands, map-filtered, newest-quiet, others-come}
+use Rattle.exchange_model.proofs.Watches.{coming-stands, map-filtered, newest-quiet, others-come, outdated-quiet}
 use Rattle.exchange_model.proofs.Unwritten.{current-after, watches-current}
 use Rattle.exchange_model.proofs.Expiring.{exchange-apart, expires-alike, awaited-open, kept-at, gone-of}
 use Rattle.exchange_model.proofs.Lists.{all-both, filter-map, filter-both}
@@ -48,6 +48,8 @@ use Rattle.exchange_model.proofs.Silent.{later-than, link-before, moment-now}
 use Rattle.exchange_model.proofs.Opened.{OpenIn, open-ones}
 use Rattle.exchange_model.proofs.Outrun.{EndsThose, left-all, left-each, left-openings, current-now}
 use Rattle.exchange_model.proofs.Tables.{exchange-stays}
+use Rattle.exchange_model.proofs.Stales.{stale-spared, stales-quiet}
+use Rattle.history_laws.specs.Storing.{first_in}
 
 abbrev ticked_at : ℕ → Noted
 ticked_at t = noted t Passes Plain
@@ -94,6 +96,7 @@ exchange-kept l t S r e b a goes current =
     exchange-stays (ticked_at t) l e b e.newest (λ h. h)
     (waits-passed l t e.opening ∙ ap (λ (b : Bool). cond b None (waits_for l e.opening)) (sym (expires-alike l t S.links e r.legal r.links_are a) ∙ not-true (expires t S.links e) goes)) refl refl a current
     (λ get. newest-quiet (ticked_at t) l (asked_key a.request) (got_in l e.opening) e.newest refl (a.newest get))
+    (λ s k. outdated-quiet (ticked_at t) l (asked_key a.request) (first_in s.list) refl ∙ a.newest_kept s k)
 
 -- what is kept of a link
 
@@ -206,19 +209,24 @@ fewer-wait t S e under =
     subst (λ (s : LinkState). WaitsUnder s.waiting e) (sym (link-passed t S e.peer S.links))
     (λ w h. under w ((filtered-from (λ (v : Waiting). not (is_gone t S v.token)) (link_of S.links e.peer).waiting w h).0))
 
--- A tick ends nothing with a response.
-passed-no-response : (l : List Noted) (t o : ℕ) (w : Response) (rs : List Reply) → end_of l o ≡ None → Ends (ticked_at t ∷ l) o (length l) (Whole w rs) → ⊥
-passed-no-response l t o w rs going e = by (turn l o (ticked_at t)) (expired (ends_at l o t (waits_for l o))) (sym (ap (end_by (end_here (begun l o) (length l) (replies l o) (turn l o (ticked_at t))) (length l)) going) ∙ e)
+-- A tick ends nothing with a response, nor is anything renewed by it.
+abbrev IsOfReplies : Ending → Type 0
+IsOfReplies (Whole w rs) = ⊤
+IsOfReplies (Renewed s r) = ⊤
+IsOfReplies how = ⊥
+
+passed-no-response : (l : List Noted) (t o : ℕ) (how : Ending) → IsOfReplies how → end_of l o ≡ None → Ends (ticked_at t ∷ l) o (length l) how → ⊥
+passed-no-response l t o how of going e = by (turn l o (ticked_at t)) (expired (ends_at l o t (waits_for l o))) (sym (ap (end_by (end_here (begun l o) (kept_of l o) (length l) (replies l o) (turn l o (ticked_at t))) (length l)) going) ∙ e)
   where
     expired : (b : Bool) → (cond b Expired Nothing ≡ Expired) ⊎ (cond b Expired Nothing ≡ Nothing)
     expired true = inl refl
     expired false = inr refl
 
-    by : (u : Turn) → (u ≡ Expired) ⊎ (u ≡ Nothing) → end_by (end_here (begun l o) (length l) (replies l o) u) (length l) None ≡ Some (record { number = length l; how = Whole w rs }) → ⊥
-    by Expired h e = no-whole (length l) TimedOut w rs (λ f. cc) e
+    by : (u : Turn) → (u ≡ Expired) ⊎ (u ≡ Nothing) → end_by (end_here (begun l o) (kept_of l o) (length l) (replies l o) u) (length l) None ≡ Some (record { number = length l; how = how }) → ⊥
+    by Expired h e = subst IsOfReplies (sym (ap (λ (f : End). f.how) (some-is _ _ e))) of
     by Nothing h e = absurd cc
     by (Sent i) h e = absurd cc
-    by Rejected h e = no-whole (length l) Reset w rs (λ f. cc) e
+    by Rejected h e = subst IsOfReplies (sym (ap (λ (f : End). f.how) (some-is _ _ e))) of
     by (Replied i m place) (inl h) e = absurd cc
     by (Replied i m place) (inr h) e = absurd cc
 
@@ -277,6 +285,27 @@ pieces-passed l t S r = record {
     old = pieces-quiet (ticked_at t) l S.exchanges S.pieces (ExchangeIn r.start l) (λ e h. (_, h.opening))
         (λ e h. replies-stay (length l) _ _ (passed-quiet l t e.opening)) r.exchanges_are r.pieces_are
 
+-- So is what they ask about.
+stales-passed : (l : List Noted) (t : ℕ) (S : State) → Reads l S
+    → StalesIn (ticked_at t ∷ l) (left_by S.entries (timed_out t S) (filter (stays t S) S.exchanges)) (filter (is_stale_of_none (timed_out t S)) S.stales)
+stales-passed l t S r = record {
+  kept = left-all (λ (e : Exchange). kept_in n e.opening ≡ stale_in e.opening (filter (is_stale_of_none (timed_out t S)) S.stales)) (λ e k. k) S.entries (timed_out t S) going
+      (all-more _ _ (λ e h. h.0 ∙ sym (stale-spared e.opening (timed_out t S) S.stales (not-over l t S r e h.1.0 h.1.1 S.exchanges r.exchanges_are))) going
+      (all-both _ _ going (all-filter _ (stays t S) S.exchanges old.kept)
+      (all-both (ExchangeIn r.start l) (λ (e : Exchange). stays t S e ≡ true) going (all-filter (ExchangeIn r.start l) (stays t S) S.exchanges r.exchanges_are) (all-passes (stays t S) S.exchanges))));
+  below = all-filter _ (is_stale_of_none (timed_out t S)) S.stales old.below;
+}
+  where
+    n : List Noted
+    n = ticked_at t ∷ l
+
+    going : List Exchange
+    going = filter (stays t S) S.exchanges
+
+    old : StalesIn n S.exchanges S.stales
+    old = stales-quiet (ticked_at t) l S.exchanges S.stales (ExchangeIn r.start l) (λ e h. (_, h.opening))
+        (λ e h. replies-stay (length l) _ _ (passed-quiet l t e.opening)) r.exchanges_are r.stales_are
+
 pub passes-leads : PassesLeads
 passes-leads l t S b may =
     let r = b.reads in
@@ -303,8 +332,10 @@ passes-leads l t S b may =
             (current-now (ticked_at t) l S r (timed_out t S) (passes-ends l t S r) (r.legal, later, (may, tt)) e a.0)) kept
             (all-both (ExchangeIn r.start l) (λ (e : Exchange). stays t S e ≡ true) kept (all-filter (ExchangeIn r.start l) (stays t S) S.exchanges r.exchanges_are) (all-passes (stays t S) S.exchanges));
         pieces_are = pieces-passed l t S r;
+        stales_are = stales-passed l t S r;
         watches_are = watches-passed l t S r (r.legal, later, (may, tt));
-        store_is = store-retired (ticked_at t) l S r (r.legal, later, (may, tt)) (timed_out t S) (passes-ends l t S r) refl tt (λ o w rs going e. passed-no-response l t o w rs going e);
+        store_is = store-retired (ticked_at t) l S r (r.legal, later, (may, tt)) (timed_out t S) (passes-ends l t S r) refl tt (λ o w rs going e. passed-no-response l t o (Whole w rs) tt going e)
+            (λ o s r going e. passed-no-response l t o (Renewed s r) tt going e);
         tokens_are = r.tokens_are;
         waiting_are = left-all (λ (e : Exchange). WaitsUnder (link_of (map (passed t S) S.links) e.peer).waiting e) (λ e k. k) S.entries (timed_out t S) kept
             (all-more _ _ (fewer-wait t S) kept (all-filter (λ (e : Exchange). WaitsUnder (link_of S.links e.peer).waiting e) (stays t S) S.exchanges r.waiting_are));

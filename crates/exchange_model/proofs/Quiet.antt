@@ -19,7 +19,7 @@ use Rattle.ask_model.specs.Views.{Ask}
 use Rattle.ask_model.specs.Sharing.{asked_key, is_get}
 use Rattle.journal_book.specs.Entries.{Asks, Sends, Hears}
 use Rattle.history_laws.specs.Storing.{MissesAlone, IsStored}
-use Rattle.history_laws.specs.Readings.{noted, Noted, Note, Begins, First, Says, Bygone, Recalls, Serves, Plain, Joins, Copies, Confirms, Repeats, Garbled}
+use Rattle.history_laws.specs.Readings.{noted, Noted, Note, Begins, First, Says, Bygone, Recalls, Serves, Plain, Joins, Copies, Confirms, Repeats, Garbled, Renews}
 use Rattle.history_laws.specs.Observing.{Watch, asked_by, asked_last_by, watches}
 use Rattle.history_laws.specs.Transmissions.{FirstSending}
 use Rattle.history_laws.specs.Justified.{AskNote, Follows}
@@ -35,7 +35,9 @@ use Rattle.exchange_model.specs.Watching.{touched}
 use Rattle.exchange_model.specs.Reads.{held_of, PairIn, Reads}
 use Rattle.exchange_model.specs.Steps.{joins, given_out, read_last, recalls, sends_copy}
 use Rattle.exchange_model.proofs.Watches.{touched-tells}
-use Rattle.exchange_model.proofs.Storing.{stored-alike, stored-by-now, stored-get, stored-one}
+use Rattle.exchange_model.proofs.Storing.{stored-by-now, stored-get}
+use Rattle.exchange_model.proofs.StoredAlike.{stored-alike}
+use Rattle.exchange_model.proofs.StoredOne.{stored-one}
 use Rattle.exchange_model.proofs.Stores.{store-served, store-still}
 use Rattle.exchange_model.proofs.Tables.{still-reads, all-links, given-agrees, unread}
 use Rattle.exchange_model.proofs.Silent.{later-than, link-before, silent-reads}
@@ -43,6 +45,7 @@ use Rattle.exchange_model.proofs.Silent.{later-than, link-before, silent-reads}
 -- Any ask but one that opens an exchange is noted for what it reads.
 abbrev IsNoted : Note → Type 0
 IsNoted (Begins q) = ⊥
+IsNoted (Renews q s) = ⊥
 IsNoted note = ⊤
 
 asked-by : (t : ℕ) (s : Sense) (note : Note) (ws : List Watch) → IsNoted note → map held_of (asked_by t s note ws) ≡ touched t s (map held_of ws)
@@ -59,6 +62,7 @@ asked-by t (Requests q) Garbled ws is = touched-tells q t ws
 asked-by t (Requests q) (Bygone m) ws is = touched-tells q t ws
 asked-by t (Requests q) (Recalls m answer) ws is = touched-tells q t ws
 asked-by t (Requests q) (Begins r) ws is = absurd is
+asked-by t (Requests q) (Renews r s) ws is = absurd is
 
 asked-tells : (l : List Noted) (t c : ℕ) (a : Ask) (note : Note) (S : State) → Reads l S → IsNoted note
     → map held_of (watches (noted t (Asks c a) note ∷ l)) ≡ touched t a.sense S.watches

@@ -5,7 +5,7 @@ use Rattle.std.proofs.lemmas.Bool.Decides.{eqb_tells}
 use Rattle.std.proofs.lemmas.Bool.{false≢true, or_right, not-true}
 use Rattle.ask_model.specs.Views.{Ask}
 use Rattle.journal_book.specs.Entries.{Grounds, Deed, Opens, Asks, Answers, Shuts}
-use Rattle.history_laws.specs.Readings.{Noted, Note, Begins, Joins, at, noted}
+use Rattle.history_laws.specs.Readings.{Noted, Note, Begins, Joins, at, noted, Renews}
 use Rattle.history_laws.specs.Connections.{is_open, asks_of, answers_of}
 use Rattle.history_laws.specs.Justified.{reads_by, pending, Follows, Legal}
 use Rattle.history_laws.proofs.CallerLemmas.{all-filter, all-more, all-passes, all-push, at-below, at-keeps, at-new, eqb-itself}
@@ -99,6 +99,7 @@ readers-step l t (Opens c) note may h =
     (λ r w. reader-keeps (noted t (Opens c) note) l r (λ e. rw (e) (or_right (eqb c r.conn) true refl)) refl refl w)
     (readers_of l) h
 readers-step l t (Asks c a) (Begins q) may h = with-reader l t c (length l) a (Begins q) may refl h
+readers-step l t (Asks c a) (Renews q s) may h = with-reader l t c (length l) a (Renews q s) may refl h
 readers-step l t (Asks c a) (Joins o) may h = with-reader l t c o a (Joins o) may refl h
 readers-step l t (Asks c a) note may h =
     all-more (ReaderIn l) _ (asked-reader l t c a note may) (readers_of l) h
@@ -140,6 +141,7 @@ older-asks l legal = all-more (ReaderIn l) (λ (r : Reader). r.ask < length l) (
 
 rise-step : (l : List Noted) (t : ℕ) (d : Deed) (note : Note) → Legal l → RiseByAsk (readers_of l) → RiseByAsk (readers_of (noted t d note ∷ l))
 rise-step l t (Asks c a) (Begins q) legal h = rise-push (readers_of l) (reader_at (length l) c (length l)) h (older-asks l legal)
+rise-step l t (Asks c a) (Renews q s) legal h = rise-push (readers_of l) (reader_at (length l) c (length l)) h (older-asks l legal)
 rise-step l t (Asks c a) (Joins o) legal h = rise-push (readers_of l) (reader_at (length l) c o) h (older-asks l legal)
 rise-step l t (Asks c a) note legal h = h
 rise-step l t (Answers c k g) note legal h = rise-filter (λ (r : Reader). not (eqb r.ask k)) (readers_of l) h

@@ -10,11 +10,11 @@ use Rattle.ask_model.specs.Requests.{CoapRequest}
 use Rattle.ask_model.specs.Sharing.{asked_key, asked_place, is_get}
 use Rattle.history_laws.specs.Responses.{Response}
 use Rattle.history_laws.specs.Readings.{Noted}
-use Rattle.history_laws.specs.Progress.{Reply, Whole}
+use Rattle.history_laws.specs.Progress.{Reply, Whole, Renewed}
 use Rattle.history_laws.specs.Exchanges.{end_of}
 use Rattle.history_laws.specs.Justified.{Ends, Legal}
 use Rattle.history_laws.specs.Observing.{counting}
-use Rattle.history_laws.specs.Storing.{ComesSo}
+use Rattle.history_laws.specs.Storing.{ComesSo, IsRenewal, IsRenewing}
 use Rattle.history_laws.proofs.CallerLemmas.{contains-later, all-more, contains-none, first-or-later, none-some, some-is}
 use Rattle.exchange_model.specs.Reads.{AreLastFirst, HasPair, StoreIn, PairIn, Reads}
 use Rattle.exchange_model.specs.declared.kept.Exchange.{Exchange}
@@ -27,7 +27,8 @@ use Rattle.exchange_model.proofs.Storing.{stored-earlier, stored-unwritten, stor
 use Rattle.exchange_model.proofs.Stores.{every}
 use Rattle.exchange_model.proofs.Uses.{crowded-stays, has-filtered, NotServing, order-filter, order-stays, order-weaker, own-quiet, unserved, Unused}
 use Rattle.exchange_model.proofs.Outrun.{EndsThose}
-use Rattle.exchange_model.proofs.Settling.{all-kept, Apart, unwritten, is-away, was-going}
+use Rattle.exchange_model.proofs.Settling.{all-kept, Apart, unwritten, is-away, was-going, now-going}
+use Rattle.resp_cache.specs.Stored.{Stored}
 
 module _ (x : Noted) (l : List Noted) (S : State) (r : Reads l S) (legal : Legal (x ∷ l)) where
   -- what comes of those that store nothing
@@ -109,23 +110,25 @@ module _ (x : Noted) (l : List Noted) (S : State) (r : Reads l S) (legal : Legal
   retired-has (e ∷ es) key ps away h = retired-has es key (settled S.entries (Some e) None ps) (λ f has. away f (contains-later e es f has))
       (settled-has e key ps (away e (zero, omega arith, refl)) h)
 
-  -- Exchanges that end with no whole response leave what is stored elsewhere.
-  pub store-retired : (over : List Exchange) → EndsThose x l S over → counting l x.note ≡ None → NotServing x.written.deed x.note
+  -- so where nothing that is renewed may be stored
+  pub store-left : (over : List Exchange) → EndsThose x l S over → counting l x.note ≡ None → NotServing x.written.deed x.note
       → ((o : ℕ) (w : Response) (rs : List Reply) → end_of l o ≡ None → Ends (x ∷ l) o (length l) (Whole w rs) → ⊥)
+      → ((k : CoapRequest) → IsRenewal (x ∷ l) k (length l) → ⊥) → ((key : CacheKey) → IsRenewing (x ∷ l) (length l) key → ⊥)
       → StoreIn (x ∷ l) (retired S.entries over S.store)
-  store-retired over ends silent quiet none = record {
+  store-left over ends silent quiet none unrenewed unrenewing = record {
     pairs = all-more (λ (p : Pair). PairIn l p × ((e : Exchange) → Contains over e → Apart x l S r legal e p)) (PairIn (x ∷ l))
         (λ p h. pair-stays x l legal p h.0 (record {
           own = own;
           unwritten = unwritten x l S r legal over ends p h.0 h.1;
           untold = λ n. outdated-quiet x l (asked_key h.0.request) n silent;
           unanswered = λ o w r rs comes joins fresh. none-come o w (r ∷ rs) comes;
+          unrenewed = unrenewed h.0.request;
         }))
         (retired S.entries over S.store) (retired-all (PairIn l) over S.store r.store_is.pairs);
     order = order-weaker (x ∷ l) (length l) (length (x ∷ l)) (retired S.entries over S.store) (omega arith)
         (order-stays x l (length l) (retired S.entries over S.store) legal own (every (λ (p : Pair). Unused x l p.key) (λ p. unused p.key) (retired S.entries over S.store))
         (retired-order over (length l) S.store r.store_is.order));
-    kept = λ q s is lasts. elim (r.store_is.kept q s (stored-was x l q s legal own (stored-unwritten x l q s legal own is) is (stored-earlier x l q s none-come is)) lasts) [
+    kept = λ q s is lasts. elim (r.store_is.kept q s (stored-was x l q s legal own (stored-unwritten x l q s legal own is) is (stored-earlier x l q s none-come (unrenewed q) is)) lasts) [
       | inl has ↦ inl (retired-has over (asked_key q) S.store (λ e in_over w at write p of_q. is-away x l S r legal over ends q (stored-unwritten x l q s legal own is) e in_over w at write p of_q) has)
       | inr out ↦ inr (crowded-stays x l (asked_key q) legal own (unused (asked_key q)) out)
     ];
@@ -140,4 +143,15 @@ module _ (x : Noted) (l : List Noted) (S : State) (r : Reads l S) (legal : Legal
 
       unused : (key : CacheKey) → Unused x l key
       unused key (inl u) = unserved x l key quiet u
-      unused key (inr u) = none-come u.opening u.response (u.first ∷ u.more) u.comes
+      unused key (inr (inl u)) = none-come u.opening u.response (u.first ∷ u.more) u.comes
+      unused key (inr (inr u)) = unrenewing key u
+
+  -- Exchanges that end with no whole response leave what is stored elsewhere.
+  pub store-retired : (over : List Exchange) → EndsThose x l S over → counting l x.note ≡ None → NotServing x.written.deed x.note
+      → ((o : ℕ) (w : Response) (rs : List Reply) → end_of l o ≡ None → Ends (x ∷ l) o (length l) (Whole w rs) → ⊥)
+      → ((o : ℕ) (s : Stored) (r : Reply) → end_of l o ≡ None → Ends (x ∷ l) o (length l) (Renewed s r) → ⊥)
+      → StoreIn (x ∷ l) (retired S.entries over S.store)
+  store-retired over ends silent quiet none never =
+      store-left over ends silent quiet none
+      (λ k a. never a.opening a.kept a.reply (now-going x l S r legal a.opening (length l) (Renewed a.kept a.reply) a.ended refl) a.ended)
+      (λ key u. never u.opening u.kept u.reply (now-going x l S r legal u.opening (length l) (Renewed u.kept u.reply) u.ended refl) u.ended)

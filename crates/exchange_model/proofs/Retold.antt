@@ -24,8 +24,8 @@ use Rattle.blockwise.specs.Downloads.{no_pieces, Judged, judged, with_piece}
 use Rattle.blockwise.specs.declared.fault.BlockFault.TheVariants as F
 use Rattle.blockwise.specs.declared.pieces.Step.TheVariants.{Next, Last}
 use Rattle.history_laws.specs.Responses.{Response, is_tellable}
-use Rattle.history_laws.specs.Progress.{Reply, numbers, Ending, Whole, NotUnderstood, Reset, TimedOut, Turned, Progress, Fetches, Gives, Ends, fetched_by}
-use Rattle.history_laws.specs.Exchanges.{Begun, begun}
+use Rattle.history_laws.specs.Progress.{Reply, numbers, Ending, Whole, NotUnderstood, Reset, TimedOut, Turned, Progress, Fetches, Gives, Ends, fetched_by, Renewed}
+use Rattle.history_laws.specs.Exchanges.{Begun, begun, end_of}
 use Rattle.history_laws.specs.Hearing.{answers, can_be_remembered, counts_as, notice_of, repeated}
 use Rattle.history_laws.specs.Joining.{asks_the_same, is_joinable, outrun}
 use Rattle.history_laws.specs.Observing.{Watch, as_first, first_reply, notice_by, notice_in, is_some_of, is_current, outdated, version, watch_under, watches}
@@ -39,13 +39,13 @@ use Rattle.exchange_model.specs.Reads.{PairIn, StoreIn}
 use Rattle.exchange_model.specs.Steps.{answered_in, found_in, moment_in, Numbers, put_by, retold, stored_by}
 use Rattle.exchange_model.specs.Laws.{MayHear}
 use Rattle.exchange_model.proofs.Answered.{ended}
-use Rattle.exchange_model.proofs.Bare.{bare, bare_progress, step-bare}
-use Rattle.exchange_model.proofs.Brought.{Brings, store-brought}
+use Rattle.exchange_model.proofs.Bare.{bare, bare_progress, step-bare, first-unrenewed}
+use Rattle.exchange_model.proofs.Brought.{Brings, store-arrived, brought-arrives}
 use Rattle.exchange_model.proofs.Fresh.{outdated-late, outdated-now}
 use Rattle.exchange_model.proofs.Left.{legal-so}
 use Rattle.exchange_model.proofs.Noticing.{IsTold}
 use Rattle.exchange_model.proofs.Outrun.{EndsThose}
-use Rattle.exchange_model.proofs.Settling.{all-kept, is-ended, true-not, was-going, write-of}
+use Rattle.exchange_model.proofs.Settling.{all-kept, is-ended, true-not, was-going, write-of, now-going}
 use Rattle.exchange_model.proofs.Storing.{pair-stays, stored-earlier, stored-fresh, stored-unwritten, stored-was}
 use Rattle.exchange_model.proofs.Stores.{every}
 use Rattle.exchange_model.proofs.Unwritten.{watches-current}
@@ -126,6 +126,11 @@ module _ (l : List Noted) (t : ℕ) (p : Peer) (d : List ℕ) (m : Content) (n :
     writes place e = let g = write-of x l S h.before.reads legal [] ends place e in contains-none g.0 g.1
 
     -- Nothing ends by it.
+    no-renewal : (o : ℕ) (s : Stored) (u : Reply) → end_of (x ∷ l) o ≡ Some (record { number = length l; how = Renewed s u }) → ⊥
+    no-renewal o s u e =
+        let g = is-ended x l S h.before.reads legal [] ends o _ (now-going x l S h.before.reads legal o (length l) (Renewed s u) e refl) e in
+        contains-none g.0 g.1
+
     no-end : (o : ℕ) (w : Response) (rs : List Reply) → EndsSo (x ∷ l) o (length l) w rs → ⊥
     no-end o w rs so =
         let g = is-ended x l S h.before.reads legal [] ends o _ (was-going x l S h.before.reads legal o (length l) w rs so refl) so.ended in
@@ -213,13 +218,14 @@ module _ (l : List Noted) (t : ℕ) (p : Peer) (d : List ℕ) (m : Content) (n :
       unfolding brings
       put =
           subst (λ (c : CacheKey). StoreIn (x ∷ l) (put_by (Some (stored_of w r.opening t (numbers (first ∷ [])))) c S.store)) key-is
-          (store-brought x l S h.before.reads legal tt q r.opening w first [] brings writes (λ key differs i. out-not key i (other-keys key differs)))
+          (store-arrived x l S h.before.reads legal tt q _ (brought-arrives x l legal tt q r.opening w first [] brings) writes (λ key differs i. out-not key i (other-keys key differs)))
 
     -- what was stored for its key is out of date, and nothing takes its place
     module _ (nothing : (o : ℕ) (w : Response) (rs : List Reply) → ComesSo (x ∷ l) o (length l) w rs → ⊥) where
       unused : (key : CacheKey) → Unused x l key
       unused key (inl u) = unserved x l key tt u
-      unused key (inr u) = nothing u.opening u.response (u.first ∷ u.more) u.comes
+      unused key (inr (inl u)) = nothing u.opening u.response (u.first ∷ u.more) u.comes
+      unused key (inr (inr u)) = no-renewal u.opening u.kept u.reply u.ended
 
       pair-of-other : (y : Pair) → PairIn l y × (is_of_another r.key y ≡ true) → PairIn (x ∷ l) y
       pair-of-other y a = pair-stays x l legal y a.0 (record {
@@ -227,6 +233,7 @@ module _ (l : List Noted) (t : ℕ) (p : Peer) (d : List ℕ) (m : Content) (n :
         unwritten = writes (asked_place a.0.request);
         untold = λ i. out-not (asked_key a.0.request) i (by (same_key r.key (asked_key a.0.request)) refl);
         unanswered = λ o w f rs comes joins fresh. nothing o w (f ∷ rs) comes;
+        unrenewed = λ a. no-renewal a.opening a.kept a.reply a.ended;
       })
         where
           by : (b : Bool) → same_key r.key (asked_key a.0.request) ≡ b → b ≡ false
@@ -246,13 +253,13 @@ module _ (l : List Noted) (t : ℕ) (p : Peer) (d : List ℕ) (m : Content) (n :
       }
         where
           was-so : (c : CoapRequest) (s : Stored) → IsStored (x ∷ l) c s → IsStored l c s
-          was-so c s stored = stored-was x l c s legal refl (stored-unwritten x l c s legal refl stored) stored (stored-earlier x l c s nothing stored)
+          was-so c s stored = stored-was x l c s legal refl (stored-unwritten x l c s legal refl stored) stored (stored-earlier x l c s nothing (λ a. no-renewal a.opening a.kept a.reply a.ended) stored)
 
           -- What is stored is newer than all that was told, and so of another key.
           another : (c : CoapRequest) (s : Stored) → IsStored (x ∷ l) c s → (y : Pair) → is_of (asked_key c) y ≡ true → (b : Bool) → same_key y.key r.key ≡ b → not b ≡ true
           another c s stored y of_c false e = refl
           another c s stored y of_c true e =
-              let it = stored-fresh x l c s legal refl stored (stored-earlier x l c s nothing stored) in
+              let it = stored-fresh x l c s legal refl stored (stored-earlier x l c s nothing (λ a. no-renewal a.opening a.kept a.reply a.ended) stored) in
               absurd (false≢true (sym it.fresh ∙ out-now (asked_key c) it.first
               ((keys_decided r.key (asked_key c)).1 (sym ((keys_decided y.key r.key).0 e) ∙ (keys_decided y.key (asked_key c)).0 of_c)) it.below))
 
@@ -293,6 +300,7 @@ module _ (l : List Noted) (t : ℕ) (p : Peer) (d : List ℕ) (m : Content) (n :
     store-told = by (notice_in m) refl (as_first (length l) k.sending m) refl
       where
         ended-so : (v : ℕ) → notice_in m ≡ Update v → (how : Ending) → as_first (length l) k.sending m ≡ Ends how → StoreIn (x ∷ l) (retold r.key found S.store)
+        ended-so v is_z (Renewed s u) is_u = absurd (first-unrenewed (length l) k.sending m s u is_u)
         ended-so v is_z NotUnderstood is_u = by-none (found-is (Update v) is_z (Ends NotUnderstood) is_u) (no-whole (Ends NotUnderstood) is_u (λ w rs f. cc))
         ended-so v is_z Reset is_u = by-none (found-is (Update v) is_z (Ends Reset) is_u) (no-whole (Ends Reset) is_u (λ w rs f. cc))
         ended-so v is_z TimedOut is_u = by-none (found-is (Update v) is_z (Ends TimedOut) is_u) (no-whole (Ends TimedOut) is_u (λ w rs f. cc))

@@ -17,7 +17,7 @@ use Rattle.history_laws.specs.Storing.{ComesSo, IsBrought, IsStored, IsUse, IsCr
 use Rattle.history_laws.specs.Observing.{counting, outdated}
 use Rattle.history_laws.specs.Readings.{Noted}
 use Rattle.history_laws.specs.Responses.{Response}
-use Rattle.history_laws.specs.Progress.{Reply, numbers, Ending, Whole, NotUnderstood, Reset, TimedOut, Turned}
+use Rattle.history_laws.specs.Progress.{Reply, numbers, Ending, Whole, NotUnderstood, Reset, TimedOut, Turned, Renewed}
 use Rattle.history_laws.specs.Exchanges.{Begun, begun, End, end_of}
 use Rattle.history_laws.specs.Joining.{asks_the_same, outrun, is_joinable}
 use Rattle.history_laws.specs.Justified.{Ends, Legal}
@@ -27,15 +27,15 @@ use Rattle.exchange_model.specs.declared.kept.Exchange.{Exchange}
 use Rattle.exchange_model.specs.State.{State}
 use Rattle.exchange_model.specs.Steps.{asked_in, content_by, moment_in, newest_by, newest_content, put_by, settled_by, settled}
 use Rattle.exchange_model.proofs.Bare.{bare, bare_ending, numbers-bare}
-use Rattle.exchange_model.proofs.Brought.{Brings, store-brought}
+use Rattle.exchange_model.proofs.Brought.{Brings, brought-arrives, store-arrived}
 use Rattle.exchange_model.proofs.Carried.{IsOwn}
 use Rattle.exchange_model.proofs.Came.{fresh-before, none-updates}
 use Rattle.exchange_model.proofs.Watches.{outdated-quiet}
-use Rattle.exchange_model.proofs.Storing.{IsEarlier, stored-unwritten, stored-was, stored-when, pair-stays}
+use Rattle.exchange_model.proofs.Storing.{IsEarlier, stored-unwritten, stored-was, stored-when, pair-stays, IsNow}
 use Rattle.exchange_model.proofs.Stores.{every}
 use Rattle.exchange_model.proofs.Uses.{crowded-stays, has-filtered, NotServing, order-filter, order-stays, order-weaker, unserved, Unused}
 use Rattle.exchange_model.proofs.Outrun.{asked-here, EndsThose}
-use Rattle.exchange_model.proofs.Settling.{all-kept, first-stands, no-whole, rests-on-some, whole-is, true-not, kept, is-ended, request-is, write-of, unwritten, is-away, was-going}
+use Rattle.exchange_model.proofs.Settling.{all-kept, first-stands, no-whole, rests-on-some, whole-is, true-not, kept, is-ended, request-is, write-of, unwritten, is-away, was-going, now-going}
 
 newest-bare : (rs : List Reply) (b : Bool) → newest_by (map bare rs) b ≡ newest_by rs b
 newest-bare [] b = refl
@@ -45,7 +45,7 @@ newest-bare (f ∷ g ∷ rs) b = refl
 module _ (x : Noted) (l : List Noted) (S : State) (r : Reads l S) (legal : Legal (x ∷ l)) where
   -- the exchange that ends alone, by which nothing else is told
   module _ (e : Exchange) (has : Contains S.exchanges e) (ends : EndsThose x l S (e ∷ [])) (real : Ending) (came : Ends (x ∷ l) e.opening (length l) real)
-      (silent : counting l x.note ≡ None) (own : IsOwn x) where
+      (silent : counting l x.note ≡ None) (own : IsOwn x) (plain : (u : Stored) (v : Reply) → real ≡ Renewed u v → ⊥) where
     abbrev a : ExchangeIn r.start l e
     a = kept x l S r legal e has
 
@@ -90,6 +90,13 @@ module _ (x : Noted) (l : List Noted) (S : State) (r : Reads l S) (legal : Legal
     ends-only o w rs (inl so) = so
     ends-only o w rs (inr u) = absurd (none-updates x l o w rs silent u)
 
+    -- Nothing is renewed now.
+    no-renewal : (o : ℕ) (u : Stored) (v : Reply) → Ends (x ∷ l) o (length l) (Renewed u v) → ⊥
+    no-renewal o u v ended =
+        let g = is-ended x l S r legal (e ∷ []) ends o _ (now-going x l S r legal o (length l) (Renewed u v) ended refl) ended in
+        let at_o : e.opening ≡ o = ap (λ (f : Exchange). f.opening) (only g.0 g.1) ∙ g.2 in
+        plain u v (ap (λ (z : End). z.how) (some-is _ _ (sym came ∙ (ap (end_of (x ∷ l)) at_o ∙ ended))))
+
     -- a pair that this neither writes to nor replaces
     spared : (p : Pair) (b : PairIn l p) → (EndsWrite x l (asked_place b.request) → ⊥)
         → ((w : Response) (f : Reply) (rs : List Reply) → EndsSo (x ∷ l) e.opening (length l) w (f ∷ rs) → Answers p b → outdated (x ∷ l) (asked_key b.request) f.number ≡ false → ⊥)
@@ -102,6 +109,7 @@ module _ (x : Noted) (l : List Noted) (S : State) (r : Reads l S) (legal : Legal
           let so = ends-only o w (f ∷ rs) comes in
           let it = answers p b o w (f ∷ rs) (was-going x l S r legal o (length l) w (f ∷ rs) so refl) so joins in
           none w f rs (subst (λ (k : ℕ). EndsSo (x ∷ l) k (length l) w (f ∷ rs)) (sym it.1) so) it.0 fresh;
+      unrenewed = λ a. no-renewal a.opening a.kept a.reply a.ended;
     })
 
     -- A GET writes nothing.
@@ -150,7 +158,8 @@ module _ (x : Noted) (l : List Noted) (S : State) (r : Reads l S) (legal : Legal
 
       uses : (key : CacheKey) → IsUse (x ∷ l) (length l) key → Uses
       uses key (inl u) = absurd (unserved x l key quiet u)
-      uses key (inr u) =
+      uses key (inr (inr u)) = absurd (no-renewal u.opening u.kept u.reply u.ended)
+      uses key (inr (inl u)) =
           let at_o = same-entry u.opening u.response (u.first ∷ u.more) u.comes in
           let opened : Some (record { since = u.since; request = u.request }) ≡ Some (record { since = e.since; request = q }) =
           sym u.opened ∙ (ap (begun (x ∷ l)) (sym at_o) ∙ begun-keeps x l e.opening _ a.opening) in
@@ -218,9 +227,11 @@ module _ (x : Noted) (l : List Noted) (S : State) (r : Reads l S) (legal : Legal
       }
         where
           kept_so : (k : CoapRequest) (s : Stored) → (is : IsStored (x ∷ l) k s) → is_never_fresh s ≡ false
-              → ((a : IsBrought (x ∷ l) k s) × (a.ending ≡ length l)) ⊎ IsEarlier x l k s is
+              → IsNow x l k s ⊎ IsEarlier x l k s is
               → HasPair ps (asked_key k) ⊎ IsCrowdedOut (x ∷ l) (asked_key k)
-          kept_so k s is lasts (inl now) = absurd (none (anew k s now.0 now.1 lasts))
+          kept_so k s is lasts (inl (inl now)) = absurd (none (anew k s now.0 now.1 lasts))
+          kept_so k s is lasts (inl (inr now)) =
+              absurd (no-renewal now.0.renewal.opening now.0.renewal.kept now.0.renewal.reply (subst (λ (n : ℕ). Ends (x ∷ l) now.0.renewal.opening n (Renewed now.0.renewal.kept now.0.renewal.reply)) now.1 now.0.renewal.ended))
           kept_so k s is lasts (inr earlier) = elim (before-it k s is lasts earlier) [
             | inl had ↦ inl (has k s is had)
             | inr out ↦ inr (crowded-stays x l (asked_key k) legal own (λ u. none (uses (asked_key k) u)) out)
@@ -281,11 +292,12 @@ module _ (x : Noted) (l : List Noted) (S : State) (r : Reads l S) (legal : Legal
       put get is_g current w first more c code fresh =
           subst (λ (t : ℕ). StoreIn (x ∷ l) (put_by (Some (stored_of w e.opening t (numbers (first ∷ more)))) (asked_key q) S.store))
           (sym (first-stands x l S r legal e.opening w first more c).moment)
-          (store-brought x l S r legal quiet q e.opening w first more (brings is_g current w first more c code fresh) (gets get) (λ key other n. outdated-quiet x l key n silent))
+          (store-arrived x l S r legal quiet q _ (brought-arrives x l legal quiet q e.opening w first more (brings is_g current w first more c code fresh)) (gets get) (λ key other n. outdated-quiet x l key n silent))
 
       comes : eqb q.method 1 ≡ true → is_get q ≡ true → e.current ≡ true → (u : Ending) → Ends (x ∷ l) e.opening (length l) u
           → ((w : Response) (first : Reply) (more : List Reply) → u ≡ Whole w (first ∷ more) → outdated (x ∷ l) (asked_key q) first.number ≡ not (newest_by (first ∷ more) e.newest))
           → StoreIn (x ∷ l) (put_by (newest_content S.entries x.written.moment e (bare_ending u)) (asked_key q) S.store)
+      comes get is_g current (Renewed u v) c fresh = absurd (no-renewal e.opening u v c)
       comes get is_g current NotUnderstood c fresh = other-than NotUnderstood c (λ w rs f. absurd (cc (f))) get
       comes get is_g current Reset c fresh = other-than Reset c (λ w rs f. absurd (cc (f))) get
       comes get is_g current TimedOut c fresh = other-than TimedOut c (λ w rs f. absurd (cc (f))) get

@@ -15,7 +15,7 @@ use Rattle.resp_cache.specs.declared.pair.Pair.{Pair}
 use Rattle.ask_model.specs.Requests.{CoapRequest}
 use Rattle.journal_book.specs.Entries.{Hears, Written}
 use Rattle.ask_model.specs.Sharing.{asked_key, asked_place, writes_to}
-use Rattle.history_laws.specs.Exchanges.{turn, replies, end_here, Begun, begun, End, end_of, is_going, open_exchanges}
+use Rattle.history_laws.specs.Exchanges.{turn, replies, end_here, Begun, begun, End, end_of, is_going, open_exchanges, kept as kept_of}
 use Rattle.history_laws.specs.Storing.{IsCrowdedOut, EndsSo}
 use Rattle.history_laws.specs.Responses.{Response}
 use Rattle.history_laws.specs.Readings.{Noted, Says, at, before, noted}
@@ -219,7 +219,13 @@ module _ (x : Noted) (l : List Noted) (S : State) (r : Reads l S) (legal : Legal
 
   -- What ends now ended in this entry.
   pub was-going : (o e : ℕ) (w : Response) (rs : List Reply) → EndsSo (x ∷ l) o e w rs → e ≡ length l → end_of l o ≡ None
-  was-going o e w rs so here_now = elim (end-old (end_here (begun l o) (length l) (replies l o) (turn l o x)) (length l) (end_of l o) _ so.ended) [
+  was-going o e w rs so here_now = elim (end-old (end_here (begun l o) (kept_of l o) (length l) (replies l o) (turn l o x)) (length l) (end_of l o) _ so.ended) [
+    | inl old ↦ let below = end-below l o e _ old in absurd (omega (arith, below, here_now))
+    | inr new ↦ new.0
+  ]
+
+  pub now-going : (o e : ℕ) (how : Ending) → Ends (x ∷ l) o e how → e ≡ length l → end_of l o ≡ None
+  now-going o e how so here_now = elim (end-old (end_here (begun l o) (kept_of l o) (length l) (replies l o) (turn l o x)) (length l) (end_of l o) _ so) [
     | inl old ↦ let below = end-below l o e _ old in absurd (omega (arith, below, here_now))
     | inr new ↦ new.0
   ]

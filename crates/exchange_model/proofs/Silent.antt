@@ -47,6 +47,7 @@ pub silent-reads : (l : List Noted) (t : ℕ) (d : Deed) (note : Note) (S : Stat
       conns = (entered t d S).conns;
       exchanges = S.exchanges;
       pieces = S.pieces;
+      stales = S.stales;
       readers = (entered t d S).readers;
       watches = watches;
       store = S.store;

@@ -22,6 +22,7 @@ start-keeps = record {
       keys = refl;
       exchanges_are = tt;
       pieces_are = record { fetched = tt; below = tt };
+      stales_are = record { kept = tt; below = tt };
       watches_are = refl;
       store_is = no-store [] refl (λ o. refl);
       tokens_are = tt;

@@ -38,7 +38,7 @@ use Rattle.exchange_model.specs.declared.kept.Exchange.{Exchange}
 use Rattle.exchange_model.specs.declared.kept.Reader.{Reader}
 use Rattle.exchange_model.specs.State.{State, link_of, pend}
 use Rattle.exchange_model.specs.Reads.{Reads, opening_of}
-use Rattle.exchange_model.specs.Steps.{Numbers, asks, begins, joins, exchange_for, read_at, reader_for, unwatched, answers}
+use Rattle.exchange_model.specs.Steps.{Numbers, asks, begins, joins, exchange_for, read_at, reader_for, unwatched, answers, kept_for, opening_note}
 use Rattle.exchange_model.specs.Resting.{IsUndue, LinkRests, HasExchange, HasReader, IsServed, HasConn, Rests}
 use Rattle.exchange_model.specs.Keeping.{HasMids, Kept, MayStep, KeptStands, OpensKeeps, ShutsKeeps, SealsKeeps, IsProper, IsNumbered, AsksKeeps}
 use Rattle.exchange_model.proofs.Quiet.{misses-tell, recalls-leads, asks-leads, joins-leads}
@@ -276,7 +276,7 @@ has-old [] e k h = absurd h
 has-old (y ∷ es) e k (inl h) = inl h
 has-old (y ∷ es) e k (inr h) = inr (has-old es e k h)
 
-opened-for : (t c : ℕ) (a : Ask) (q : CoapRequest) (n : Numbers) (S : State) (m : MayStep t S) → HasConn S.conns c None → a.sense ≡ Requests q → IsNumbered a q n S
+opened-for : (t c : ℕ) (a : Ask) (q : CoapRequest) (n : Numbers) (S : State) (m : MayStep t S) → HasConn S.conns c None → a.sense ≡ Requests q → IsNumbered t a q n S
     → IsAlone t q S → has_place t q.peer S ≡ true → Kept (next t q.peer (begins t c a q n.token n.text n.word S))
 opened-for t c a q n S m h sense numbered none place =
     let l = m.kept.reading in
@@ -284,7 +284,7 @@ opened-for t c a q n S m h sense numbered none place =
     let p = q.peer in
     let b = before-step t S m in
     let made = begins-leads l t c a q n.token n.text n.word S b (may-come t S m) (may-ask l S c r h) sense (misses-tell l t q S b none.0) (joins-tell l S r.reads q ∙ ap (option_map opening_of) none.1) (room-same l t q S b ∙ place) numbered.short numbered.spelled numbered.token_size numbered.number in
-    let x = noted t (Asks c a) (Begins q) in
+    let x = noted t (Asks c a) (opening_note q (kept_for t a q S)) in
     let S1 = begins t c a q n.token n.text n.word S in
     let w = waits n.token n.text n.word in
     let s = queued t w (unwatched q S) in
@@ -318,7 +318,7 @@ opened-for t c a q n S m h sense numbered none place =
     undue : (tick : ℕ) (s : LinkState) (o : Outstanding) → LinkRests tick s → s.outstanding ≡ Some o → tick < due_of o
     undue tick s o h is = subst (λ (v : Option Outstanding). IsUndue tick v s.waiting) is h
 
-    by : (k : Peer) (n1 : List Noted) → Moved (noted t (Asks c a) (Begins q) ∷ m.kept.reading) t q.peer (begins t c a q n.token n.text n.word S) n1 (next t q.peer (begins t c a q n.token n.text n.word S))
+    by : (k : Peer) (n1 : List Noted) → Moved (noted t (Asks c a) (opening_note q (kept_for t a q S)) ∷ m.kept.reading) t q.peer (begins t c a q n.token n.text n.word S) n1 (next t q.peer (begins t c a q n.token n.text n.word S))
         → RestAt n1 (next t q.peer (begins t c a q n.token n.text n.word S)) q.peer → (v : Bool) → same_peer q.peer k ≡ v
         → RestAt n1 (next t q.peer (begins t c a q n.token n.text n.word S)) k
     by k n1 moved rest true is = subst (RestAt n1 (next t q.peer (begins t c a q n.token n.text n.word S))) (same_peer-same q.peer k is) rest

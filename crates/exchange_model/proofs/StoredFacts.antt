@@ -1,11 +1,11 @@
 -- What a stored response rests on, be it brought by this journal or carried into it.
-use Rattle.std.proofs.Common.{◌≡◌, ◌⊎◌, ℕ, suc, ◌+◌, ◌<◌, ◌≤◌, Bool, true, false, ◌&&◌, cond, eqb, inl, inr, List, [], ◌∷◌, ◌++◌, length, Option, Some, None, refl, sym, ap, subst, ◌∙◌, arith}
-use Rattle.std.specs.List.{AllByRecursion, Contains}
-use Rattle.std.proofs.lemmas.Bool.{and_parts}
+use Rattle.std.proofs.Common.{◌≡◌, ℕ, suc, ◌+◌, ◌<◌, ◌≤◌, Bool, true, false, ◌&&◌, cond, eqb, inl, inr, List, [], ◌∷◌, ◌++◌, length, Option, Some, None, refl, sym, ap, subst, ◌∙◌, arith, not, zero}
+use Rattle.std.specs.List.{AllByRecursion, Contains, list_all}
+use Rattle.std.proofs.lemmas.Bool.{and_parts, false≢true}
 use Rattle.coap_codec.specs.Spelling.{Content, Spells}
 use Rattle.coap_codec.specs.declared.block.Block.{Block}
 use Rattle.uri_map.specs.declared.peer.Peer.{Peer}
-use Rattle.ask_model.specs.Requests.{CoapRequest, Requests, asking}
+use Rattle.ask_model.specs.Requests.{CoapRequest, Requests, asking, Manner, Plainly, Observing, Validating}
 use Rattle.ask_model.specs.Sharing.{asked_key, asks_same, is_get}
 use Rattle.ask_model.specs.Views.{Ask}
 use Rattle.cache_key.specs.Keys.{same_key}
@@ -14,18 +14,25 @@ use Rattle.resp_cache.specs.declared.pair.Pair.{Pair}
 use Rattle.journal_book.specs.Entries.{Mark, done_of, Deed, Asks, Sends, Hears, Carries}
 use Rattle.journal_book.specs.Entries as D
 use Rattle.history_laws.specs.Responses.{Response, whole_of}
-use Rattle.history_laws.specs.Readings.{Noted, Note, First, Says, Recalls, Begins, at, before, noted}
+use Rattle.history_laws.specs.Readings.{Noted, Note, First, Says, Recalls, at, before, noted}
 use Rattle.history_laws.specs.Progress.{Reply, numbers, messages}
 use Rattle.history_laws.specs.Transmissions.{FirstSending, first_at}
 use Rattle.history_laws.specs.Exchanges.{Begun, begun, replies, replies_by, Turn, Sent, Replied, Rejected, Expired, Nothing, turn}
 use Rattle.history_laws.specs.Carrying.{carried_replies, carried_replies_by, replied_by, reply_to}
 use Rattle.history_laws.specs.Hearing.{IsReplyKind}
-use Rattle.history_laws.specs.Laws.{IsReplyTo, IsCarriedReply}
-use Rattle.history_laws.specs.Storing.{ComesSo, IsBrought, IsCarried, content}
+use Rattle.history_laws.specs.Laws.{IsReplyTo}
+use Rattle.history_laws.specs.Grounds.{IsCarriedReply}
+use Rattle.history_laws.specs.Storing.{ComesSo, IsBrought, IsCarried, content, IsRenewed, IsStored}
 use Rattle.history_laws.specs.Justified.{Legal}
-use Rattle.history_laws.proofs.CallerLemmas.{all-push, asked-for, at-below, at-old, carried-at, carried-fit, comes-fit, ends-all, ends-whole, eqb-itself, first-found, first-older, first-response, first-whole, follows-at, length-before, next-is, sent-for, shared-is, some-is}
-use Rattle.exchange_model.specs.Reads.{PairIn}
+use Rattle.history_laws.proofs.CallerLemmas.{all-push, asked-for, at-below, at-old, carried-at, carried-fit, comes-fit, ends-all, ends-whole, eqb-itself, first-found, first-older, first-response, first-whole, follows-at, length-before, next-is, sent-for, shared-is, some-is, replies-fit, renewed-of, ends-renewed, contains-none, first-or-later}
+use Rattle.exchange_model.specs.Reads.{PairIn, Reads}
 use Rattle.exchange_model.proofs.Backed.{BackedAsk, BackedEntry, BackedReply, BackedSending}
+use Rattle.resp_cache.specs.Stored.{Stored}
+use Rattle.exchange_model.specs.State.{State}
+use Rattle.exchange_model.specs.Steps.{is_piece_at, is_valid}
+use Rattle.exchange_model.proofs.Comes.{stands-in}
+use Rattle.exchange_model.proofs.Renewals.{says-valid}
+use Rattle.std.proofs.lemmas.List.Elements.{Contains-append_right}
 
 -- the ask that the entry with this number says, or copies
 pub record AskFacts (l : List Noted) (o : ℕ) (q : CoapRequest) : Type 0 where
@@ -55,9 +62,9 @@ pub record ReplyFacts (l : List Noted) (o : ℕ) (q : CoapRequest) (r : Reply) :
   pub text : List ℕ
   pub timeout : Option ℕ
   pub sent_done : done_of sent_in.written.deed ≡ Some (D.Sent q.peer text timeout)
-  pub observes : Bool
+  pub manner : Manner
   pub block : Option Block
-  pub asks : sent ≡ asking observes q block sent.mid sent.token
+  pub asks : sent ≡ asking manner q block sent.mid sent.token
   pub sends : (gs : List ℕ) (k : List Noted) → BackedSending gs k q.peer o sent → BackedEntry gs k sent_in.written.deed sent_in.note
   pub heard_in : Noted
   pub heard : at l r.number ≡ Some heard_in
@@ -114,7 +121,7 @@ own-reply l o b r legal opened fits =
       text = fits.first.bytes;
       timeout = fits.first.timeout;
       sent_done = ap (λ (p : Peer). Some (D.Sent p fits.first.bytes fits.first.timeout)) peer;
-      observes = next.1;
+      manner = next.1;
       block = next.0;
       asks = next.2 ∙ ap (λ (b : Begun). asking next.1 b.request next.0 fits.sent.mid fits.sent.token) same;
       sends = λ gs k h. subst (λ (p : Peer). BackedSending gs k p o fits.sent) (sym peer) h;
@@ -148,25 +155,28 @@ first-carried (x ∷ older) i t k mark p b w o m e =
       | inr u ↦ first-older x older i (at-below older i _ u) ∙ first-carried older i t k mark p b w o m u
     ]
 
-asking-anew : (observes : Bool) (q : CoapRequest) (block : Option Block) (mid : ℕ) (token : List ℕ)
-    → asking observes q block mid token ≡ asking observes q block (asking observes q block mid token).mid (asking observes q block mid token).token
-asking-anew true q None mid token = refl
-asking-anew false q None mid token = refl
-asking-anew observes q (Some b) mid token = refl
+asking-anew : (manner : Manner) (q : CoapRequest) (block : Option Block) (mid : ℕ) (token : List ℕ)
+    → asking manner q block mid token ≡ asking manner q block (asking manner q block mid token).mid (asking manner q block mid token).token
+asking-anew Plainly q None mid token = refl
+asking-anew Observing q None mid token = refl
+asking-anew (Validating etag) q None mid token = refl
+asking-anew manner q (Some b) mid token = refl
 
-asking-token : (observes : Bool) (q : CoapRequest) (block : Option Block) (mid : ℕ) (token : List ℕ) → (asking observes q block mid token).token ≡ token
-asking-token true q None mid token = refl
-asking-token false q None mid token = refl
-asking-token observes q (Some b) mid token = refl
+asking-token : (manner : Manner) (q : CoapRequest) (block : Option Block) (mid : ℕ) (token : List ℕ) → (asking manner q block mid token).token ≡ token
+asking-token Plainly q None mid token = refl
+asking-token Observing q None mid token = refl
+asking-token (Validating etag) q None mid token = refl
+asking-token manner q (Some b) mid token = refl
 
-asking-mid : (observes : Bool) (q : CoapRequest) (block : Option Block) (mid : ℕ) (token : List ℕ) → (asking observes q block mid token).mid ≡ mid
-asking-mid true q None mid token = refl
-asking-mid false q None mid token = refl
-asking-mid observes q (Some b) mid token = refl
+asking-mid : (manner : Manner) (q : CoapRequest) (block : Option Block) (mid : ℕ) (token : List ℕ) → (asking manner q block mid token).mid ≡ mid
+asking-mid Plainly q None mid token = refl
+asking-mid Observing q None mid token = refl
+asking-mid (Validating etag) q None mid token = refl
+asking-mid manner q (Some b) mid token = refl
 
 carried-facts : (l : List Noted) (o : ℕ) (q : CoapRequest) (r : Reply) → Legal l → IsCarriedReply l o q r → ReplyFacts l o q r
 carried-facts l o q r legal h =
-    let sent : Content = asking h.observes q h.block h.mid r.message.token in
+    let sent : Content = asking h.manner q h.block h.mid r.message.token in
     record {
       sent = sent;
       sent_in = noted h.sent_at (Carries h.old D.Ground (D.Sent q.peer h.text h.timeout)) (First o sent);
@@ -178,9 +188,9 @@ carried-facts l o q r legal h =
       text = h.text;
       timeout = h.timeout;
       sent_done = refl;
-      observes = h.observes;
+      manner = h.manner;
       block = h.block;
-      asks = asking-anew h.observes q h.block h.mid r.message.token;
+      asks = asking-anew h.manner q h.block h.mid r.message.token;
       sends = λ gs k b. b;
       heard_in = noted h.moment (Carries h.number D.Ground (D.Heard q.peer h.bytes)) (Recalls r.message h.answer);
       heard = h.heard;
@@ -188,9 +198,9 @@ carried-facts l o q r legal h =
       done = refl;
       spelled = h.spelled;
       later = h.after;
-      token = sym (asking-token h.observes q h.block h.mid r.message.token);
+      token = sym (asking-token h.manner q h.block h.mid r.message.token);
       response = h.response;
-      kind = subst (IsReplyKind r.message.kind r.message.mid) (sym (asking-mid h.observes q h.block h.mid r.message.token)) h.kind;
+      kind = subst (IsReplyKind r.message.kind r.message.mid) (sym (asking-mid h.manner q h.block h.mid r.message.token)) h.kind;
       says = (refl, refl);
       hears = λ gs k b. b;
     }
@@ -231,7 +241,7 @@ replies-rise (x ∷ older) o = by (turn older o x) (replies-rise older o)
     by Expired h = (h.0, subst (λ (n : ℕ). Below n (replies older o)) (plus-one (length older)) (below-more (length older) (replies older o) h.1))
     by Nothing h = (h.0, subst (λ (n : ℕ). Below n (replies older o)) (plus-one (length older)) (below-more (length older) (replies older o) h.1))
 
-comes-rising : (l : List Noted) (o e : ℕ) (w : Response) (rs : List Reply) → ComesSo l o e w rs → AreRising rs
+pub comes-rising : (l : List Noted) (o e : ℕ) (w : Response) (rs : List Reply) → ComesSo l o e w rs → AreRising rs
 comes-rising l o e w rs (inl ends) =
     let it = ends-whole l o e w rs ends.ended in
     let u = it.turned in
@@ -242,7 +252,7 @@ comes-rising l o e w rs (inl ends) =
 comes-rising l o e w rs (inr u) =
     subst AreRising (sym (first-whole e u.sending u.message w rs u.whole)) (tt, tt)
 
-carried-rise : (l : List Noted) (o : ℕ) → AreRising (carried_replies l o) × Below (length l) (carried_replies l o)
+pub carried-rise : (l : List Noted) (o : ℕ) → AreRising (carried_replies l o) × Below (length l) (carried_replies l o)
 carried-rise [] o = (tt, tt)
 carried-rise (x ∷ older) o = by x.written.deed x.note (carried-rise older o)
   where
@@ -294,7 +304,7 @@ brought-facts l p legal a s =
       get = of_get.0;
       key = of_get.1 ∙ a.key;
       ask = subst (λ (o : ℕ). AskFacts l o b.request) (sym s.origin) (record {
-        entry = noted b.since (Asks ask.conn ask.ask) (Begins b.request);
+        entry = noted b.since (Asks ask.conn ask.ask) ask.note;
         stands = ask.stands;
         conn = ask.conn;
         ask = ask.ask;
@@ -358,9 +368,31 @@ again-facts l p legal a s =
       heard = s.heard;
     }
 
-pub stored-facts : (l : List Noted) (p : Pair) → Legal l → PairIn l p → StoredFacts l p
-stored-facts l p legal a = by a.stored
+-- What is renewed has a 2.03 among its replies: so of what has none.
+renewed-none : (l : List Noted) (S : State) (q : CoapRequest) (s : Stored) → Reads l S → IsRenewed l q s → list_all (is_piece_at S.entries) s.list ≡ true → ⊥
+renewed-none l S q s r a pieces =
+    let n : ℕ = a.renewal.reply.number in
+    let last : Contains s.list n = subst (λ (js : List ℕ). Contains js n) (sym a.list) (Contains-append_right a.renewal.kept.list (n ∷ []) n (zero, omega arith, refl)) in
+    let fits = replies-fit l a.renewal.opening a.renewal.reply r.legal (renewed-of l a.renewal.opening a.ending a.renewal.kept a.renewal.reply a.renewal.ended) in
+    let was = ends-renewed l a.renewal.opening a.ending a.renewal.kept a.renewal.reply a.renewal.ended in
+    let is : is_piece_at S.entries n ≡ false =
+    ap (λ (v : Option Reply). not (is_valid v)) (stands-in l S a.renewal.opening a.renewal.reply r fits)
+    ∙ ap not (says-valid a.renewal.kept.response.etag a.renewal.reply.message was.turned.tells) in
+    false≢true (sym is ∙ passes (is_piece_at S.entries) s.list n pieces last)
   where
-    by : IsBrought l a.request p.stored ⊎ IsCarried l a.request p.stored → StoredFacts l p
-    by (inl s) = brought-facts l p legal a s
-    by (inr s) = again-facts l p legal a s
+    passes : (f : ℕ → Bool) (js : List ℕ) (j : ℕ) → list_all f js ≡ true → Contains js j → f j ≡ true
+    passes f [] j e has = absurd (contains-none j has)
+    passes f (k ∷ js) j e has =
+        let both = and_parts (f k) (list_all f js) e in
+        elim (first-or-later k js j has) [
+          | inl same ↦ subst (λ (i : ℕ). f i ≡ true) same both.0
+          | inr later ↦ passes f js j both.1 later
+        ]
+
+pub stored-facts : (l : List Noted) (S : State) (p : Pair) → Reads l S → PairIn l p → list_all (is_piece_at S.entries) p.stored.list ≡ true → StoredFacts l p
+stored-facts l S p r a pieces = by a.stored
+  where
+    by : IsStored l a.request p.stored → StoredFacts l p
+    by (inl (inl s)) = brought-facts l p r.legal a s.0
+    by (inl (inr s)) = again-facts l p r.legal a s.0
+    by (inr s) = absurd (renewed-none l S a.request p.stored r s pieces)

@@ -25,6 +25,7 @@ use Rattle.exchange_model.proofs.Carried.{IsOwn}
 use Rattle.exchange_model.proofs.Came.{none-comes}
 use Rattle.exchange_model.proofs.Storing.{pairs-stay, spares-all, stored-earlier, stored-was}
 use Rattle.exchange_model.proofs.Uses.{crowded-stays, has-filtered, NotServing, order-filter, order-stays, order-weaker, own-quiet, served-key, Unused, unused-still, use-below}
+use Rattle.exchange_model.proofs.Renewals.{none-renews}
 
 -- Where nothing was opened, and no ask is carried, nothing is stored.
 pub no-store : (l : List Noted) → openings l ≡ [] → ((o : ℕ) → carried l o ≡ None) → StoreIn l []
@@ -35,9 +36,11 @@ no-store l none bare = record { pairs = tt; order = tt; kept = λ q s is lasts. 
     was q (Some b) e = refl
 
     unstored : (q : CoapRequest) (s : Stored) → IsStored l q s → ⊥
-    unstored q s (inr is) = none-some is.carries.exchange (sym (bare is.opening) ∙ is.carries.asked)
-    unstored q s (inl is) = contains-none is.opening (subst (λ (os : List ℕ). Contains os is.opening) none
-        (begun-listed l is.opening (was q (begun l is.opening) (and_parts (asks_the_same q (begun l is.opening)) _ is.shared).0)))
+    unstored q s (inl (inr is)) = none-some is.0.carries.exchange (sym (bare is.0.opening) ∙ is.0.carries.asked)
+    unstored q s (inl (inl is)) = contains-none is.0.opening (subst (λ (os : List ℕ). Contains os is.0.opening) none
+        (begun-listed l is.0.opening (was q (begun l is.0.opening) (and_parts (asks_the_same q (begun l is.0.opening)) _ is.0.shared).0)))
+    unstored q s (inr is) = contains-none is.renewal.opening (subst (λ (os : List ℕ). Contains os is.renewal.opening) none
+        (begun-listed l is.renewal.opening (was q (begun l is.renewal.opening) is.renewal.same)))
 
 -- all of a kind
 pub every : {X : Type 0} (P : X → Type 0) → ((x : X) → P x) → (xs : List X) → AllByRecursion P xs
@@ -48,7 +51,7 @@ module _ (x : Noted) (l : List Noted) (legal : Legal (x ∷ l)) (same : (o : ℕ
   -- It was stored before.
   was-stored : IsOwn x → (q : CoapRequest) (s : Stored) → IsStored (x ∷ l) q s → IsStored l q s
   was-stored own q s a = stored-was x l q s legal own (spares-all x l q own same silent).unwritten a
-      (stored-earlier x l q s (λ o w rs comes. none-comes x l o w rs (same o) silent comes) a)
+      (stored-earlier x l q s (λ o w rs comes. none-comes x l o w rs (same o) silent comes) (λ r. none-renews x l q same r) a)
 
   -- one that serves nothing
   pub store-still : NotServing x.written.deed x.note → (ps : List Pair) → StoreIn l ps → StoreIn (x ∷ l) ps

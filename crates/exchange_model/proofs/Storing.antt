@@ -2,28 +2,25 @@
 use Rattle.std.proofs.Common.{◌≢◌, arith, refl, ◌≡◌, ℕ, ◌≤◌, ◌⊎◌, Bool, true, false, not, inl, inr, List, ◌∷◌, length, Option, Some, None, is_some, sym, ap, subst, ◌∙◌, zero, ◌<◌}
 use Rattle.std.specs.List.{AllByRecursion}
 use Rattle.std.specs.Prelude.{◌&&◌, ⊤}
-use Rattle.std.specs.Option.{option_map_or}
 use Rattle.std.proofs.lemmas.Bool.{false≢true, and_parts}
 use Rattle.std.proofs.lemmas.Bool.Decides.{eqb_tells}
-use Rattle.cache_key.specs.Keys.{CacheKey, same_key}
 use Rattle.resp_cache.specs.Stored.{Stored}
 use Rattle.resp_cache.specs.declared.pair.Pair.{Pair}
 use Rattle.ask_model.specs.Requests.{CoapRequest}
 use Rattle.ask_model.specs.Sharing.{asked_key, asked_place, asks_same, is_get}
-use Rattle.ask_model.proofs.CallerLemmas.{same-key}
 use Rattle.history_laws.specs.Readings.{at, newest, Noted}
-use Rattle.history_laws.specs.Progress.{messages, numbers, Reply}
+use Rattle.history_laws.specs.Progress.{Reply}
 use Rattle.history_laws.specs.Exchanges.{Begun, begun, end_of}
-use Rattle.history_laws.specs.Responses.{Response, whole_of}
-use Rattle.history_laws.specs.Carrying.{carried, carried_replies}
+use Rattle.history_laws.specs.Responses.{Response}
 use Rattle.history_laws.specs.Joining.{asks_the_same, outrun, is_joinable}
 use Rattle.history_laws.specs.Observing.{counting, outdated}
-use Rattle.history_laws.specs.Storing.{ComesSo, IsBrought, IsCarried, IsStored}
+use Rattle.history_laws.specs.Storing.{ComesSo, IsBrought, IsCarried, IsRenewal, IsRenewed, IsStored, first_in}
 use Rattle.history_laws.specs.Justified.{Legal}
-use Rattle.history_laws.proofs.CallerLemmas.{at-newest, at-old, begun-below, at-below, comes-fit, some-is, write-outruns, all-more, at-keeps, begun-keeps, EndsWrite, outrun-quiet}
+use Rattle.history_laws.proofs.CallerLemmas.{at-newest, at-old, begun-below, at-below, comes-fit, write-outruns, all-more, at-keeps, begun-keeps, EndsWrite, outrun-quiet}
 use Rattle.exchange_model.specs.Reads.{PairIn}
-use Rattle.exchange_model.proofs.Carried.{carries-stays, carries-was, first-before, IsOwn, one-carried, opening-before}
-use Rattle.exchange_model.proofs.Came.{comes-back, comes-begun, comes-keeps, comes-was, fresh-before, none-comes, one-comes, uncounted-by}
+use Rattle.exchange_model.proofs.Carried.{carries-stays, carries-was, first-before, IsOwn, opening-before}
+use Rattle.exchange_model.proofs.Came.{comes-back, comes-begun, comes-keeps, comes-was, fresh-before, none-comes, uncounted-by}
+use Rattle.exchange_model.proofs.Renewals.{none-renews, renewal-back, renewal-below, renewal-for, renewal-get, renewal-keeps, renewal-unwritten, renewed-number}
 use Rattle.exchange_model.proofs.Watches.{outdated-quiet}
 
 -- What stands before the newest entry stood there.
@@ -40,6 +37,7 @@ pub record Spares (x : Noted) (l : List Noted) (q : CoapRequest) : Type 0 where
   pub untold : (n : ℕ) → outdated (x ∷ l) (asked_key q) n ≡ outdated l (asked_key q) n
   pub unanswered : (o : ℕ) (w : Response) (r : Reply) (rs : List Reply) → ComesSo (x ∷ l) o (length l) w (r ∷ rs) → is_joinable (x ∷ l) q o ≡ true
       → outdated (x ∷ l) (asked_key q) r.number ≡ false → ⊥
+  pub unrenewed : IsRenewal (x ∷ l) q (length l) → ⊥
 
 pub joinable-same : (x : Noted) (l : List Noted) (q : CoapRequest) → Legal (x ∷ l) → (EndsWrite x l (asked_place q) → ⊥) → (o : ℕ) (b : Begun) → begun l o ≡ Some b
     → is_joinable (x ∷ l) q o ≡ is_joinable l q o
@@ -104,9 +102,38 @@ carried-stays x l q s legal spares a =
           a.alone o e w r rs old (sym (joinable-same x l q legal spares.unwritten o was.0 was.1) ∙ joins) (sym (spares.untold r.number) ∙ fresh)
     ]
 
+-- What is renewed after it was so before.
+renewed-before : (x : Noted) (l : List Noted) (q : CoapRequest) (e : ℕ) → Legal (x ∷ l) → Spares x l q → IsRenewal (x ∷ l) q e → IsRenewal l q e
+renewed-before x l q e legal spares a = elim (eqb_tells e (length l)) [
+  | inl w ↦ absurd (spares.unrenewed (subst (IsRenewal (x ∷ l) q) w.1 a))
+  | inr w ↦ renewal-back x l q e legal a w.1
+]
+
+renewed-stays : (x : Noted) (l : List Noted) (q : CoapRequest) (s : Stored) → Legal (x ∷ l) → Spares x l q → IsRenewed l q s → IsRenewed (x ∷ l) q s
+renewed-stays x l q s legal spares a = record {
+  ending = a.ending;
+  renewal = renewal-keeps x l q a.ending legal spares.unwritten spares.untold a.renewal;
+  latest = λ o e w r rs comes joins fresh. elim (eqb_tells e (length l)) [
+    | inl new ↦ absurd (spares.unanswered o w r rs (subst (λ (n : ℕ). ComesSo (x ∷ l) o n w (r ∷ rs)) new.1 comes) joins fresh)
+    | inr other ↦
+        let old = comes-back x l o e w (r ∷ rs) comes other.1 in
+        let was = comes-begun l o e w (r ∷ rs) legal.0 old in
+        a.latest o e w r rs old (sym (joinable-same x l q legal spares.unwritten o was.0 was.1) ∙ joins) (sym (spares.untold r.number) ∙ fresh)
+  ];
+  last = λ e b. a.last e (renewed-before x l q e legal spares b);
+  entry = a.entry;
+  heard_in = at-keeps x l a.renewal.reply.number _ a.heard_in;
+  heard = a.heard;
+  origin = a.origin;
+  list = a.list;
+  response = a.response;
+}
+
 pub stored-stays : (x : Noted) (l : List Noted) (q : CoapRequest) (s : Stored) → Legal (x ∷ l) → Spares x l q → IsStored l q s → IsStored (x ∷ l) q s
-stored-stays x l q s legal spares (inl a) = inl (brought-stays x l q s legal spares a)
-stored-stays x l q s legal spares (inr a) = inr (carried-stays x l q s legal spares a)
+unfolding brought-stays carried-stays
+stored-stays x l q s legal spares (inl (inl a)) = inl (inl (brought-stays x l q s legal spares a.0, λ e b. a.1 e (renewed-before x l q e legal spares b)))
+stored-stays x l q s legal spares (inl (inr a)) = inl (inr (carried-stays x l q s legal spares a.0, λ e b. a.1 e (renewed-before x l q e legal spares b)))
+stored-stays x l q s legal spares (inr a) = inr (renewed-stays x l q s legal spares a)
 
 -- An entry that ends nothing, and is no notification that counts, leaves it.
 pub spares-all : (x : Noted) (l : List Noted) (q : CoapRequest) → IsOwn x → ((o : ℕ) → end_of (x ∷ l) o ≡ end_of l o) → counting l x.note ≡ None → Spares x l q
@@ -115,6 +142,7 @@ spares-all x l q own same silent = record {
   unwritten = λ h. absurd (false≢true (sym (ap is_some (same h.opening ∙ h.going)) ∙ h.ended));
   untold = λ n. outdated-quiet x l (asked_key q) n silent;
   unanswered = λ o w r rs comes joins fresh. none-comes x l o w (r ∷ rs) (same o) silent comes;
+  unrenewed = λ a. none-renews x l q same a;
 }
 
 pub pair-stays : (x : Noted) (l : List Noted) → Legal (x ∷ l) → (p : Pair) → (a : PairIn l p) → Spares x l a.request → PairIn (x ∷ l) p
@@ -126,63 +154,6 @@ pairs-stay x l legal own same silent ps a = all-more (PairIn l) (PairIn (x ∷ l
 
 -- What is stored for a GET is stored for each of its key.
 
-joinable-by : List Noted → ℕ → Bool → CacheKey → Bool
-joinable-by l o get key =
-    option_map_or (λ (b : Begun). get && (is_get b.request && same_key key (asked_key b.request))) (begun l o) false && not (outrun l key.place o)
-
-pub joinable-alike : (l : List Noted) (q r : CoapRequest) → is_get q ≡ true → is_get r ≡ true → asked_key q ≡ asked_key r → (o : ℕ) → is_joinable l q o ≡ is_joinable l r o
-unfolding joinable-by
-joinable-alike l q r get other keys o =
-    ap (λ (g : Bool). joinable-by l o g (asked_key q)) (get ∙ sym other)
-    ∙ ap (joinable-by l o (is_get r)) keys
-
-brought-alike : (l : List Noted) (q r : CoapRequest) (s : Stored) → is_get q ≡ true → is_get r ≡ true → asked_key q ≡ asked_key r → IsBrought l r s → IsBrought l q s
-brought-alike l q r s get other keys a = record {
-  opening = a.opening;
-  ending = a.ending;
-  first = a.first;
-  more = a.more;
-  comes = a.comes;
-  shared = joinable-alike l q r get other keys a.opening ∙ a.shared;
-  newest = ap (λ (k : CacheKey). outdated l k a.first.number) keys ∙ a.newest;
-  latest = λ o e w u rs comes joins fresh. a.latest o e w u rs comes (sym (joinable-alike l q r get other keys o) ∙ joins)
-      (ap (λ (k : CacheKey). outdated l k u.number) (sym keys) ∙ fresh);
-  entry = a.entry;
-  heard_in = a.heard_in;
-  heard = a.heard;
-  origin = a.origin;
-  list = a.list;
-}
-
-asks-alike : (q r v : CoapRequest) → is_get q ≡ true → is_get r ≡ true → asked_key q ≡ asked_key r → asks_same q v ≡ asks_same r v
-asks-alike q r v get other keys =
-    ap (λ (g : Bool). g && (is_get v && same_key (asked_key q) (asked_key v))) (get ∙ sym other)
-    ∙ ap (λ (k : CacheKey). is_get r && (is_get v && same_key k (asked_key v))) keys
-
-carried-alike : (l : List Noted) (q r : CoapRequest) (s : Stored) → is_get q ≡ true → is_get r ≡ true → asked_key q ≡ asked_key r → IsCarried l r s → IsCarried l q s
-carried-alike l q r s get other keys a = record {
-  opening = a.opening;
-  first = a.first;
-  more = a.more;
-  carries = a.carries;
-  code = a.code;
-  same = asks-alike q r a.carries.exchange.request get other keys ∙ a.same;
-  current = ap (λ (k : CacheKey). outrun l k.place a.opening) keys ∙ a.current;
-  newest = ap (λ (k : CacheKey). outdated l k a.first.number) keys ∙ a.newest;
-  alone = λ o e w u rs comes joins fresh. a.alone o e w u rs comes (sym (joinable-alike l q r get other keys o) ∙ joins)
-      (ap (λ (k : CacheKey). outdated l k u.number) (sym keys) ∙ fresh);
-  entry = a.entry;
-  heard_in = a.heard_in;
-  heard = a.heard;
-  origin = a.origin;
-  list = a.list;
-}
-
-pub stored-alike : (l : List Noted) (q r : CoapRequest) (s : Stored) → is_get q ≡ true → is_get r ≡ true → asked_key q ≡ asked_key r → IsStored l r s → IsStored l q s
-stored-alike l q r s get other keys (inl a) = inl (brought-alike l q r s get other keys a)
-stored-alike l q r s get other keys (inr a) = inr (carried-alike l q r s get other keys a)
-
--- the first reply of what came stands
 brought-first : (l : List Noted) (o e : ℕ) (w : Response) (first : Reply) (more : List Reply) → Legal l → ComesSo l o e w (first ∷ more) → first.number < length l
 brought-first l o e w first more legal comes =
     let fit = comes-fit l o e w (first ∷ more) first legal comes (zero, omega arith, refl) in
@@ -243,28 +214,81 @@ carried-was x l q s legal own writes a =
       list = a.list;
     }
 
+-- What a GET was answered with stands as long as it counts from a reply that is newer than all that was told.
+renewal-still : (x : Noted) (l : List Noted) (q : CoapRequest) (first e : ℕ) → Legal (x ∷ l) → (EndsWrite x l (asked_place q) → ⊥) → first < length l
+    → outdated (x ∷ l) (asked_key q) first ≡ false → IsRenewal l q e → IsRenewal (x ∷ l) q e
+renewal-still x l q first e legal writes below fresh a = renewal-keeps x l q e legal writes (uncounted-by x l (asked_key q) first below fresh) a
+
+-- the replies that it counts from stand before the newest entry
+brought-below : (x : Noted) (l : List Noted) (q : CoapRequest) (s : Stored) → Legal (x ∷ l) → (a : IsBrought (x ∷ l) q s) → a.ending ≢ length l → a.first.number < length l
+brought-below x l q s legal a other =
+    brought-first l a.opening a.ending s.response a.first a.more legal.0 (comes-back x l a.opening a.ending s.response (a.first ∷ a.more) a.comes other)
+
+carried-below : (x : Noted) (l : List Noted) (q : CoapRequest) (s : Stored) → Legal (x ∷ l) → IsOwn x → (a : IsCarried (x ∷ l) q s) → a.first.number < length l
+carried-below x l q s legal own a =
+    let c = carries-was x l a.opening s.response (a.first ∷ a.more) own a.carries in
+    first-before l a.opening s.response a.first a.more legal.0 c.0
+
+renewed-was : (x : Noted) (l : List Noted) (q : CoapRequest) (s : Stored) → Legal (x ∷ l) → (EndsWrite x l (asked_place q) → ⊥) → (a : IsRenewed (x ∷ l) q s) → a.ending ≢ length l
+    → IsRenewed l q s
+renewed-was x l q s legal writes a other =
+    let was = renewal-back x l q a.ending legal a.renewal other in
+    let f = renewal-for l q a.ending legal.0 was in
+    let now = renewed-number (x ∷ l) a.renewal.opening a.ending a.renewal.kept a.renewal.reply a.renewal.ended in
+    let lt = renewal-below l q a.ending was in
+    record {
+      ending = a.ending;
+      renewal = was;
+      latest = λ o e w r rs comes joins fresh.
+          let b = comes-begun l o e w (r ∷ rs) legal.0 comes in
+          a.latest o e w r rs (comes-keeps x l o e w (r ∷ rs) comes) (joinable-same x l q legal writes o b.0 b.1 ∙ joins)
+          (uncounted-by x l (asked_key q) (first_in a.renewal.kept.list) f.first a.renewal.newest r.number ∙ fresh);
+      last = λ e b. a.last e (renewal-still x l q (first_in a.renewal.kept.list) e legal writes f.first a.renewal.newest b);
+      entry = a.entry;
+      heard_in = stood x l a.renewal.reply.number a.entry (omega (arith, now, lt)) a.heard_in;
+      heard = a.heard;
+      origin = a.origin;
+      list = a.list;
+      response = a.response;
+    }
+
 -- It didn't come in the newest entry.
 abbrev pub IsEarlier : (x : Noted) (l : List Noted) (q : CoapRequest) (s : Stored) → IsStored (x ∷ l) q s → Type 0
-IsEarlier x l q s (inl a) = a.ending ≢ length l
-IsEarlier x l q s (inr a) = ⊤
+IsEarlier x l q s (inl (inl a)) = a.0.ending ≢ length l
+IsEarlier x l q s (inl (inr a)) = ⊤
+IsEarlier x l q s (inr a) = a.ending ≢ length l
+
+-- It did: it was brought, or renewed.
+abbrev pub IsNow : (x : Noted) (l : List Noted) (q : CoapRequest) (s : Stored) → Type 0
+IsNow x l q s = ((b : IsBrought (x ∷ l) q s) × (b.ending ≡ length l)) ⊎ ((b : IsRenewed (x ∷ l) q s) × (b.ending ≡ length l))
 
 pub stored-was : (x : Noted) (l : List Noted) (q : CoapRequest) (s : Stored) → Legal (x ∷ l) → IsOwn x → (EndsWrite x l (asked_place q) → ⊥) → (a : IsStored (x ∷ l) q s) → IsEarlier x l q s a
     → IsStored l q s
-stored-was x l q s legal own writes (inl a) other = inl (brought-was x l q s legal writes a other)
-stored-was x l q s legal own writes (inr a) other = inr (carried-was x l q s legal own writes a)
+unfolding brought-was carried-was
+stored-was x l q s legal own writes (inl (inl a)) other = inl (inl (
+  brought-was x l q s legal writes a.0 other,
+  λ e b. a.1 e (renewal-still x l q a.0.first.number e legal writes (brought-below x l q s legal a.0 other) a.0.newest b),
+))
+stored-was x l q s legal own writes (inl (inr a)) other = inl (inr (
+  carried-was x l q s legal own writes a.0,
+  λ e b. a.1 e (renewal-still x l q a.0.first.number e legal writes (carried-below x l q s legal own a.0) a.0.newest b),
+))
+stored-was x l q s legal own writes (inr a) other = inr (renewed-was x l q s legal writes a other)
 
 -- It did, or not.
 pub stored-when : (x : Noted) (l : List Noted) (q : CoapRequest) (s : Stored) → (a : IsStored (x ∷ l) q s)
-    → ((b : IsBrought (x ∷ l) q s) × (b.ending ≡ length l)) ⊎ IsEarlier x l q s a
-stored-when x l q s (inl a) = elim (eqb_tells a.ending (length l)) [ inl w ↦ inl (a, w.1) | inr w ↦ inr w.1 ]
-stored-when x l q s (inr a) = inr tt
+    → IsNow x l q s ⊎ IsEarlier x l q s a
+stored-when x l q s (inl (inl a)) = elim (eqb_tells a.0.ending (length l)) [ inl w ↦ inl (inl (a.0, w.1)) | inr w ↦ inr w.1 ]
+stored-when x l q s (inl (inr a)) = inr tt
+stored-when x l q s (inr a) = elim (eqb_tells a.ending (length l)) [ inl w ↦ inl (inr (a, w.1)) | inr w ↦ inr w.1 ]
 
 -- Nothing did by which nothing comes.
 pub stored-earlier : (x : Noted) (l : List Noted) (q : CoapRequest) (s : Stored) → ((o : ℕ) (w : Response) (rs : List Reply) → ComesSo (x ∷ l) o (length l) w rs → ⊥)
-    → (a : IsStored (x ∷ l) q s) → IsEarlier x l q s a
-stored-earlier x l q s none a = elim (stored-when x l q s a) [
-  | inl now ↦ let b = now.0 in
+    → (IsRenewal (x ∷ l) q (length l) → ⊥) → (a : IsStored (x ∷ l) q s) → IsEarlier x l q s a
+stored-earlier x l q s none unrenewed a = elim (stored-when x l q s a) [
+  | inl (inl now) ↦ let b = now.0 in
       absurd (none b.opening s.response (b.first ∷ b.more) (subst (λ (n : ℕ). ComesSo (x ∷ l) b.opening n s.response (b.first ∷ b.more)) now.1 b.comes))
+  | inl (inr now) ↦ absurd (unrenewed (subst (IsRenewal (x ∷ l) q) now.1 now.0.renewal))
   | inr earlier ↦ earlier
 ]
 
@@ -275,12 +299,13 @@ pub record IsFresh (x : Noted) (l : List Noted) (q : CoapRequest) : Type 0 where
   pub fresh : outdated (x ∷ l) (asked_key q) first ≡ false
 
 pub stored-fresh : (x : Noted) (l : List Noted) (q : CoapRequest) (s : Stored) → Legal (x ∷ l) → IsOwn x → (a : IsStored (x ∷ l) q s) → IsEarlier x l q s a → IsFresh x l q
-stored-fresh x l q s legal own (inl a) other =
-    let old = comes-back x l a.opening a.ending s.response (a.first ∷ a.more) a.comes other in
-    record { first = a.first.number; below = brought-first l a.opening a.ending s.response a.first a.more legal.0 old; fresh = a.newest }
+stored-fresh x l q s legal own (inl (inl a)) other =
+    record { first = a.0.first.number; below = brought-below x l q s legal a.0 other; fresh = a.0.newest }
+stored-fresh x l q s legal own (inl (inr a)) other =
+    record { first = a.0.first.number; below = carried-below x l q s legal own a.0; fresh = a.0.newest }
 stored-fresh x l q s legal own (inr a) other =
-    let c = carries-was x l a.opening s.response (a.first ∷ a.more) own a.carries in
-    record { first = a.first.number; below = first-before l a.opening s.response a.first a.more legal.0 c.0; fresh = a.newest }
+    let f = renewal-for l q a.ending legal.0 (renewal-back x l q a.ending legal a.renewal other) in
+    record { first = first_in a.renewal.kept.list; below = f.first; fresh = a.renewal.newest }
 
 -- No write ends at the place of what is stored then.
 brought-unwritten : (x : Noted) (l : List Noted) (q : CoapRequest) (s : Stored) → Legal (x ∷ l) → IsBrought (x ∷ l) q s → EndsWrite x l (asked_place q) → ⊥
@@ -294,65 +319,25 @@ brought-unwritten x l q s legal a h =
     not-both false f e = false≢true e
 
 pub stored-unwritten : (x : Noted) (l : List Noted) (q : CoapRequest) (s : Stored) → Legal (x ∷ l) → IsOwn x → IsStored (x ∷ l) q s → EndsWrite x l (asked_place q) → ⊥
-stored-unwritten x l q s legal own (inl a) h = brought-unwritten x l q s legal a h
-stored-unwritten x l q s legal own (inr a) h =
-    let c = carries-was x l a.opening s.response (a.first ∷ a.more) own a.carries in
-    let below = opening-before l a.opening s.response (a.first ∷ a.more) c.0 in
-    false≢true (sym a.current ∙ write-outruns x l (asked_place q) a.opening h below)
-
--- What is stored is one.
-
-alike : (s u : Stored) → s.response ≡ u.response → s.opening ≡ u.opening → s.heard ≡ u.heard → s.list ≡ u.list → s ≡ u
-alike s u e o f g =
-    ap (λ (w : Response). record { response = w; opening = s.opening; heard = s.heard; list = s.list }) e
-    ∙ (ap (λ (n : ℕ). record { response = u.response; opening = n; heard = s.heard; list = s.list }) o
-    ∙ (ap (λ (t : ℕ). record { response = u.response; opening = u.opening; heard = t; list = s.list }) f
-    ∙ ap (λ (js : List ℕ). record { response = u.response; opening = u.opening; heard = u.heard; list = js }) g))
-
-first-of : (f g : Reply) (fs gs : List Reply) → (f ∷ fs) ≡ (g ∷ gs) → f ≡ g
-first-of f g fs gs e = cc
-
-brought-one : (l : List Noted) (q : CoapRequest) (s u : Stored) → Legal l → IsBrought l q s → IsBrought l q u → s ≡ u
-brought-one l q s u legal a b =
-    let le = b.latest a.opening a.ending s.response a.first a.more a.comes a.shared a.newest in
-    let ge = a.latest b.opening b.ending u.response b.first b.more b.comes b.shared b.newest in
-    let same : a.ending ≡ b.ending = omega (arith, le, ge) in
-    let it = one-comes l a.opening b.opening a.ending s.response u.response (a.first ∷ a.more) (b.first ∷ b.more) legal a.comes
-    (subst (λ (n : ℕ). ComesSo l b.opening n u.response (b.first ∷ b.more)) (sym same) b.comes) in
-    let first = first-of a.first b.first a.more b.more it.replies in
-    let entry : a.entry ≡ b.entry = some-is _ _ (sym a.heard_in ∙ (ap (λ (r : Reply). at l r.number) first ∙ b.heard_in)) in
-    alike s u it.response (a.origin ∙ (it.opening ∙ sym b.origin)) (a.heard ∙ (ap (λ (x : Noted). x.written.moment) entry ∙ sym b.heard)) (a.list ∙ (ap numbers it.replies ∙ sym b.list))
-
-carried-one : (l : List Noted) (q : CoapRequest) (s u : Stored) → Legal l → IsCarried l q s → IsCarried l q u → s ≡ u
-carried-one l q s u legal a b =
-    let keys : asked_key a.carries.exchange.request ≡ asked_key b.carries.exchange.request =
-    sym (same-key q a.carries.exchange.request a.same) ∙ same-key q b.carries.exchange.request b.same in
-    let opening : a.opening ≡ b.opening = one-carried l a.opening b.opening a.carries.exchange b.carries.exchange legal a.carries.asked b.carries.asked keys in
-    let replies : (a.first ∷ a.more) ≡ (b.first ∷ b.more) = sym a.carries.replies ∙ (ap (carried_replies l) opening ∙ b.carries.replies) in
-    let asked : a.carries.exchange ≡ b.carries.exchange = some-is _ _ (sym a.carries.asked ∙ (ap (carried l) opening ∙ b.carries.asked)) in
-    let response : s.response ≡ u.response = some-is _ _
-    (sym a.carries.whole ∙ (ap (λ (c : Begun). whole_of c.request (messages (a.first ∷ a.more))) asked
-    ∙ (ap (λ (rs : List Reply). whole_of b.carries.exchange.request (messages rs)) replies ∙ b.carries.whole))) in
-    let first = first-of a.first b.first a.more b.more replies in
-    let entry : a.entry ≡ b.entry = some-is _ _ (sym a.heard_in ∙ (ap (λ (r : Reply). at l r.number) first ∙ b.heard_in)) in
-    alike s u response (a.origin ∙ (opening ∙ sym b.origin)) (a.heard ∙ (ap (λ (x : Noted). x.written.moment) entry ∙ sym b.heard)) (a.list ∙ (ap numbers replies ∙ sym b.list))
-
-pub stored-one : (l : List Noted) (q : CoapRequest) (s u : Stored) → Legal l → IsStored l q s → IsStored l q u → s ≡ u
-stored-one l q s u legal (inl a) (inl b) = brought-one l q s u legal a b
-stored-one l q s u legal (inl a) (inr b) = absurd (b.alone a.opening a.ending s.response a.first a.more a.comes a.shared a.newest)
-stored-one l q s u legal (inr a) (inl b) = absurd (a.alone b.opening b.ending u.response b.first b.more b.comes b.shared b.newest)
-stored-one l q s u legal (inr a) (inr b) = carried-one l q s u legal a b
+stored-unwritten x l q s legal own (inl (inl a)) h = brought-unwritten x l q s legal a.0 h
+stored-unwritten x l q s legal own (inl (inr a)) h =
+    let c = carries-was x l a.0.opening s.response (a.0.first ∷ a.0.more) own a.0.carries in
+    let below = opening-before l a.0.opening s.response (a.0.first ∷ a.0.more) c.0 in
+    false≢true (sym a.0.current ∙ write-outruns x l (asked_place q) a.0.opening h below)
+stored-unwritten x l q s legal own (inr a) h = renewal-unwritten x l q a.ending legal a.renewal h
 
 -- It is stored for a GET, and was heard by now.
 
 pub stored-get : (l : List Noted) (q : CoapRequest) (s : Stored) → IsStored l q s → is_get q ≡ true
-stored-get l q s (inl a) = by (begun l a.opening) (and_parts (asks_the_same q (begun l a.opening)) _ a.shared).0
+stored-get l q s (inl (inl a)) = by (begun l a.0.opening) (and_parts (asks_the_same q (begun l a.0.opening)) _ a.0.shared).0
   where
     by : (v : Option Begun) → asks_the_same q v ≡ true → is_get q ≡ true
     by None e = absurd (false≢true e)
     by (Some f) e = (and_parts (is_get q) _ e).0
-stored-get l q s (inr a) = (and_parts (is_get q) _ a.same).0
+stored-get l q s (inl (inr a)) = (and_parts (is_get q) _ a.0.same).0
+stored-get l q s (inr a) = renewal-get l q a.ending a.renewal
 
 pub stored-by-now : (l : List Noted) (q : CoapRequest) (s : Stored) → Legal l → IsStored l q s → s.heard ≤ newest l
-stored-by-now l q s legal (inl a) = let early = at-newest l a.first.number a.entry legal a.heard_in in let is = a.heard in omega (arith, early, is)
-stored-by-now l q s legal (inr a) = let early = at-newest l a.first.number a.entry legal a.heard_in in let is = a.heard in omega (arith, early, is)
+stored-by-now l q s legal (inl (inl a)) = let early = at-newest l a.0.first.number a.0.entry legal a.0.heard_in in let is = a.0.heard in omega (arith, early, is)
+stored-by-now l q s legal (inl (inr a)) = let early = at-newest l a.0.first.number a.0.entry legal a.0.heard_in in let is = a.0.heard in omega (arith, early, is)
+stored-by-now l q s legal (inr a) = let early = at-newest l a.renewal.reply.number a.entry legal a.heard_in in let is = a.heard in omega (arith, early, is)

@@ -18,6 +18,8 @@ use Rattle.history_laws.specs.Observing.{asked_last, counting, outdated}
 use Rattle.history_laws.specs.Observing as H
 use Rattle.history_laws.specs.Transmissions.{FirstSending, firsts, first_at, sent_last, bears_token}
 use Rattle.history_laws.specs.Exchanges.{openings, waits_for, is_going, open_exchanges}
+use Rattle.resp_cache.specs.Stored.{Stored}
+use Rattle.history_laws.specs.Storing.{first_in}
 use Rattle.history_laws.specs.Joining.{outrun}
 use Rattle.history_laws.specs.Justified.{Follows, IsNextConn}
 use Rattle.history_laws.proofs.CallerLemmas.{all-more, outrun-same, at-keeps, awaiting-stays, begun-keeps, entries-length, eqb-same, find-some, first-older, listed-below, rank-keeps}
@@ -27,11 +29,13 @@ use Rattle.exchange_model.specs.declared.kept.Exchange.{Exchange}
 use Rattle.exchange_model.specs.declared.kept.Reader.{Reader}
 use Rattle.exchange_model.specs.State.{PeerLink, State, link_of, with_link, conns_after}
 use Rattle.exchange_model.specs.declared.kept.Piece.{Piece}
-use Rattle.exchange_model.specs.Steps.{given_out, numbers_of, progress_with}
+use Rattle.exchange_model.specs.declared.kept.Stale.{Stale}
+use Rattle.exchange_model.specs.Steps.{given_out, numbers_of, progress_with, stale_in}
 use Rattle.exchange_model.proofs.Lists.{all-map}
 use Rattle.exchange_model.proofs.Pieces.{all-every, got-same, got-stays, pieces-stay}
 use Rattle.exchange_model.proofs.Watches.{newest-same, outdated-quiet}
-use Rattle.exchange_model.specs.Reads.{IsNewest, IsSentUnder, awaited_by, got_in, held_of, ExchangeIn, opening_of, PiecesIn, StoreIn, WaitsUnder, Reads, opens_in, opens_once, readers_by, readers_of}
+use Rattle.exchange_model.proofs.Stales.{kept-same, kept-stays, stales-stay}
+use Rattle.exchange_model.specs.Reads.{IsNewest, StalesIn, kept_in, IsSentUnder, awaited_by, got_in, held_of, ExchangeIn, opening_of, PiecesIn, StoreIn, WaitsUnder, Reads, opens_in, opens_once, readers_by, readers_of}
 
 -- entries
 
@@ -57,8 +61,9 @@ pub exchange-stays : {start : Start} (x : Noted) (l : List Noted) (e : Exchange)
     → waits_for (x ∷ l) e.opening ≡ waits_for l e.opening → sent_last (x ∷ l) e.opening ≡ sent_last l e.opening → asked_last (x ∷ l) e.opening ≡ asked_last l e.opening
     → (a : ExchangeIn start l e) → b ≡ not (outrun (x ∷ l) (asked_place a.request) e.opening)
     → (is_get a.request ≡ true → IsNewest (x ∷ l) (asked_key a.request) (got_in l e.opening) c)
+    → ((s : Stored) → kept_in l e.opening ≡ Some s → outdated (x ∷ l) (asked_key a.request) (first_in s.list) ≡ not c)
     → ExchangeIn start (x ∷ l) (record e { current = b; newest = c })
-exchange-stays {start = start} x l e b c unborne same sends reads a current newest =
+exchange-stays {start = start} x l e b c unborne same sends reads a current newest kept_newest =
     let unreplied = awaiting-stays x l e.opening same in
     let got = got-stays x l e.opening _ a.opening unreplied in record {
       request = a.request;
@@ -75,10 +80,13 @@ exchange-stays {start = start} x l e b c unborne same sends reads a current newe
       progress = ap (progress a.request) unreplied ∙ (a.progress ∙ ap (progress_with e.work) (sym got));
       current = current;
       newest = λ get. subst (λ (rs : List Reply). IsNewest (x ∷ l) (asked_key a.request) rs c) (sym got) (newest get);
+      newest_kept = λ s k. kept_newest s (sym (kept-stays x l e.opening _ a.opening unreplied) ∙ k);
       short = a.short;
       digests = a.digests;
       conn = a.conn;
       ask = a.ask;
+      note = a.note;
+      opens = a.opens;
       stands = at-keeps x l e.opening _ a.stands;
     }
 
@@ -110,11 +118,15 @@ exchange-still {start = start} l n t still quiet e reads a =
           ∙ (a.progress ∙ ap (progress_with e.work) (sym got));
       newest = λ get. subst (λ (rs : List Reply). IsNewest n (asked_key a.request) rs e.newest) (sym got)
           (newest-same l n (asked_key a.request) (got_in l e.opening) e.newest quiet (a.newest get));
+      newest_kept = λ s k. quiet (asked_key a.request) (first_in s.list)
+          ∙ a.newest_kept s (sym (kept-same l n e.opening (still.kept_are e.opening a.opening) (still.replies_are e.opening)) ∙ k);
       current = a.current ∙ ap not (sym (outrun-same l n still.openings_are still.begun_are still.ends_are (asked_place a.request) e.opening));
       short = a.short;
       digests = a.digests;
       conn = a.conn;
       ask = a.ask;
+      note = a.note;
+      opens = a.opens;
       stands = still.stands e.opening _ a.stands;
     }
 
@@ -133,6 +145,12 @@ unread (e ∷ es) = ap (λ (xs : List Exchange). e ∷ xs) (unread es)
 pieces-read : (l : List Noted) (reads : Exchange → ℕ) (es : List Exchange) (xs : List Piece) → PiecesIn l es xs → PiecesIn l (map (read_as reads) es) xs
 pieces-read l reads es xs h = record {
   fetched = all-map (read_as reads) (λ (e : Exchange). numbers (got_in l e.opening) ≡ numbers_of e.opening xs) es h.fetched;
+  below = h.below;
+}
+
+stales-read : (l : List Noted) (reads : Exchange → ℕ) (es : List Exchange) (xs : List Stale) → StalesIn l es xs → StalesIn l (map (read_as reads) es) xs
+stales-read l reads es xs h = record {
+  kept = all-map (read_as reads) (λ (e : Exchange). kept_in l e.opening ≡ stale_in e.opening xs) es h.kept;
   below = h.below;
 }
 
@@ -179,6 +197,7 @@ pub still-reads : (l : List Noted) (t : ℕ) (d : Deed) (note : Note) (S : State
       conns = conns_after S.conns (length S.entries) d;
       exchanges = map (read_as reads_last) S.exchanges;
       pieces = S.pieces;
+      stales = S.stales;
       readers = readers;
       watches = watches;
       store = store;
@@ -204,6 +223,9 @@ still-reads l t d note S links store watches reads_last r stored observed read q
       pieces_are = pieces-read n reads_last S.exchanges S.pieces (pieces-stay l n S.exchanges S.pieces (omega arith)
           (all-every (λ (e : Exchange). got_in n e.opening ≡ got_in l e.opening) (λ e. got-same l n e.opening (still.begun_are e.opening) (still.replies_are e.opening)) S.exchanges)
           r.pieces_are);
+      stales_are = stales-read n reads_last S.exchanges S.stales (stales-stay l n S.exchanges S.stales (omega arith)
+          (all-more (ExchangeIn r.start l) (λ (e : Exchange). kept_in n e.opening ≡ kept_in l e.opening)
+          (λ e a. kept-same l n e.opening (still.kept_are e.opening a.opening) (still.replies_are e.opening)) S.exchanges r.exchanges_are) r.stales_are);
       watches_are = observed;
       store_is = stored;
       tokens_are = rw (still.firsts_are) r.tokens_are;

@@ -1,8 +1,8 @@
 -- What the pairs that are carried over rest on.
 use Rattle.std.proofs.Common.{◌≡◌, ◌≢◌, ◌⊎◌, ℕ, zero, Bool, true, false, cond, eqb, inl, inr, List, [], ◌∷◌, ◌++◌, Option, Some, None, refl, sym, ap, subst, ◌∙◌, arith}
 use Rattle.std.specs.Prelude.{◌||◌, option_map}
-use Rattle.std.specs.List.{AllByRecursion, Contains, list_any}
-use Rattle.std.proofs.lemmas.Bool.{false≢true, or_right, or_left}
+use Rattle.std.specs.List.{AllByRecursion, Contains, list_any, list_all}
+use Rattle.std.proofs.lemmas.Bool.{false≢true, or_right, or_left, and_parts}
 use Rattle.std.proofs.lemmas.Bool.Decides.{eqb_tells}
 use Rattle.std.proofs.lemmas.List.Folds.{list_any-append}
 use Rattle.ask_model.specs.Requests.{CoapRequest}
@@ -22,6 +22,8 @@ use Rattle.exchange_model.specs.Rotating.{has, are_few, copies_with, may_carry, 
 use Rattle.exchange_model.proofs.Uses.{uses-before}
 use Rattle.exchange_model.proofs.StoredFacts.{ReplyFacts, StoredFacts}
 use Rattle.exchange_model.proofs.Traced.{traced-own}
+use Rattle.exchange_model.specs.Steps.{is_piece_at}
+use Rattle.resp_cache.specs.Stored.{is_fresh}
 
 -- Each key stands once.
 
@@ -85,17 +87,21 @@ module _ (t : ℕ) (S : State) where
       by true ih = to (backing S.entries p.stored) ih
       by false ih = ih
 
-  backed-facts : (l : List Noted) → entries l ≡ S.entries → (ps : List Pair) → AllByRecursion (StoredFacts l) ps → AllByRecursion (BackedFacts l) (backed t S ps)
-  backed-facts l same [] h = tt
-  backed-facts l same (p ∷ ps) h = by (may_carry t S p) (backed-facts l same ps h.1)
-    where
-      to : (v : Option (List ℕ)) → backing S.entries p.stored ≡ v → AllByRecursion (BackedFacts l) (backed t S ps) → AllByRecursion (BackedFacts l) (backed_by p v ++ backed t S ps)
-      to None is ih = ih
-      to (Some ns) is ih = (record { facts = h.0; backs = ap (λ (ws : List Written). backing ws p.stored) same ∙ is }, ih)
+  -- those without a 2.03 among their replies
+  abbrev pub AreFacts : List Noted → List Pair → Type 0
+  AreFacts l ps = AllByRecursion (λ (p : Pair). list_all (is_piece_at S.entries) p.stored.list ≡ true → StoredFacts l p) ps
 
-      by : (c : Bool) → AllByRecursion (BackedFacts l) (backed t S ps) → AllByRecursion (BackedFacts l) (backed_if c S.entries p ++ backed t S ps)
-      by true ih = to (backing S.entries p.stored) refl ih
-      by false ih = ih
+  backed-facts : (l : List Noted) → entries l ≡ S.entries → (ps : List Pair) → AreFacts l ps → AllByRecursion (BackedFacts l) (backed t S ps)
+  backed-facts l same [] h = tt
+  backed-facts l same (p ∷ ps) h = by (may_carry t S p) refl (backed-facts l same ps h.1)
+    where
+      to : StoredFacts l p → (v : Option (List ℕ)) → backing S.entries p.stored ≡ v → AllByRecursion (BackedFacts l) (backed t S ps) → AllByRecursion (BackedFacts l) (backed_by p v ++ backed t S ps)
+      to facts None is ih = ih
+      to facts (Some ns) is ih = (record { facts = facts; backs = ap (λ (ws : List Written). backing ws p.stored) same ∙ is }, ih)
+
+      by : (c : Bool) → may_carry t S p ≡ c → AllByRecursion (BackedFacts l) (backed t S ps) → AllByRecursion (BackedFacts l) (backed_if c S.entries p ++ backed t S ps)
+      by true may ih = to (h.0 (and_parts (list_all (is_piece_at S.entries) p.stored.list) _ (and_parts (is_fresh t p.stored) _ may).1).0) (backing S.entries p.stored) refl ih
+      by false may ih = ih
 
 -- the first of them
 all-few : (P : Backed → Type 0) (t : ℕ) (ws : List Written) (gs : List ℕ) (bs : List Backed) → AllByRecursion P bs → AllByRecursion P (few_of t ws gs bs)
@@ -118,7 +124,7 @@ pub record AreTaken (l : List Noted) (bs : List Backed) : Type 0 where
   pub facts : AllByRecursion (BackedFacts l) bs
   pub apart : BackedApart bs
 
-pub are-taken : (t : ℕ) (S : State) (l : List Noted) → entries l ≡ S.entries → AllByRecursion (StoredFacts l) S.store → KeysApart S.store
+pub are-taken : (t : ℕ) (S : State) (l : List Noted) → entries l ≡ S.entries → AreFacts t S l S.store → KeysApart S.store
     → AreTaken l (few_of t S.entries [] (backed t S S.store))
 are-taken t S l same facts apart = record {
   facts = all-few (BackedFacts l) t S.entries [] (backed t S S.store) (backed-facts t S l same S.store facts);

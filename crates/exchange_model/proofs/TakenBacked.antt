@@ -217,7 +217,7 @@ module _ (l : List Noted) (bs : List Backed) (legal : Legal l) (taken : AreTaken
         asked = asked-earlier n b.pair.stored.opening x h.facts.request stands (omega (arith, after, is)) h.facts.ask;
         listed = opening-listed l bs b legal among h;
         peer = refl;
-        observes = facts.observes;
+        manner = facts.manner;
         block = facts.block;
         asks = facts.asks;
       }))

@@ -18,12 +18,12 @@ use Rattle.history_laws.specs.Responses.{Response, whole_of}
 use Rattle.history_laws.specs.Readings.{Noted, Note, Says, Recalls, at, before}
 use Rattle.history_laws.specs.Progress.{Reply, numbers, messages}
 use Rattle.history_laws.specs.Transmissions.{FirstSending}
-use Rattle.history_laws.specs.Exchanges.{Begun}
+use Rattle.history_laws.specs.Exchanges.{Begun, End, end_of}
 use Rattle.history_laws.specs.Observing.{outdated}
 use Rattle.history_laws.specs.Carrying.{replied_by, CarriesSo}
 use Rattle.history_laws.specs.Storing.{ComesSo, IsStored, IsUnused, IsUse, IsCrowdedOut}
 use Rattle.history_laws.specs.Justified.{Legal}
-use Rattle.history_laws.proofs.CallerLemmas.{all-of, any-of, at-below, at-keeps, at-new, at-old, at-same, begun-listed, contains-later, contains-map, contains-none, copy-at, number-of, some-is}
+use Rattle.history_laws.proofs.CallerLemmas.{all-of, any-of, at-below, at-keeps, at-new, at-old, at-same, begun-listed, contains-later, contains-map, contains-none, copy-at, number-of, some-is, ended-begun}
 use Rattle.exchange_model.proofs.Came.{comes-begun}
 use Rattle.exchange_model.specs.Reads.{AreLastFirst, AreUnused, HasPair, PairIn, StoreIn}
 use Rattle.exchange_model.specs.Rotating.{has, Backed, carried_numbers, pair_at, place_of}
@@ -61,9 +61,16 @@ none-comes f gs t l o e w rs legal h =
     let it = comes-begun c o e w rs legal h in
     contains-none o (subst (λ (os : List ℕ). Contains os o) (openings-copied f gs t l) (begun-listed c o (ap is_some it.1)))
 
+none-ended : (f : ℕ → ℕ) (gs : List ℕ) (t : ℕ) (l : List Noted) (o : ℕ) (e : End) → Legal (copied f gs t l) → end_of (copied f gs t l) o ≡ Some e → ⊥
+none-ended f gs t l o e legal ended =
+    let c = copied f gs t l in
+    let it = ended-begun c o e legal ended in
+    contains-none o (subst (λ (os : List ℕ). Contains os o) (openings-copied f gs t l) (begun-listed c o (ap is_some it.1)))
+
 none-used : (f : ℕ → ℕ) (gs : List ℕ) (t : ℕ) (l : List Noted) (n : ℕ) (key : CacheKey) → Legal (copied f gs t l) → IsUse (copied f gs t l) n key → ⊥
 none-used f gs t l n key legal (inl u) = false≢true (copy-at (copied f gs t l) n _ (all-copies f gs t l) u.stands)
-none-used f gs t l n key legal (inr u) = none-comes f gs t l u.opening n u.response (u.first ∷ u.more) legal u.comes
+none-used f gs t l n key legal (inr (inl u)) = none-comes f gs t l u.opening n u.response (u.first ∷ u.more) legal u.comes
+none-used f gs t l n key legal (inr (inr u)) = none-ended f gs t l u.opening _ legal u.ended
 
 -- The copy of an entry has its moment.
 moved-at : (gs : List ℕ) (f : ℕ → ℕ) (t : ℕ) (l : List Noted) (n : ℕ) (x : Noted) → AreBacked gs l → ArePlaced gs f t l → has gs n ≡ true → at l n ≡ Some x
@@ -261,22 +268,25 @@ module _ (ws : List Written) (t : ℕ) (l : List Noted) (bs : List Backed) (lega
             request = q;
             get = h.facts.get;
             key = h.facts.key;
-            stored = inr (record {
-              opening = f o;
-              first = renumber h.facts.first;
-              more = map renumber h.facts.more;
-              carries = carried-so;
-              code = h.facts.code;
-              same = asks-itself q h.facts.get;
-              current = ap (list_any _) (openings-copied f gs t l);
-              newest = none-outdated f gs t l (asked_key q) (f h.facts.first.number);
-              alone = λ k e w r more comes joins current. none-comes f gs t l k e w (r ∷ more) legal_copied comes;
-              entry = first.0;
-              heard_in = first.1;
-              heard = h.facts.heard ∙ sym first.2;
-              origin = refl;
-              list = ap (map (place_of ws)) h.facts.list ∙ moved-numbers rs;
-            });
+            stored = inl (inr (
+              record {
+                opening = f o;
+                first = renumber h.facts.first;
+                more = map renumber h.facts.more;
+                carries = carried-so;
+                code = h.facts.code;
+                same = asks-itself q h.facts.get;
+                current = ap (list_any _) (openings-copied f gs t l);
+                newest = none-outdated f gs t l (asked_key q) (f h.facts.first.number);
+                alone = λ k e w r more comes joins current. none-comes f gs t l k e w (r ∷ more) legal_copied comes;
+                entry = first.0;
+                heard_in = first.1;
+                heard = h.facts.heard ∙ sym first.2;
+                origin = refl;
+                list = ap (map (place_of ws)) h.facts.list ∙ moved-numbers rs;
+              },
+              λ e a. none-ended f gs t l a.opening _ legal_copied a.ended,
+            ));
           }
         where
           asks-itself : (q : CoapRequest) → is_get q ≡ true → asks_same q q ≡ true
@@ -318,8 +328,9 @@ module _ (ws : List Written) (t : ℕ) (l : List Noted) (bs : List Backed) (lega
     in-order (c ∷ cs) h = inr h
 
     kept : (q : CoapRequest) (s : Stored) → IsStored after q s → is_never_fresh s ≡ false → HasPair (map (pair_at ws) bs) (asked_key q) ⊎ IsCrowdedOut after (asked_key q)
-    kept q s (inl is) lasts = absurd (none-comes f gs t l is.opening is.ending s.response (is.first ∷ is.more) legal_copied is.comes)
-    kept q s (inr is) lasts =
+    kept q s (inl (inl is)) lasts = absurd (none-comes f gs t l is.0.opening is.0.ending s.response (is.0.first ∷ is.0.more) legal_copied is.0.comes)
+    kept q s (inr is) lasts = absurd (none-ended f gs t l is.renewal.opening _ legal_copied is.renewal.ended)
+    kept q s (inl (inr (is, none))) lasts =
         let e = is.carries.exchange in
         let ask = carried-back gs f t l is.opening e placed is.carries.asked in
         let it = ask-listed l bs legal taken ask.number e ask.listed ask.asked in

@@ -81,7 +81,8 @@ reads-keep x l k o h = by (at l k) refl h
     by (Some y) e h = rw (at-keeps x l k y e) h
 
 grounds-keep : (l : List Noted) (t s c j : ℕ) (a : Grounds) (k : ℕ) (g : Grounds) → HasGrounds l t k g → HasGrounds (noted s (Answers c j a) Plain ∷ l) t k g
-grounds-keep l t s c j a k (Live js) (o, e, w, rs, is, ends, same) = (o, e, w, rs, reads-keep _ l k o is, ends, same)
+grounds-keep l t s c j a k (Live js) (inl (o, e, w, rs, is, ends, same)) = inl (o, e, w, rs, reads-keep _ l k o is, ends, same)
+grounds-keep l t s c j a k (Live js) (inr (o, e, u, r, is, ends, same)) = inr (o, e, u, r, reads-keep _ l k o is, ends, same)
 grounds-keep l t s c j a k (KeptGround js) (d, b, stands) = (d, b, at-keeps _ l k _ stands)
 grounds-keep l t s c j a k (Fault cause n) h = by cause h
   where

@@ -4,7 +4,7 @@ use Rattle.std.specs.List.{AllByRecursion, Contains, list_any, cons_option}
 use Rattle.std.proofs.lemmas.Bool.{false≢true, or_right}
 use Rattle.std.proofs.lemmas.Bool.Decides.{eqb_tells}
 use Rattle.journal_book.specs.Entries.{Live, Asks}
-use Rattle.history_laws.specs.Progress.{Ending, Whole, NotUnderstood, Reset, TimedOut, Turned}
+use Rattle.history_laws.specs.Progress.{Ending, Whole, NotUnderstood, Reset, TimedOut, Turned, Renewed}
 use Rattle.history_laws.specs.Readings.{Noted, noted}
 use Rattle.history_laws.specs.Transmissions.{sent_last}
 use Rattle.history_laws.specs.Justified.{Ends}
@@ -26,6 +26,7 @@ is-told l x a g = record { asked = noted a.moment (Asks x.reader.conn a.ask) a.n
 
 pub grounds-bare : (how : Ending) (n : ℕ) (sending : Option ℕ) (r : Reader) → grounds_for how n sending r ≡ grounds_for (bare_ending how) n sending r
 grounds-bare (Whole w rs) n sending r = ap Live (sym (numbers-bare rs))
+grounds-bare (Renewed s u) n sending r = refl
 grounds-bare NotUnderstood n sending r = refl
 grounds-bare Reset n sending r = refl
 grounds-bare TimedOut n sending r = refl
@@ -33,7 +34,8 @@ grounds-bare Turned n sending r = refl
 
 pub grounds-as : (l : List Noted) (o n : ℕ) (how : Ending) (sending : Option ℕ) (r : Reader) → Ends l o n how → sent_last l o ≡ sending
     → GroundsFor l r.ask o (grounds_for how n sending r)
-grounds-as l o n (Whole w rs) sending r h e = (n, w, rs, h, refl)
+grounds-as l o n (Whole w rs) sending r h e = inl (n, w, rs, h, refl)
+grounds-as l o n (Renewed s u) sending r h e = inr (n, s, u, h, refl)
 grounds-as l o n NotUnderstood sending r h e = h
 grounds-as l o n Reset sending r h e = h
 grounds-as l o n TimedOut None r h e = (inr (e, refl), (n, h))

@@ -7,7 +7,7 @@ use Rattle.uri_map.specs.Peers.{same_peer}
 use Rattle.message_layer.specs.Values.{LinkState}
 use Rattle.journal_book.specs.Entries.{Passes, Deed}
 use Rattle.observe_share.specs.Watches.{without}
-use Rattle.exchange_model.specs.Steps.{is_unwatched, is_of_none, retired, entered, is_gone, passes, timed_out}
+use Rattle.exchange_model.specs.Steps.{is_unwatched, is_of_none, retired, entered, is_gone, passes, timed_out, is_stale_of_none}
 use Rattle.exchange_model.specs.Entering.{tick_deeds, answer_of, all_deeds, moved_by, entered_all, link_after, StandsOnce, TicksEnter, StaysDrained}
 use Rattle.exchange_model.specs.State.{PeerLink, State, with_link}
 use Rattle.exchange_model.specs.Calls.{Telling, tells, told_late, move_all}
@@ -22,12 +22,13 @@ ticks-enter t S may drained due =
     ∙ after t (Passes ∷ all_deeds t (is_gone t S) S.links) (map answer_of xs) (moved_by t S).exchanges (moved_by t S).exchanges
     (moved_by t S).links (moved_by t S).links K (move_all t (passes t S)) (fold (tells t) (move_all t (passes t S)) xs) moved
     (told-put t xs (move_all t (passes t S)) ∙ ap (λ (U : State). put t (map answer_of xs) U.exchanges U.links (move_all t (passes t S))) moved)
-    ∙ ap (λ (U : State). record U { exchanges = (moved_by t S).exchanges; links = (moved_by t S).links }) (stored t (tick_deeds t S) K.pieces K.watches K.store S)
+    ∙ ap (λ (U : State). record U { exchanges = (moved_by t S).exchanges; links = (moved_by t S).links }) (stored t (tick_deeds t S) K.pieces K.stales K.watches K.store S)
   where
     -- the state with the pieces, the watches and what is stored after it
     K : State
     K = record S {
       pieces = filter (is_of_none (timed_out t S)) S.pieces;
+      stales = filter (is_stale_of_none (timed_out t S)) S.stales;
       watches = without (is_unwatched t S) S.watches;
       store = retired S.entries (timed_out t S) S.store;
     }

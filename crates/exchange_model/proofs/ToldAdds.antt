@@ -37,7 +37,7 @@ still-waits c (r ∷ rs) cs a h = (by cs h.0, still-waits c rs cs a.1 h.1)
     by (x ∷ xs) (inr k) = inr (by xs k)
 
 pub all-told-adds : (t : ℕ) (xs : List Telling) (S : State) → Tidy S.links → AreWaiting (readers_in xs) S.conns → Apart (readers_in xs)
-    → AllByRecursion (λ (x : Telling). grounds_size x.grounds ≤ 16388) xs → Adds 0 0 S (fold (tells t) S xs)
+    → AllByRecursion (λ (x : Telling). grounds_size x.grounds ≤ 16392) xs → Adds 0 0 S (fold (tells t) S xs)
 all-told-adds t [] S h waits apart small = stays 0 0 S h
 all-told-adds t (x ∷ xs) S h waits apart small =
     let one = answers-adds t x.reader.conn x.reader.ask x.grounds S h waits.0 small.0 in
@@ -85,18 +85,18 @@ late-served es rs cs waits apart = (
 
 -- What is told of it isn't long.
 abbrev pub IsBrief : ℕ → Matter → Type 0
-IsBrief n x = (e : Exchange) (how : Ending) (r : Reader) → x ≡ Over e how → grounds_size (grounds_for how n e.sending r) ≤ 16388
+IsBrief n x = (e : Exchange) (how : Ending) (r : Reader) → x ≡ Over e how → grounds_size (grounds_for how n e.sending r) ≤ 16392
 
 pub for-adds : (t n : ℕ) (x : Matter) (rs : List Reader) (S : State) → Tidy S.links → AreWaiting rs S.conns → Apart rs → IsBrief n x
     → Adds 0 0 S (fold (tells t) S (told_for n x rs))
 for-adds t n x rs S h waits apart brief =
     let served = for-served n x rs S.conns waits apart in
     all-told-adds t (told_for n x rs) S h served.0 served.1
-    (for-all (λ (y : Telling). grounds_size y.grounds ≤ 16388) (Contains rs) n x rs (λ e how r is a same. brief e how r is) (all-in rs))
+    (for-all (λ (y : Telling). grounds_size y.grounds ≤ 16392) (Contains rs) n x rs (λ e how r is a same. brief e how r is) (all-in rs))
 
 pub late-adds : (t : ℕ) (es : List Exchange) (rs : List Reader) (S : State) → Tidy S.links → AreWaiting rs S.conns → Apart rs
     → Adds 0 0 S (fold (tells t) S (told_late es rs))
 late-adds t es rs S h waits apart =
     let served = late-served es rs S.conns waits apart in
     all-told-adds t (told_late es rs) S h served.0 served.1
-    (late-all (λ (x : Telling). grounds_size x.grounds ≤ 16388) (Contains rs) es rs (λ e r in_es a same. omega arith) (all-in rs))
+    (late-all (λ (x : Telling). grounds_size x.grounds ≤ 16392) (Contains rs) es rs (λ e r in_es a same. omega arith) (all-in rs))

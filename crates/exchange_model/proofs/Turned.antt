@@ -1,7 +1,7 @@
 -- After a turn a state reads the copies.
 use Rattle.std.proofs.Common.{◌≡◌, ℕ, ◌<◌, ◌≤◌, Bool, true, false, cond, List, [], ◌∷◌, length, map, Option, Some, None, refl, sym, ap, subst, ◌∙◌, arith, append-nil}
 use Rattle.std.specs.Prelude.{not, ◌||◌, nat_lt, filter, is_some}
-use Rattle.std.specs.List.{AllByRecursion, list_any, find}
+use Rattle.std.specs.List.{AllByRecursion, list_any, find, list_all}
 use Rattle.std.proofs.lemmas.Bool.{false≢true, ltb-false}
 use Rattle.std.proofs.lemmas.List.Sums.{count_by-le-length, length-filter}
 use Rattle.limits.specs.declared.TheConstants.{MAX_NUMBERED}
@@ -43,6 +43,8 @@ use Rattle.exchange_model.proofs.CopiedLegal.{legal-copied}
 use Rattle.exchange_model.proofs.CopiedLinks.{kept-agrees}
 use Rattle.exchange_model.proofs.CopiedUnknown.{known-copied, knows-copy, none-agrees, of_copy, of_peer}
 use Rattle.exchange_model.proofs.Shapes as H
+use Rattle.exchange_model.specs.Steps.{is_piece_at}
+use Rattle.resp_cache.specs.declared.pair.Pair.{Pair}
 
 -- A turn is made where there are numbers left.
 
@@ -269,7 +271,7 @@ module _ (t : ℕ) (l : List Noted) (S : State) (r : Reads l S) where
 
   are_taken : AreTaken l bs
   are_taken = are-taken t S l r.entries_are
-      (all-more (PairIn l) (StoredFacts l) (λ p a. stored-facts l p r.legal a) S.store r.store_is.pairs)
+      (all-more (PairIn l) (λ (p : Pair). list_all (is_piece_at S.entries) p.stored.list ≡ true → StoredFacts l p) (λ p a. stored-facts l S p r a) S.store r.store_is.pairs)
       (keys-apart l (length l) S.store r.store_is.order)
 
   all_backed : AreBacked gs l
@@ -315,6 +317,7 @@ module _ (t : ℕ) (l : List Noted) (S : State) (r : Reads l S) where
     keys = none-open f gs t l;
     exchanges_are = tt;
     pieces_are = record { fetched = tt; below = tt };
+    stales_are = record { kept = tt; below = tt };
     watches_are = ap (map held_of) (unwatched f gs t l);
     store_is = store-turned ws t l bs r.legal are_taken placed legal_next;
     tokens_are = issued-copied (λ (m : Content). token_number m.token < S.issued) f gs t l r.tokens_are;

@@ -7,8 +7,8 @@ use Rattle.ask_model.specs.Sharing.{asked_place, writes_to}
 use Rattle.cache_key.specs.Keys.{same_place}
 use Rattle.journal_book.specs.Entries.{Deed, Asks, Sends, Hears, Passes}
 use Rattle.observe_share.specs.declared.registration.Registration.{Registration}
-use Rattle.history_laws.specs.Readings.{Noted, Note, Begins, First, Says, noted}
-use Rattle.history_laws.specs.Exchanges.{Nothing, Sent, begun, end_by, end_here, end_of, replies}
+use Rattle.history_laws.specs.Readings.{Noted, Note, Begins, First, Says, noted, Renews}
+use Rattle.history_laws.specs.Exchanges.{Nothing, Sent, begun, end_by, end_here, end_of, replies, kept as kept_of}
 use Rattle.history_laws.specs.Joining.{outrun}
 use Rattle.history_laws.specs.Justified.{Legal}
 use Rattle.history_laws.specs.Observing.{Watch, asked_again, asked_by, current_by, is_current, is_for, watches, watches_by}
@@ -37,7 +37,7 @@ none-ends l t (Hears p b) (Says m to notice) h o = absurd h
 none-ends l t Passes note h o = absurd h
 none-ends l t (Sends p b w) (First q m) h o = by (eqb q o)
   where
-    by : (b : Bool) → end_by (end_here (begun l o) (length l) (replies l o) (cond b (Sent (length l)) Nothing)) (length l) (end_of l o) ≡ end_of l o
+    by : (b : Bool) → end_by (end_here (begun l o) (kept_of l o) (length l) (replies l o) (cond b (Sent (length l)) Nothing)) (length l) (end_of l o) ≡ end_of l o
     by true = refl
     by false = refl
 none-ends l t d note h o = refl
@@ -68,6 +68,7 @@ current-step l t (Asks c a) note legal all = by a.sense note
 
     by : (s : Sense) (n : Note) → AllByRecursion P (asked_by t s n (watches l))
     by (Requests q) (Begins r) = all-filter P (λ (w : Watch). not (is_for q w)) (watches l) still
+    by (Requests q) (Renews r s) = all-filter P (λ (w : Watch). not (is_for q w)) (watches l) still
     by (Requests q) n = all-map (asked_again q t) P (watches l) (all-more P (λ (w : Watch). P (asked_again q t w)) (again q) (watches l) still)
     by (Refuses cause status) n = still
 current-step l t d note legal all = all-more (IsCurrent l) (IsCurrent (noted t d note ∷ l)) (current-stays l t d note tt legal) (watches l) all

@@ -14,21 +14,23 @@ use Rattle.ask_model.specs.Sharing.{asked_key}
 use Rattle.ask_model.specs.Views.{Ask}
 use Rattle.journal_book.specs.Entries.{Deed, Asks, Carries}
 use Rattle.history_laws.specs.Readings.{Noted, Note, Serves, carries, noted, at}
-use Rattle.history_laws.specs.Exchanges.{end_of}
+use Rattle.history_laws.specs.Exchanges.{end_of, begun, end_here, kept, replies, turn}
 use Rattle.history_laws.specs.Joining.{outrun}
 use Rattle.history_laws.specs.Observing.{counting, outdated}
-use Rattle.history_laws.specs.Storing.{IsServing, IsUnused, IsUse, IsUsedSince, KeysDiffer, IsCrowdedOut}
+use Rattle.history_laws.specs.Storing.{IsServing, IsUnused, IsUse, IsUsedSince, KeysDiffer, IsCrowdedOut, first_in}
 use Rattle.history_laws.specs.Justified.{Legal}
-use Rattle.history_laws.proofs.CallerLemmas.{all-filter, all-more, at-below, at-keeps, at-old, before-keeps, begun-keeps}
+use Rattle.history_laws.proofs.CallerLemmas.{all-filter, all-more, at-below, at-keeps, at-old, before-keeps, begun-keeps, end-below, end-keeps, end-old, ended-begun}
 use Rattle.exchange_model.specs.Reads.{AreUnused, IsLastUse, AreLastFirst, HasPair}
 use Rattle.exchange_model.proofs.Carried.{IsOwn, under-stays}
 use Rattle.exchange_model.proofs.Came.{comes-back, comes-begun, comes-below, comes-keeps, none-comes}
+use Rattle.history_laws.specs.Progress.{Ending, Renewed}
 
 -- a use stands
 
 pub use-below : (l : List Noted) (n : ℕ) (key : CacheKey) → IsUse l n key → n < length l
 use-below l n key (inl h) = at-below l n _ h.stands
-use-below l n key (inr h) = comes-below l h.opening n h.response (h.first ∷ h.more) h.comes
+use-below l n key (inr (inl h)) = comes-below l h.opening n h.response (h.first ∷ h.more) h.comes
+use-below l n key (inr (inr h)) = end-below l h.opening n _ h.ended
 
 pub use-keeps : (x : Noted) (l : List Noted) (n : ℕ) (key : CacheKey) → IsUse l n key → IsUse (x ∷ l) n key
 use-keeps x l n key (inl h) = inl (record {
@@ -41,7 +43,7 @@ use-keeps x l n key (inl h) = inl (record {
   sense = h.sense;
   is = h.is;
 })
-use-keeps x l n key (inr h) = inr (record {
+use-keeps x l n key (inr (inl h)) = inr (inl (record {
   opening = h.opening;
   response = h.response;
   first = h.first;
@@ -55,7 +57,21 @@ use-keeps x l n key (inr h) = inr (record {
   current = ap (λ (older : List Noted). outrun older key.place h.opening) (before-keeps x l n (comes-below l h.opening n h.response (h.first ∷ h.more) h.comes)) ∙ h.current;
   newest = ap (λ (older : List Noted). outdated older key h.first.number) (before-keeps x l n (comes-below l h.opening n h.response (h.first ∷ h.more) h.comes)) ∙ h.newest;
   lasts = h.lasts;
-})
+}))
+use-keeps x l n key (inr (inr h)) = inr (inr (record {
+  opening = h.opening;
+  kept = h.kept;
+  reply = h.reply;
+  ended = end-keeps x l h.opening _ h.ended;
+  since = h.since;
+  request = h.request;
+  opened = begun-keeps x l h.opening _ h.opened;
+  get = h.get;
+  is = h.is;
+  current = ap (λ (older : List Noted). outrun older key.place h.kept.opening) (before-keeps x l n (end-below l h.opening n _ h.ended)) ∙ h.current;
+  newest = ap (λ (older : List Noted). outdated older key (first_in h.kept.list)) (before-keeps x l n (end-below l h.opening n _ h.ended)) ∙ h.newest;
+  lasts = h.lasts;
+}))
 
 -- what was one before the newest entry was one
 pub use-back : (x : Noted) (l : List Noted) (n : ℕ) (key : CacheKey) → Legal (x ∷ l) → IsUse (x ∷ l) n key → n ≢ length l → IsUse l n key
@@ -63,11 +79,11 @@ use-back x l n key legal (inl h) other = elim (at-old x l n _ h.stands) [
   | inl w ↦ absurd (other w.0)
   | inr w ↦ inl (record { moment = h.moment; conn = h.conn; ask = h.ask; replies = h.replies; stands = w; request = h.request; sense = h.sense; is = h.is })
 ]
-use-back x l n key legal (inr h) other =
+use-back x l n key legal (inr (inl h)) other =
     let old = comes-back x l h.opening n h.response (h.first ∷ h.more) h.comes other in
     let was = comes-begun l h.opening n h.response (h.first ∷ h.more) legal.0 old in
     let below = comes-below l h.opening n h.response (h.first ∷ h.more) old in
-    inr (record {
+    inr (inl (record {
       opening = h.opening;
       response = h.response;
       first = h.first;
@@ -81,7 +97,29 @@ use-back x l n key legal (inr h) other =
       current = ap (λ (older : List Noted). outrun older key.place h.opening) (sym (before-keeps x l n below)) ∙ h.current;
       newest = ap (λ (older : List Noted). outdated older key h.first.number) (sym (before-keeps x l n below)) ∙ h.newest;
       lasts = h.lasts;
-    })
+    }))
+use-back x l n key legal (inr (inr h)) other =
+    let old : end_of l h.opening ≡ Some (record { number = n; how = Renewed h.kept h.reply }) =
+    elim (end-old (end_here (begun l h.opening) (kept l h.opening) (length l) (replies l h.opening) (turn l h.opening x)) (length l) (end_of l h.opening) _ h.ended) [
+      | inl was ↦ was
+      | inr new ↦ absurd (other (sym new.1))
+    ] in
+    let was = ended-begun l h.opening _ legal.0 old in
+    let below = end-below l h.opening n _ old in
+    inr (inr (record {
+      opening = h.opening;
+      kept = h.kept;
+      reply = h.reply;
+      ended = old;
+      since = h.since;
+      request = h.request;
+      opened = was.1 ∙ (sym (begun-keeps x l h.opening was.0 was.1) ∙ h.opened);
+      get = h.get;
+      is = h.is;
+      current = ap (λ (older : List Noted). outrun older key.place h.kept.opening) (sym (before-keeps x l n below)) ∙ h.current;
+      newest = ap (λ (older : List Noted). outdated older key (first_in h.kept.list)) (sym (before-keeps x l n below)) ∙ h.newest;
+      lasts = h.lasts;
+    }))
 
 -- the newest entry uses nothing under the key
 abbrev pub Unused : Noted → List Noted → CacheKey → Type 0
@@ -112,14 +150,19 @@ newest-is x l y e = elim (at-old x l (length l) y e) [
 pub unserved : (x : Noted) (l : List Noted) (key : CacheKey) → NotServing x.written.deed x.note → IsServing (x ∷ l) (length l) key → ⊥
 unserved x l key h s = serves-not x s.moment s.conn s.ask s.replies h (newest-is x l _ s.stands)
 
+no-end : (x : Noted) (l : List Noted) (o : ℕ) (how : Ending) → end_of (x ∷ l) o ≡ end_of l o → end_of (x ∷ l) o ≡ Some (record { number = length l; how = how }) → ⊥
+no-end x l o how same e = let below = end-below l o (length l) how (sym same ∙ e) in omega (arith, below)
+
 pub unused-still : (x : Noted) (l : List Noted) → ((o : ℕ) → end_of (x ∷ l) o ≡ end_of l o) → counting l x.note ≡ None → NotServing x.written.deed x.note → (key : CacheKey) → Unused x l key
 unused-still x l same silent h key (inl s) = unserved x l key h s
-unused-still x l same silent h key (inr s) = none-comes x l s.opening s.response (s.first ∷ s.more) (same s.opening) silent s.comes
+unused-still x l same silent h key (inr (inl s)) = none-comes x l s.opening s.response (s.first ∷ s.more) (same s.opening) silent s.comes
+unused-still x l same silent h key (inr (inr s)) = no-end x l s.opening _ (same s.opening) s.ended
 
 -- What is served is used, and nothing else.
 pub served-key : (x : Noted) (l : List Noted) (t c : ℕ) (a : Ask) (js : List ℕ) (key k : CacheKey) → x ≡ noted t (Asks c a) (Serves js) → ((o : ℕ) → end_of (x ∷ l) o ≡ end_of l o) → counting l x.note ≡ None
     → ((q : CoapRequest) → a.sense ≡ Requests q → asked_key q ≡ key) → IsUse (x ∷ l) (length l) k → k ≡ key
-served-key x l t c a js key k is same silent asks (inr s) = absurd (none-comes x l s.opening s.response (s.first ∷ s.more) (same s.opening) silent s.comes)
+served-key x l t c a js key k is same silent asks (inr (inl s)) = absurd (none-comes x l s.opening s.response (s.first ∷ s.more) (same s.opening) silent s.comes)
+served-key x l t c a js key k is same silent asks (inr (inr s)) = absurd (no-end x l s.opening _ (same s.opening) s.ended)
 served-key x l t c a js key k is same silent asks (inl s) = sym s.is ∙ asks s.request (ap (λ (b : Ask). b.sense) (ask-is (sym is ∙ newest-is x l _ s.stands)) ∙ s.sense)
   where
     ask-is : noted t (Asks c a) (Serves js) ≡ noted s.moment (Asks s.conn s.ask) (Serves s.replies) → a ≡ s.ask

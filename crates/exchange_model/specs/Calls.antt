@@ -1,5 +1,5 @@
 -- What each call does: an input, and all that is due because of it.
-use Rattle.std.specs.Prelude.{◌≡◌, ℕ, Bool, false, ◌&&◌, ◌||◌, ◌==◌, nat_lt, nat_le, List, [], ◌∷◌, length, map, filter, filter_map, fold, Option, Some, None, option_map, is_some, unwrap_or, Result, Ok, Err, if◌then◌else◌}
+use Rattle.std.specs.Prelude.{◌≡◌, ℕ, Bool, false, ◌&&◌, ◌||◌, ◌==◌, nat_lt, nat_le, List, [], ◌∷◌, ◌++◌, length, map, filter, filter_map, fold, Option, Some, None, option_map, is_some, unwrap_or, Result, Ok, Err, if◌then◌else◌}
 use Rattle.std.specs.List.{find, list_any}
 use Rattle.std.specs.Option.{option_map_or}
 use Rattle.limits.specs.declared.TheConstants.{MAX_DATAGRAM_LEN, MAX_EXCHANGES, MAX_MESSAGE_IDS, MAX_WAITING}
@@ -26,7 +26,7 @@ use Rattle.ask_model.specs.Views.{Ask}
 use Rattle.ask_model.specs.declared.cause.Cause.TheVariants as C
 use Rattle.journal_book.specs.Entries.{Grounds, Live, Kept, Fault, Written}
 use Rattle.history_laws.specs.Hearing.{is_such}
-use Rattle.history_laws.specs.Progress.{numbers, Ending, Whole, NotUnderstood, Reset, TimedOut, Turned, Progress}
+use Rattle.history_laws.specs.Progress.{numbers, Ending, Whole, Renewed, NotUnderstood, Reset, TimedOut, Turned, Progress}
 use Rattle.exchange_model.specs.declared.kept.Exchange.{Exchange}
 use Rattle.exchange_model.specs.declared.kept.Reader.{Reader}
 use Rattle.exchange_model.specs.State.{PeerLink, State, link_of}
@@ -110,6 +110,7 @@ is_reader_of e r = r.opening == e.opening
 -- sending is named where it took too long, or the ask itself where nothing was sent
 abbrev pub grounds_for : Ending → ℕ → Option ℕ → Reader → Grounds
 grounds_for (Whole w rs) n sending r = Live (numbers rs)
+grounds_for (Renewed s u) n sending r = Live (s.list ++ u.number ∷ [])
 grounds_for NotUnderstood n sending r = Fault C.NotUnderstood n
 grounds_for Reset n sending r = Fault C.Reset n
 grounds_for TimedOut n sending r = Fault C.Timeout (unwrap_or sending r.ask)

@@ -30,7 +30,7 @@ use Rattle.journal_book.specs.Entries.{Kept, Fault, Deed, Asks, Sends, Hears, Pa
 use Rattle.exchange_model.specs.declared.kept.Exchange.{Exchange}
 use Rattle.exchange_model.specs.Watching.{is_one_of, is_renewed_by, tokens_of, touched_for}
 use Rattle.exchange_model.specs.State.{PeerLink, State, link_of, with_link}
-use Rattle.exchange_model.specs.Steps.{entered, exchange_for, reader_for, joins, left_by, Numbers, Matter, Nothing, matter_of, more_by, issued_by, exchanges_by, gone_by, pieces_by, store_by, watches_by, is_of_none, is_unwatched, retired, given_out, went_out, timed_out, goes_on, is_gone}
+use Rattle.exchange_model.specs.Steps.{entered, exchange_for, reader_for, joins, left_by, Numbers, Matter, Nothing, matter_of, more_by, issued_by, exchanges_by, gone_by, kept_for, pieces_by, stale_for, stales_by, store_by, watches_by, is_of_none, is_stale_of_none, is_unwatched, retired, given_out, went_out, timed_out, goes_on, is_gone}
 use Rattle.exchange_model.specs.Calls.{Telling, told_for, told_late, has_place, served_in, IsAlone, joined, asked, heard, something_due, ticked}
 use Rattle.exchange_model.specs.Keeping.{MayStep, IsNumbered, MayGoOn}
 
@@ -94,6 +94,7 @@ begun t c a q n S =
     let S1 = entered_all t (begin_deeds t c a q n S) S in record S1 {
       issued = S.issued + 1;
       exchanges = S.exchanges ++ begun_exchange t a q n S ∷ [];
+      stales = S.stales ++ stale_for (length S.entries) (kept_for t a q S);
       readers = S.readers ++ reader_for c S ∷ [];
       watches = without (is_renewed_by q) S.watches;
       links = with_link q.peer
@@ -160,6 +161,7 @@ heeded t p d mid token v x S =
           sent_as (heard_going p mid v x S)
           (exchanges_by S.entries x.numbers.token x.matter S.exchanges);
       pieces = pieces_by (length S.entries) x.matter S.pieces;
+      stales = stales_by x.matter S.stales;
       watches = x.watches;
       store = store_by S.entries t x.matter S.store;
       links = with_link p
@@ -233,6 +235,7 @@ abbrev pub moved_by : ℕ → State → State
 moved_by t S =
     let gone = is_gone t S in let S1 = entered_all t (tick_deeds t S) S in record S1 {
       pieces = filter (is_of_none (timed_out t S)) S.pieces;
+      stales = filter (is_stale_of_none (timed_out t S)) S.stales;
       exchanges =
           sent_as (all_going t gone (length S.entries + 1) S.links)
           (left_by S.entries (timed_out t S) (filter (goes_on t S) S.exchanges));
@@ -256,7 +259,7 @@ pub record IsDrained (S : State) : Type 0 where
 abbrev pub BeginsEnter : Type 0
 BeginsEnter =
     (t c : ℕ) (a : Ask) (q : CoapRequest) (n : Numbers) (S : State)
-    → MayStep t S → IsDrained S → IsNumbered a q n S
+    → MayStep t S → IsDrained S → IsNumbered t a q n S
     → a.sense ≡ Requests q → IsAlone t q S → has_place t q.peer S ≡ true
     → asked t c a n S ≡ begun t c a q n S
 

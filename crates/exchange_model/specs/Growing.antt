@@ -4,19 +4,20 @@ use Rattle.std.specs.Prelude.{◌≡◌, ◌≢◌, ◌⊎◌, ℕ, ◌+◌, ◌
 use Rattle.std.specs.List.{AllByRecursion, Contains}
 use Rattle.coap_codec.specs.Spelling.{Content, Spells}
 use Rattle.uri_map.specs.declared.peer.Peer.{Peer}
+use Rattle.resp_cache.specs.Stored.{Stored}
 use Rattle.resp_cache.specs.declared.pair.Pair.{Pair}
 use Rattle.ask_model.specs.Requests.{CoapRequest, Requests}
 use Rattle.ask_model.specs.Views.{Ask}
 use Rattle.journal_book.specs.Entries.{Ground, Heard, Deed, Opens, Asks, Sends, Hears, Answers, Shuts, Seals, Carries, Written}
 use Rattle.history_laws.specs.Readings.{carries}
-use Rattle.history_laws.specs.Responses.{whole_fetched}
+use Rattle.history_laws.specs.Responses.{Response, confirms, renewed_response, whole_fetched}
 use Rattle.exchange_model.specs.declared.kept.Conn.{Conn}
 use Rattle.exchange_model.specs.declared.kept.Exchange.{Exchange}
 use Rattle.exchange_model.specs.declared.kept.Reader.{Reader}
 use Rattle.exchange_model.specs.declared.kept.Work.{Work}
 use Rattle.exchange_model.specs.declared.kept.Work.TheVariants as W
 use Rattle.exchange_model.specs.State.{State, conns_after}
-use Rattle.exchange_model.specs.Steps.{shuts, seals, Numbers}
+use Rattle.exchange_model.specs.Steps.{shuts, seals, stale_in, Numbers}
 use Rattle.exchange_model.specs.Calls.{is_reader_of}
 use Rattle.exchange_model.specs.Room.{KeptInRoom}
 use Rattle.exchange_model.specs.Sealing.{opens_in_room, asks_in_room, hears_in_room, late, ticks_in_room}
@@ -194,5 +195,35 @@ pub record IsHeardIn (S : State) (p : Pair) : Type 0 where
       ⊎ AreCopiedFrom S p.stored.heard (number ∷ others) (message ∷ more)
   pub whole : whole_fetched message more ≡ Some p.stored.response
 
+-- What an exchange keeps was heard whole: all but Max-Age and format is as it was heard.
+pub record IsKeptIn (S : State) (s : Stored) : Type 0 where
+  pub message : Content
+  pub more : List Content
+  pub heard : AreHeardAt S s.list (message ∷ more) ⊎ AreCopiedAt S s.list (message ∷ more)
+  pub response : Response
+  pub whole : whole_fetched message more ≡ Some response
+  pub renewed : s.response
+      ≡ record response { format = s.response.format; max_age = s.response.max_age }
+
+-- What is renewed was kept so, and the last of its list is the 2.03 by which it was renewed: at that
+-- moment.
+pub record IsRenewedIn (S : State) (p : Pair) : Type 0 where
+  pub kept : Stored
+  pub was : IsKeptIn S kept
+  pub number : ℕ
+  pub renewal : Content
+  pub list : p.stored.list ≡ kept.list ++ number ∷ []
+  pub confirmed : (h : IsHeardAt S number renewal) × (h.moment ≡ p.stored.heard)
+  pub says : confirms kept.response.etag renewal ≡ true
+  pub opening : p.stored.opening ≡ kept.opening
+  pub renewed : p.stored.response ≡ renewed_response kept.response renewal
+
 abbrev pub StoreHeard : Type 0
-StoreHeard = (S : State) → KeptInRoom S → AllByRecursion (IsHeardIn S) S.store
+StoreHeard =
+    (S : State) → KeptInRoom S → AllByRecursion (λ (p : Pair). IsHeardIn S p ⊎ IsRenewedIn S p) S.store
+
+-- So was what an open exchange asks about.
+abbrev pub StalesHeard : Type 0
+StalesHeard =
+    (S : State) → KeptInRoom S → (e : Exchange) (s : Stored) → Contains S.exchanges e
+    → stale_in e.opening S.stales ≡ Some s → IsKeptIn S s

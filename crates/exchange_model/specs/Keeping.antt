@@ -18,9 +18,8 @@ use Rattle.history_laws.specs.Sealing.{MaySeal}
 use Rattle.history_laws.specs.Justified.{Stands}
 use Rattle.observe_share.specs.declared.registration.Registration.{Registration}
 use Rattle.exchange_model.specs.declared.kept.Exchange.{Exchange}
-use Rattle.exchange_model.specs.Watching.{wants}
 use Rattle.exchange_model.specs.State.{State, link_of}
-use Rattle.exchange_model.specs.Steps.{opens, shuts, seals, Numbers}
+use Rattle.exchange_model.specs.Steps.{opens, shuts, seals, asks_so, Numbers}
 use Rattle.exchange_model.specs.Resting.{LinkRests, Rests, HasConn}
 use Rattle.exchange_model.specs.Calls.{has_place, IsAlone, asked, goes_by, heard, ticked}
 
@@ -47,6 +46,7 @@ start = record {
   readers = [];
   exchanges = [];
   pieces = [];
+  stales = [];
   watches = [];
   store = [];
   links = [];
@@ -84,9 +84,9 @@ IsProper (Requests q) = Unit {0}
 IsProper (Refuses cause status) = IsRefusal cause
 
 -- Its first message is spelled under the next token, and its body keeps the limit.
-pub record IsNumbered (a : Ask) (q : CoapRequest) (n : Numbers) (S : State) : Type 0 where
+pub record IsNumbered (t : ℕ) (a : Ask) (q : CoapRequest) (n : Numbers) (S : State) : Type 0 where
   pub short : length q.body ≤ MAX_BODY_LEN
-  pub spelled : Spells (opening_message (wants a q S.watches) q 0 n.token) n.text
+  pub spelled : Spells (opening_message (asks_so t a q S) q 0 n.token) n.text
   pub token_size : length n.token ≡ 8
   pub number : token_number n.token ≡ S.issued
 
@@ -95,7 +95,7 @@ AsksKeeps =
     (t c : ℕ) (a : Ask) (n : Numbers) (S : State)
     → MayStep t S → HasConn S.conns c None → IsProper a.sense
     → ((q : CoapRequest) → a.sense ≡ Requests q → IsAlone t q S → has_place t q.peer S ≡ true
-    → IsNumbered a q n S)
+    → IsNumbered t a q n S)
     → Kept (asked t c a n S)
 
 -- Where an exchange goes on by the datagram, its next message may follow.

@@ -11,13 +11,13 @@ use Rattle.message_layer.specs.declared.state.Waiting.{Waiting}
 use Rattle.message_layer.specs.declared.state.Outstanding.{Outstanding}
 use Rattle.message_layer.specs.declared.verdict.Verdict.{Verdict}
 use Rattle.resp_cache.specs.Stored.{Stored}
-use Rattle.ask_model.specs.Requests.{CoapRequest, Requests, opening_message}
+use Rattle.ask_model.specs.Requests.{CoapRequest, Requests, Plainly, opening_message}
 use Rattle.ask_model.specs.Views.{Ask}
 use Rattle.ask_model.specs.Sharing.{asked_key}
 use Rattle.journal_book.specs.Entries.{Grounds, Opens, Asks, Sends, Hears, Passes, Answers, Shuts, Seals}
 use Rattle.history_laws.specs.Confirmations.{Confirmation}
 use Rattle.history_laws.specs.Numbering.{token_number}
-use Rattle.history_laws.specs.Readings.{Noted, Plain, Begins, Joins, Serves, Confirms, Repeats, Garbled, ticked, noted}
+use Rattle.history_laws.specs.Readings.{Noted, Plain, Joins, Serves, Confirms, Repeats, Garbled, ticked, noted}
 use Rattle.history_laws.specs.Connections.{is_open, asks_of, answers_of}
 use Rattle.history_laws.specs.Transmissions.{mids_used}
 use Rattle.history_laws.specs.Hearing.{knows, repeated, can_be_remembered, has_room}
@@ -28,11 +28,10 @@ use Rattle.history_laws.specs.Storing.{MissesAlone}
 use Rattle.history_laws.specs.Joining as H
 use Rattle.history_links.specs.Agrees.{due}
 use Rattle.history_links.specs.Steps.{MaySend, copy, first, heard, reset}
-use Rattle.exchange_model.specs.Watching.{wants}
 use Rattle.exchange_model.specs.State.{State, link_of}
 use Rattle.exchange_model.specs.Reads.{Reads}
 use Rattle.exchange_model.specs.Calls.{served_in}
-use Rattle.exchange_model.specs.Steps.{opens, asks, answers, shuts, seals, asked_in, begins, recalls, joins, confirms, hears_nothing, sends_first, sends_copy, Numbers, Goes, matter_of, hears, passes}
+use Rattle.exchange_model.specs.Steps.{opens, asks, answers, shuts, seals, asked_in, asks_so, begins, kept_for, opening_note, recalls, joins, confirms, hears_nothing, sends_first, sends_copy, Numbers, Goes, matter_of, hears, passes}
 use Rattle.exchange_model.specs.declared.kept.Exchange.{Exchange}
 use Rattle.history_laws.specs.Progress.{Progress, next_message}
 
@@ -94,16 +93,17 @@ JoinsLeads =
     → Before l t S → MayCome l → MayAsk l c → a.sense ≡ Requests q → MissesAlone l t q → H.joins l q ≡ Some o
     → Leads l (noted t (Asks c a) (Joins o)) (joins t c a o S)
 
--- Any other opens an exchange, and its message waits last.
+-- Any other opens an exchange, and its message waits last. It asks about what is stored for it and
+-- isn't fresh.
 abbrev pub BeginsLeads : Type 0
 BeginsLeads =
     (l : List Noted) (t c : ℕ) (a : Ask) (q : CoapRequest) (token text : List ℕ) (word : ℕ)
     (S : State)
     → Before l t S → MayCome l → MayAsk l c
     → a.sense ≡ Requests q → MissesAlone l t q → H.joins l q ≡ None → has_room l t q ≡ true → length q.body ≤ MAX_BODY_LEN
-    → Spells (opening_message (wants a q S.watches) q 0 token) text
+    → Spells (opening_message (asks_so t a q S) q 0 token) text
     → length token ≡ 8 → token_number token ≡ S.issued
-    → Leads l (noted t (Asks c a) (Begins q)) (begins t c a q token text word S)
+    → Leads l (noted t (Asks c a) (opening_note q (kept_for t a q S))) (begins t c a q token text word S)
 
 -- The message that waits first at an endpoint goes out where nothing is outstanding there.
 abbrev pub FirstLeads : Type 0
@@ -163,7 +163,7 @@ pub record IsContinued (e : Exchange) (progress : Progress) (n : Numbers) (S : S
   pub request : CoapRequest
   pub asked : asked_in S.entries e.opening ≡ Some request
   pub message : Content
-  pub next : next_message false request progress 0 n.token ≡ Some message
+  pub next : next_message Plainly request progress 0 n.token ≡ Some message
   pub spelled : Spells message n.text
   pub token_size : length n.token ≡ 8
   pub number : token_number n.token ≡ S.issued

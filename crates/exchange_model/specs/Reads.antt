@@ -16,12 +16,12 @@ use Rattle.ask_model.specs.Views.{Ask}
 use Rattle.journal_book.specs.Entries.{Deed, Opens, Asks}
 use Rattle.history_laws.specs.Numbering.{token_number}
 use Rattle.history_laws.specs.Joining.{outrun}
-use Rattle.history_laws.specs.Storing.{IsStored, IsUse, IsUnused, IsCrowdedOut}
-use Rattle.history_laws.specs.Readings.{Noted, Note, Begins, Joins, entries, at, newest, noted}
+use Rattle.history_laws.specs.Storing.{IsStored, IsUse, IsUnused, IsCrowdedOut, first_in}
+use Rattle.history_laws.specs.Readings.{Noted, Note, Begins, Renews, Joins, entries, at, newest, noted}
 use Rattle.history_laws.specs.Connections.{is_sealed, opened, has_opened}
 use Rattle.history_laws.specs.Transmissions.{FirstSending, firsts, first_at, sent_last, bears_token}
 use Rattle.history_laws.specs.Progress.{Reply, numbers, progress}
-use Rattle.history_laws.specs.Exchanges.{Begun, begun, issued, rank, replies, waits_for, open_exchanges}
+use Rattle.history_laws.specs.Exchanges.{Begun, begun, issued, kept, opens_by, rank, replies, waits_for, open_exchanges}
 use Rattle.history_laws.specs.Justified.{Legal, IsNextConn}
 use Rattle.history_laws.specs.Observing.{Watch, asked_last, observes, outdated, watches}
 use Rattle.history_links.specs.Agrees.{Start, Agrees}
@@ -29,8 +29,9 @@ use Rattle.exchange_model.specs.declared.kept.Conn.{Conn}
 use Rattle.exchange_model.specs.declared.kept.Exchange.{Exchange}
 use Rattle.exchange_model.specs.declared.kept.Piece.{Piece}
 use Rattle.exchange_model.specs.declared.kept.Reader.{Reader}
+use Rattle.exchange_model.specs.declared.kept.Stale.{Stale}
 use Rattle.exchange_model.specs.State.{State, link_of, conns_after, readers_after}
-use Rattle.exchange_model.specs.Steps.{got_by, numbers_of, progress_with}
+use Rattle.exchange_model.specs.Steps.{got_by, numbers_of, progress_with, stale_in}
 
 -- the connections that are open, each with its ask that waits
 abbrev pub conns_of : List Noted → List Conn
@@ -43,6 +44,7 @@ reader_at k c o = record { ask = k; conn = c; opening = o }
 
 abbrev pub readers_by : ℕ → Deed → Note → List Reader → List Reader
 readers_by n (Asks c a) (Begins q) rs = rs ++ reader_at n c n ∷ []
+readers_by n (Asks c a) (Renews q s) rs = rs ++ reader_at n c n ∷ []
 readers_by n (Asks c a) (Joins o) rs = rs ++ reader_at n c o ∷ []
 readers_by n d note rs = readers_after rs d
 
@@ -73,6 +75,14 @@ abbrev pub IsNewest : List Noted → CacheKey → List Reply → Bool → Type 0
 IsNewest l key [] current = ⊤
 IsNewest l key (r ∷ rs) current = outdated l key r.number ≡ not current
 
+-- what it asks about: nothing any more, once a reply has come
+abbrev pub kept_yet : Option Stored → List Reply → Option Stored
+kept_yet old [] = old
+kept_yet old (r ∷ rs) = None
+
+abbrev pub kept_in : List Noted → ℕ → Option Stored
+kept_in l o = kept_yet (kept l o) (replies l o)
+
 -- What is kept of an exchange is what the history says of it.
 pub record ExchangeIn (start : Start) (l : List Noted) (e : Exchange) : Type 0 where
   pub request : CoapRequest
@@ -88,18 +98,27 @@ pub record ExchangeIn (start : Start) (l : List Noted) (e : Exchange) : Type 0 w
   pub sent : IsSentUnder l e.peer e.token (awaited_by e.awaits e.sending)
   pub current : e.current ≡ not (outrun l (asked_place request) e.opening)
   pub newest : is_get request ≡ true → IsNewest l (asked_key request) (got_in l e.opening) e.newest
+  pub newest_kept : (s : Stored) → kept_in l e.opening ≡ Some s
+      → outdated l (asked_key request) (first_in s.list) ≡ not e.newest
   pub progress : progress request (replies l e.opening) ≡ progress_with e.work (got_in l e.opening)
   pub short : length request.body ≤ MAX_BODY_LEN
   pub digests : digests_of (asked_key request) ≡ e.digests
   pub conn : ℕ
   pub ask : Ask
-  pub stands : at l e.opening ≡ Some (noted e.since (Asks conn ask) (Begins request))
+  pub note : Note
+  pub opens : opens_by note ≡ Some request
+  pub stands : at l e.opening ≡ Some (noted e.since (Asks conn ask) note)
 
 -- The pieces are the replies by which the open exchanges go on.
 pub record PiecesIn (l : List Noted) (es : List Exchange) (xs : List Piece) : Type 0 where
   pub fetched : AllByRecursion
       (λ (e : Exchange). numbers (got_in l e.opening) ≡ numbers_of e.opening xs) es
   pub below : AllByRecursion (λ (x : Piece). x.opening < length l) xs
+
+-- What the open exchanges ask about.
+pub record StalesIn (l : List Noted) (es : List Exchange) (xs : List Stale) : Type 0 where
+  pub kept : AllByRecursion (λ (e : Exchange). kept_in l e.opening ≡ stale_in e.opening xs) es
+  pub below : AllByRecursion (λ (x : Stale). x.opening < length l) xs
 
 -- A message that waits under its number waits under its token.
 abbrev pub WaitsUnder : List Waiting → Exchange → Type 0
@@ -173,6 +192,7 @@ pub record Reads (l : List Noted) (S : State) : Type 0 where
   pub keys : open_exchanges l ≡ map opening_of S.exchanges
   pub exchanges_are : AllByRecursion (ExchangeIn start l) S.exchanges
   pub pieces_are : PiecesIn l S.exchanges S.pieces
+  pub stales_are : StalesIn l S.exchanges S.stales
   pub watches_are : map held_of (watches l) ≡ S.watches
   pub store_is : StoreIn l S.store
   pub tokens_are :

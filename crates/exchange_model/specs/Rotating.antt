@@ -19,7 +19,7 @@ use Rattle.journal_book.specs.Entries.{Mark, Ground, Past, Done, Sent, Heard, do
 use Rattle.history_laws.specs.Hearing.{is_such}
 use Rattle.exchange_model.specs.declared.kept.Exchange.{Exchange}
 use Rattle.exchange_model.specs.State.{PeerLink, State}
-use Rattle.exchange_model.specs.Steps.{asked_in, is_past}
+use Rattle.exchange_model.specs.Steps.{asked_in, is_past, is_piece_at}
 use Rattle.exchange_model.specs.Backing.{backing}
 use Rattle.exchange_model.specs.Keeping.{Kept}
 use Rattle.exchange_model.specs.Room.{KeptInRoom}
@@ -117,14 +117,17 @@ copies t ws = copies_with t ws []
 abbrev pub are_few : List Written → Bool
 are_few ws = nat_le (length ws) MAX_COPIES && nat_le (sum_by entry_size ws) MAX_COPIES_LEN
 
--- A stored response may be carried over while it is fresh. A write to its place that is open yet
--- has no end in the journal, and may have changed what was read.
+-- A stored response may be carried over while it is fresh, as it was heard: one that a 2.03 has
+-- renewed isn't. A write to its place that is open yet has no end in the journal, and may have
+-- changed what was read.
 abbrev pub writes_at : List Written → Place → Exchange → Bool
 writes_at ws place e = option_map_or (writes_to place) (asked_in ws e.opening) false
 
 abbrev pub may_carry : ℕ → State → Pair → Bool
 may_carry t S p =
-    is_fresh t p.stored && not (list_any (writes_at S.entries p.key.place) S.exchanges)
+    is_fresh t p.stored
+    && (list_all (is_piece_at S.entries) p.stored.list
+    && not (list_any (writes_at S.entries p.key.place) S.exchanges))
 
 -- such a one, and what it rests on
 pub record Backed : Type 0 where
@@ -205,7 +208,7 @@ fault_of t S =
     else (if not (are_few (copies t S.entries)) then Some Crowded else None))))
 
 -- What it goes on with: numbers, what is remembered, and the stored responses that are carried
--- over. What was observed is asked for anew.
+-- over. What was observed is asked for anew, and no open exchange asks about anything any more.
 abbrev pub turned_with : ℕ → List Written → List Backed → State → State
 turned_with t ws bs S = record {
   entries = ws;
@@ -217,6 +220,7 @@ turned_with t ws bs S = record {
   readers = [];
   exchanges = [];
   pieces = [];
+  stales = [];
   watches = [];
   store = map (pair_at ws) bs;
   links = filter (has_copy ws) (map (keep_peer t) S.links);

@@ -66,7 +66,7 @@ AsksInRoom =
     (t c : ℕ) (a : Ask) (n : Numbers) (S : State)
     → KeptInRoom S → S.moment ≤ t → HasConn S.conns c None → IsProper a.sense
     → ((q : CoapRequest) → a.sense ≡ Requests q → IsAlone t q S → has_place t q.peer S ≡ true
-    → IsNumbered a q n S)
+    → IsNumbered t a q n S)
     → IsSized a n
     → KeptInRoom (asks_in_room t c a n S)
 
@@ -106,6 +106,7 @@ pub record AnswersAlone (S S1 : State) : Type 0 where
   pub issued : S1.issued ≡ S.issued
   pub exchanges : S1.exchanges ≡ S.exchanges
   pub pieces : S1.pieces ≡ S.pieces
+  pub stales : S1.stales ≡ S.stales
   pub watches : S1.watches ≡ S.watches
   pub links : S1.links ≡ S.links
 

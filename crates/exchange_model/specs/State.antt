@@ -10,6 +10,7 @@ use Rattle.exchange_model.specs.declared.kept.Conn.{Conn}
 use Rattle.exchange_model.specs.declared.kept.Exchange.{Exchange}
 use Rattle.exchange_model.specs.declared.kept.Piece.{Piece}
 use Rattle.exchange_model.specs.declared.kept.Reader.{Reader}
+use Rattle.exchange_model.specs.declared.kept.Stale.{Stale}
 
 -- the messages between the proxy and one endpoint
 pub record PeerLink : Type 0 where
@@ -30,6 +31,8 @@ pub record State : Type 0 where
   pub exchanges : List Exchange
   -- the replies by which they go on, in the order of their entries
   pub pieces : List Piece
+  -- what they ask about, in the order of their openings
+  pub stales : List Stale
   -- who waits for an exchange, in the order of their asks
   pub readers : List Reader
   -- what is observed, in the order of registration (RFC 7641 section 1.2)

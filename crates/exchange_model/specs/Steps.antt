@@ -1,5 +1,5 @@
 -- What each kind of entry does to a state.
-use Rattle.std.specs.Prelude.{◌≡◌, ℕ, ◌+◌, ◌-◌, true, Bool, not, ◌&&◌, ◌||◌, nat_le, List, [], ◌∷◌, ◌++◌, length, map, filter, filter_map, find, take, nat_lt, slice_get, Option, Some, None, Result, Ok, Err, option_and_then, false, ◌==◌, if◌then◌else◌}
+use Rattle.std.specs.Prelude.{◌≡◌, ℕ, ◌+◌, ◌-◌, true, Bool, is_some, not, option_map, ◌&&◌, ◌||◌, nat_le, List, [], ◌∷◌, ◌++◌, length, map, filter, filter_map, find, take, nat_lt, slice_get, Option, Some, None, Result, Ok, Err, option_and_then, false, ◌==◌, if◌then◌else◌}
 use Rattle.std.specs.List.{list_any}
 use Rattle.std.specs.Option.{option_map_or}
 use Rattle.std.specs.Str.{bytes_eq}
@@ -24,22 +24,24 @@ use Rattle.observe_share.specs.declared.notice.Notice.TheVariants.{Update, Other
 use Rattle.observe_share.specs.Watches.{is_idle, noticed, without}
 use Rattle.observe_share.specs.Watches as Watches
 use Rattle.resp_cache.specs.Stored.{Stored, stored_of}
-use Rattle.resp_cache.specs.Stores.{is_elsewhere, moved, others, placed}
+use Rattle.resp_cache.specs.Stores.{is_elsewhere, moved, others, placed, stale_under}
 use Rattle.resp_cache.specs.declared.pair.Pair.{Pair}
-use Rattle.ask_model.specs.Requests.{CoapRequest, Sense, Requests, Refuses}
+use Rattle.ask_model.specs.Requests.{CoapRequest, Sense, Requests, Refuses, Manner}
 use Rattle.ask_model.specs.Sharing.{asked_key, asked_place, is_get, writes_to}
 use Rattle.ask_model.specs.Views.{Ask}
 use Rattle.journal_book.specs.Entries.{Grounds, Deed, Opens, Asks, Sends, Hears, Passes, Answers, Shuts, Seals, Written}
 use Rattle.blockwise.specs.Downloads.{no_pieces}
 use Rattle.blockwise.specs.Uploads.{begun}
-use Rattle.history_laws.specs.Responses.{Response}
-use Rattle.history_laws.specs.Progress.{Reply, numbers, Ending, Whole, Reset, Turned, Progress, Fetches, Gives, Ends, step}
+use Rattle.history_laws.specs.Readings.{Note, Begins, Renews}
+use Rattle.history_laws.specs.Responses.{Response, confirms as confirms_tag, renewed_response, valid}
+use Rattle.history_laws.specs.Progress.{Reply, numbers, Ending, Whole, Renewed, Reset, Turned, Progress, Fetches, Gives, Ends, step}
 use Rattle.history_laws.specs.Storing.{content}
-use Rattle.history_laws.specs.Observing.{as_first, notice_in}
+use Rattle.history_laws.specs.Observing.{as_first, manner_by, notice_in, tag_of}
 use Rattle.history_links.specs.Steps.{ended_token, heard_link, is_over, lets_go, passed_link}
 use Rattle.exchange_model.specs.declared.kept.Exchange.{Exchange}
 use Rattle.exchange_model.specs.declared.kept.Piece.{Piece}
 use Rattle.exchange_model.specs.declared.kept.Reader.{Reader}
+use Rattle.exchange_model.specs.declared.kept.Stale.{Stale}
 use Rattle.exchange_model.specs.declared.kept.Work.{Work}
 use Rattle.exchange_model.specs.declared.kept.Work.TheVariants as W
 use Rattle.exchange_model.specs.State.{PeerLink, State, link_of, with_link, conns_after, readers_after}
@@ -102,10 +104,60 @@ abbrev pub unwatched : CoapRequest → State → LinkState
 unwatched q S =
     lets_go (is_one_of (tokens_of (is_renewed_by q) S.watches)) (link_of S.links q.peer)
 
+-- what was heard in an entry
+abbrev pub reply_at : ℕ → Content → Reply
+reply_at n m = record { number = n; sending = 0; message = m }
+
+abbrev pub read_as : ℕ → Result Content CodecFault → Option Reply
+read_as n (Ok m) = Some (reply_at n m)
+read_as n (Err fault) = None
+
+abbrev pub heard_by : ℕ → Deed → Option Reply
+heard_by n (Hears p d) = read_as n (message_at d)
+heard_by n _ = None
+
+abbrev pub heard_in : List Written → ℕ → Option Reply
+heard_in ws n = option_and_then (λ (w : Written). heard_by n w.deed) (slice_get ws n)
+
+-- It asks whether what is stored for the request is valid still, where that isn't fresh and has an
+-- ETag, unless it asks to observe (RFC 7252 section 5.6.2).
+abbrev pub if_tagged : Option Stored → Option Stored
+if_tagged None = None
+if_tagged (Some s) = if is_some s.response.etag then Some s else None
+
+-- An exchange keeps the entries of its pieces alone: a 2.03 that renewed it before goes.
+abbrev pub is_valid : Option Reply → Bool
+is_valid None = false
+is_valid (Some r) = r.message.code == valid
+
+abbrev pub is_piece_at : List Written → ℕ → Bool
+is_piece_at ws n = not (is_valid (heard_in ws n))
+
+abbrev pub as_pieces : List Written → Stored → Stored
+as_pieces ws s = record s { list = filter (is_piece_at ws) s.list }
+
+abbrev pub kept_for : ℕ → Ask → CoapRequest → State → Option Stored
+kept_for t a q S =
+    if is_get q && not (wants a q S.watches)
+    then option_map (as_pieces S.entries) (if_tagged (stale_under (asked_key q) t S.store)) else None
+
+abbrev pub stale_for : ℕ → Option Stored → List Stale
+stale_for o None = []
+stale_for o (Some s) = record { opening = o; stored = s } ∷ []
+
+-- the note of its opening, and how its first message asks
+abbrev pub opening_note : CoapRequest → Option Stored → Note
+opening_note q None = Begins q
+opening_note q (Some s) = Renews q s
+
+abbrev pub asks_so : ℕ → Ask → CoapRequest → State → Manner
+asks_so t a q S = manner_by (tag_of (kept_for t a q S) []) (wants a q S.watches)
+
 abbrev pub begins : ℕ → ℕ → Ask → CoapRequest → List ℕ → List ℕ → ℕ → State → State
 begins t c a q token text word S = let S1 = entered t (Asks c a) S in record S1 {
   issued = S.issued + 1;
   exchanges = S.exchanges ++ exchange_for t a q token S ∷ [];
+  stales = S.stales ++ stale_for (length S.entries) (kept_for t a q S);
   readers = S.readers ++ reader_for c S ∷ [];
   watches = without (is_renewed_by q) S.watches;
   links = with_link q.peer (queued t (waits token text word) (unwatched q S)) S.links;
@@ -205,20 +257,6 @@ is_piece_of o x = x.opening == o
 abbrev pub numbers_of : ℕ → List Piece → List ℕ
 numbers_of o xs = map (λ (x : Piece). x.number) (filter (is_piece_of o) xs)
 
-abbrev pub reply_at : ℕ → Content → Reply
-reply_at n m = record { number = n; sending = 0; message = m }
-
-abbrev pub read_as : ℕ → Result Content CodecFault → Option Reply
-read_as n (Ok m) = Some (reply_at n m)
-read_as n (Err fault) = None
-
-abbrev pub heard_by : ℕ → Deed → Option Reply
-heard_by n (Hears p d) = read_as n (message_at d)
-heard_by n _ = None
-
-abbrev pub heard_in : List Written → ℕ → Option Reply
-heard_in ws n = option_and_then (λ (w : Written). heard_by n w.deed) (slice_get ws n)
-
 abbrev pub fetched_in : List Written → ℕ → List Piece → List Reply
 fetched_in ws o xs = filter_map (heard_in ws) (numbers_of o xs)
 
@@ -243,8 +281,14 @@ stored_by ws t o w [] = None
 stored_by ws t o w (r ∷ rs) =
     if w.code == content then Some (stored_of w o (moment_in ws t r.number) (numbers (r ∷ rs))) else None
 
+-- What is renewed counts from the 2.03, which is the last of its list (RFC 7252 section 5.9.1.3).
+abbrev pub renewed_by : List Written → ℕ → Stored → Reply → Stored
+renewed_by ws t s r =
+    stored_of (renewed_response s.response r.message) s.opening (moment_in ws t r.number) (s.list ++ r.number ∷ [])
+
 abbrev pub content_by : List Written → ℕ → ℕ → Ending → Option Stored
 content_by ws t o (Whole w rs) = stored_by ws t o w rs
+content_by ws t o (Renewed s r) = Some (renewed_by ws t s r)
 content_by ws t o how = None
 
 -- what a message is to the exchanges, and to what is observed
@@ -273,6 +317,19 @@ replied place e (Ends how) = Over e how
 replied true e progress = Goes e progress
 replied false e progress = Over e Turned
 
+-- What an open exchange asks about: nothing any more, once a reply has come.
+abbrev pub is_stale_of : ℕ → Stale → Bool
+is_stale_of o x = x.opening == o
+
+abbrev pub stale_in : ℕ → List Stale → Option Stored
+stale_in o xs = option_map (λ (x : Stale). x.stored) (find (is_stale_of o) xs)
+
+-- By its first reply it ends where that says that this is valid still.
+abbrev pub unless_valid : Option Stored → Content → State → Exchange → Matter → Matter
+unless_valid None m S e other = other
+unless_valid (Some s) m S e other =
+    if confirms_tag s.response.etag m then Over e (Renewed s (reply_at (length S.entries) m)) else other
+
 -- What comes under the token of a watch alone: a whole update is stored.
 abbrev pub found_in : ℕ → State → Notice → ℕ → Progress → Option Stored
 found_in t S (Update v) o (Ends how) = content_by S.entries t o how
@@ -292,7 +349,8 @@ told_alone t news m S = Nothing
 abbrev pub matter_by : ℕ → News → Bool → Content → State → Option Exchange → Matter
 matter_by t news place m S None = told_alone t news m S
 matter_by t (N.Reset token) place m S (Some e) = Over e Reset
-matter_by t news place m S (Some e) = replied place e (comes_to m S e)
+matter_by t news place m S (Some e) =
+    unless_valid (stale_in e.opening S.stales) m S e (replied place e (comes_to m S e))
 
 abbrev pub matter_of : ℕ → Peer → Content → Verdict → State → Matter
 matter_of t p m v S =
@@ -361,6 +419,16 @@ pieces_by n (Tells r found) xs = xs
 pieces_by n (Goes e progress) xs = pieces_with e n (got_by progress) xs
 pieces_by n (Over e how) xs = filter (is_of_other e) xs
 
+-- By its first reply, or its end, an exchange asks about nothing any more.
+abbrev pub is_stale_of_other : Exchange → Stale → Bool
+is_stale_of_other e x = not (is_stale_of e.opening x)
+
+abbrev pub stales_by : Matter → List Stale → List Stale
+stales_by Nothing xs = xs
+stales_by (Tells r found) xs = xs
+stales_by (Goes e progress) xs = filter (is_stale_of_other e) xs
+stales_by (Over e how) xs = filter (is_stale_of_other e) xs
+
 -- one token more is issued where an exchange goes on, and its message waits last
 abbrev pub issued_by : Matter → ℕ → ℕ
 issued_by (Goes e progress) old = old + 1
@@ -401,6 +469,7 @@ retired ws (e ∷ es) ps = retired ws es (settled ws (Some e) None ps)
 -- None is stored where a newer notification came.
 abbrev pub is_newest : Exchange → Ending → Bool
 is_newest e (Whole w rs) = newest_by rs e.newest
+is_newest e (Renewed s r) = e.newest
 is_newest e how = false
 
 abbrev pub newest_content : List Written → ℕ → Exchange → Ending → Option Stored
@@ -449,6 +518,7 @@ hears t p d m n S =
       issued = issued_by x S.issued;
       exchanges = exchanges_by S.entries n.token x S.exchanges;
       pieces = pieces_by (length S.entries) x S.pieces;
+      stales = stales_by x S.stales;
       watches = watches_by t m S.entries x S.watches;
       store = store_by S.entries t x S.store;
       links = with_link p (link_with t (more_by n x) (heard_link t m.mid m.token gone v s)) S.links;
@@ -493,9 +563,13 @@ passed t S x = record { peer = x.peer; link = passed_link t (is_gone t S) x.link
 abbrev pub is_of_none : List Exchange → Piece → Bool
 is_of_none es x = not (list_any (λ (e : Exchange). x.opening == e.opening) es)
 
+abbrev pub is_stale_of_none : List Exchange → Stale → Bool
+is_stale_of_none es x = not (list_any (λ (e : Exchange). x.opening == e.opening) es)
+
 abbrev pub passes : ℕ → State → State
 passes t S = let S1 = entered t Passes S in record S1 {
   pieces = filter (is_of_none (timed_out t S)) S.pieces;
+  stales = filter (is_stale_of_none (timed_out t S)) S.stales;
   exchanges = left_by S.entries (timed_out t S) (filter (goes_on t S) S.exchanges);
   watches = without (is_unwatched t S) S.watches;
   store = retired S.entries (timed_out t S) S.store;

@@ -17,6 +17,7 @@ ghost use Rattle.exchange_model.specs.Growing.{
   ReadersRise,
   ReadersKnown,
   StoreHeard,
+  StalesHeard,
 };
 
 /// A call adds entries at its moment, and the connections follow from them.
@@ -51,7 +52,9 @@ pub fn connections_rise()
     ensures rise { ConnsRise }
 {}
 
-/// What is stored was heard whole, in entries of the journal, or in those that it has copies of.
+/// What is stored was heard whole, in entries of the journal, or in those that it has copies of; so was
+/// what open exchanges ask about.
 pub fn stored_was_heard()
-    ensures { StoreHeard }
+    ensures stored { StoreHeard }
+    ensures kept { StalesHeard }
 {}

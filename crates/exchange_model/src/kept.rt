@@ -3,6 +3,7 @@
 use blockwise::{Pieces, Upload};
 use cache_key::Digests;
 use coap_codec::Token;
+use resp_cache::StoredResponse;
 use uri_map::Peer;
 
 /// An open connection, by its number among those that were opened, with its ask that isn't answered
@@ -63,6 +64,15 @@ pub struct Piece {
     /// the entry that opened the exchange
     pub opening: u32,
     pub number: u32,
+}
+
+/// A stored response that isn't fresh any more, and has an ETag: the exchange that this entry opened asks
+/// whether it is valid still, and nothing has come to that yet (RFC 7252 section 5.6.2).
+#[derive(Drop)]
+pub struct Stale {
+    /// the entry that opened the exchange
+    pub opening: u32,
+    pub stored: StoredResponse,
 }
 
 /// Who waits for an exchange, by the number of its ask's entry.

@@ -16,4 +16,4 @@ mod kept;
 mod laws;
 mod sealing;
 
-pub use kept::{Conn, Exchange, Piece, Reader, Work};
+pub use kept::{Conn, Exchange, Piece, Reader, Stale, Work};
