@@ -26,7 +26,7 @@ use Rattle.exchange_model.specs.declared.kept.Work.TheVariants as W
 use Rattle.exchange_model.specs.declared.kept.Piece.{Piece}
 use Rattle.exchange_model.specs.declared.kept.Reader.{Reader}
 use Rattle.exchange_model.specs.Steps.{fetched_in, heard_in, reply_at}
-use Rattle.exchange_progress.specs.Coming.{IsOnward, found_for, first_got}
+use Rattle.exchange_progress.specs.Coming.{AllFind, IsOnward, found_for, first_got, renews}
 
 -- one piece after another
 
@@ -52,7 +52,11 @@ numbers-each ws o p ps = by (eqb p.opening o) refl (heard_in ws p.number) refl
 
 -- All the pieces are one response.
 abbrev pub EndsWith : Progress → ℕ → Found → Type 0
-EndsWith u n f = (how : Ending) × (u ≡ Ends how) × ((sending : Option ℕ) (r : Reader) → f ≡ found_for how n sending r)
+EndsWith u n f = (how : Ending) × (u ≡ Ends how) × (AllFind n f how × (renews how ≡ false))
+
+renews-none : (fs : List Reply) → renews (fetched_whole fs) ≡ false
+renews-none [] = refl
+renews-none (r ∷ rs) = refl
 
 messages-push : (rs : List Reply) (r : Reply) → messages (rs ++ r ∷ []) ≡ messages rs ++ r.message ∷ []
 messages-push rs r = map_push (λ (r : Reply). r.message) rs r
@@ -69,9 +73,12 @@ pub joined-found : (fs : List Reply) (n : ℕ) (m : Content) (ms : List Content)
 joined-found fs n m ms ns f is read named = (
   fetched_whole (fs ++ reply_at n m ∷ []),
   refl,
-  λ sending r. is
-      ∙ (ap (λ (v : List Content). record { told = Tells (joined_all v m); grounds = Live ns }) read
-      ∙ (ap (λ (v : List ℕ). record { told = Tells (joined_all (messages fs) m); grounds = Live v }) named ∙ by fs sending r)),
+  (
+    λ sending r. is
+        ∙ (ap (λ (v : List Content). record { told = Tells (joined_all v m); grounds = Live ns }) read
+        ∙ (ap (λ (v : List ℕ). record { told = Tells (joined_all (messages fs) m); grounds = Live v }) named ∙ by fs sending r)),
+    renews-none (fs ++ reply_at n m ∷ []),
+  ),
 )
   where
     by : (fs : List Reply) (sending : Option ℕ) (r : Reader) → whole_found fs n m ≡ found_for (fetched_whole (fs ++ reply_at n m ∷ [])) n sending r
@@ -85,7 +92,10 @@ pub answered-found : (fs : List Reply) (n : ℕ) (m : Content) (ns : List ℕ) (
 answered-found fs n m ns f is named = (
   Whole (response_of m) (fs ++ reply_at n m ∷ []),
   refl,
-  λ sending r. is ∙ ap (λ (v : List ℕ). record { told = Tells (response_of m); grounds = Live v }) (named ∙ sym (numbers-push fs (reply_at n m))),
+  (
+    λ sending r. is ∙ ap (λ (v : List ℕ). record { told = Tells (response_of m); grounds = Live v }) (named ∙ sym (numbers-push fs (reply_at n m))),
+    refl,
+  ),
 )
 
 -- The block that comes next follows those that came.

@@ -5,8 +5,10 @@ use Rattle.coap_codec.specs.declared.block.Block.{Block}
 use Rattle.blockwise.specs.Downloads.{IsSayable}
 use Rattle.blockwise.specs.Uploads.{next_block}
 use Rattle.ask_model.specs.declared.cause.Cause.TheVariants as C
+use Rattle.resp_cache.specs.Stored.{Stored}
+use Rattle.history_laws.specs.Responses.{renewed_response}
 use Rattle.reply_reading.specs.Findings.{Found, Told, Tells, Fails}
-use Rattle.history_laws.specs.Progress.{Reply, Ending, Whole, NotUnderstood, Reset, TimedOut, Turned, Progress, Ends, block_after, step}
+use Rattle.history_laws.specs.Progress.{Reply, Ending, Whole, Renewed, NotUnderstood, Reset, TimedOut, Turned, Progress, Ends, block_after, step}
 use Rattle.journal_book.specs.Entries.{Written}
 use Rattle.exchange_model.specs.declared.kept.Exchange.{Exchange}
 use Rattle.exchange_model.specs.declared.kept.Piece.{Piece}
@@ -28,6 +30,7 @@ comes_by ws xs e n m = step (progress_with e.work (fetched_in ws e.opening xs)) 
 -- what an exchange came to that ended so
 abbrev pub told_as : Ending → Told
 told_as (Whole w rs) = Tells w
+told_as (Renewed s r) = Tells (renewed_response s.response r.message)
 told_as NotUnderstood = Fails C.NotUnderstood
 told_as Reset = Fails C.Reset
 told_as TimedOut = Fails C.Timeout
@@ -38,10 +41,21 @@ abbrev pub found_for : Ending → ℕ → Option ℕ → Reader → Found
 found_for how n sending r =
     record { told = told_as how; grounds = grounds_for how n sending r }
 
--- It ended so by the entry with this number: one thing is found for all readers, or it was turned away, which
--- names the ask of each.
+-- all readers are told this
+abbrev pub AllFind : ℕ → Found → Ending → Type 0
+AllFind n f how = (sending : Option ℕ) (r : Reader) → f ≡ found_for how n sending r
+
+-- what it asked about is valid still
+abbrev pub renews : Ending → Bool
+renews (Renewed s r) = true
+renews how = false
+
+-- It ended so by the entry with this number: one thing is found for all readers, be it renewed, or it was
+-- turned away, which names the ask of each.
 abbrev pub IsEnded : ℕ → Ended → Ending → Type 0
-IsEnded n (How.Found f) how = (sending : Option ℕ) (r : Reader) → f ≡ found_for how n sending r
+IsEnded n (How.Found f) how = AllFind n f how × (renews how ≡ false)
+IsEnded n (How.Renewed f opening) how =
+    AllFind n f how × ((s : Stored) × (r : Reply) × (how ≡ Renewed s r) × (opening ≡ s.opening))
 IsEnded n How.Turned how = how ≡ Turned
 
 -- what a GET asks for, and it alone, may be begun anew

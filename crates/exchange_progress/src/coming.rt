@@ -35,6 +35,8 @@ pub struct Onward {
 pub enum Ended {
     /// with this, of which all are told who wait for it
     Found(Finding),
+    /// with this, as what it asked about is valid still: it came first of the exchange with this opening
+    Renewed(Finding, u32),
     /// there was no place for its next message
     Turned,
 }

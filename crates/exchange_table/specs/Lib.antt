@@ -2,6 +2,7 @@ pub mod Places
 pub mod Tables
 pub mod Outrunning
 pub mod Fetched
+pub mod Stales
 pub mod Groups
 pub mod Readers
 pub mod Marks

@@ -5,10 +5,10 @@
 //! openings do: an exchange of several messages has a new token for each. Those that a GET may join,
 //! that a notification outdates or that a write outruns are found by digests of their keys and
 //! places, through the marks. Beside the exchanges stand the pieces that those of several messages
-//! have fetched, and who waits for them.
+//! have fetched, what those ask about that ask whether something is valid still, and who waits for them.
 //!
 //! The definitions stand in `specs/`, to be read in this order: `Places`, `Tables`,
-//! `Outrunning`, `Fetched`, `Groups`, `Readers`, `Marks`, `Joining`.
+//! `Outrunning`, `Fetched`, `Stales`, `Groups`, `Readers`, `Marks`, `Joining`.
 #![tactic(auto)]
 
 mod exchanges;
@@ -22,9 +22,11 @@ mod owners;
 mod places;
 mod readers;
 mod rows;
+mod stales;
 
 pub use exchanges::Exchanges;
 pub use fetched::Fetched;
 pub use outrunning::asked;
 pub use readers::Readers;
 pub use rows::read_by;
+pub use stales::Stales;
