@@ -8,7 +8,7 @@ use Rattle.observe_share.specs.declared.registration.Registration.{Registration}
 use Rattle.observe_share.specs.declared.notice.Notice as Shared
 use Rattle.observe_share.specs.declared.notice.Notice.TheVariants.{Update, Other}
 use Rattle.observe_share.specs.Watches.{counted, counts_for, first_changed, in_place}
-use Rattle.history_laws.specs.Readings.{Noted, Note, Begins, Joins, Says, Observation, Unobserved, Registers, Updates, Outdates, Cancels, newest}
+use Rattle.history_laws.specs.Readings.{Noted, Note, Begins, Renews, Joins, Says, Observation, Unobserved, Registers, Updates, Outdates, Cancels, newest}
 use Rattle.history_laws.specs.Transmissions.{FirstSending, first_at}
 use Rattle.history_laws.specs.Exchanges.{Begun, begun}
 use Rattle.history_laws.specs.Observing.{Watch, asked_again, asked_by, asked_last, asked_last_by, current_by, held_by, idles, is_current, is_for, is_under, notice_in, registered, registered_of, told_by, watches, watches_by}
@@ -33,6 +33,7 @@ last-early (x ∷ older) o legal = by x.note (let before = last-early older o le
 
     by : (n : Note) → asked_last older o ≤ t → asked_last_by o (length older) t n (asked_last older o) ≤ t
     by (Begins q) old = chosen (eqb (length older) o) old
+    by (Renews q s) old = chosen (eqb (length older) o) old
     by (Joins p) old = chosen (eqb p o) old
     by n old = old
 
@@ -92,6 +93,7 @@ module _ (last : ℕ) where
 
       by : (s : Sense) (n : Note) → AllByRecursion Early (asked_by t s n ws)
       by (Requests q) (Begins r) = all-filter Early (λ (w : Watch). not (is_for q w)) ws all
+      by (Requests q) (Renews r s) = all-filter Early (λ (w : Watch). not (is_for q w)) ws all
       by (Requests q) n = all-map (asked_again q t) Early ws (all-more Early (λ (w : Watch). Early (asked_again q t w)) (again q) ws all)
       by (Refuses cause status) n = all
 

@@ -10,7 +10,9 @@ use Rattle.coap_codec.specs.declared.block.Block.{Block}
 use Rattle.blockwise.specs.Uploads.{begun, next_block}
 use Rattle.ask_model.specs.Datagrams.{IsSentFor, asked_body, block_named}
 use Rattle.ask_model.specs.Observing.{IsObserving, is_named}
-use Rattle.ask_model.specs.Requests.{CoapRequest, Sense, Requests, Refuses, asking, block_message, first_block, observe_message}
+use Rattle.ask_model.specs.Validating.{IsValidating}
+use Rattle.resp_cache.specs.Stored.{Stored}
+use Rattle.ask_model.specs.Requests.{CoapRequest, Sense, Requests, Refuses, Manner, Plainly, Observing, Validating, asking, block_message, first_block, observe_message, validate_message}
 use Rattle.ask_model.specs.Sharing.{is_get}
 use Rattle.ask_model.specs.Sizes.{capped}
 use Rattle.ask_model.specs.Views.{Mapping, Rules}
@@ -29,7 +31,8 @@ use Rattle.exchange_core.specs.declared.fault.AskFault.{AskFault}
 use Rattle.exchange_core.specs.declared.fault.AskFault.TheVariants as Ask
 use Rattle.exchange_core.specs.declared.state.State.{State as RustState}
 use Rattle.exchange_core.specs.Answering.{Given}
-use Rattle.exchange_core.specs.Beginning.{IsTextFor, wants_for, exchange_by, reader_by, with_exchange, Leaves, MayBegin, IsEntered, IsBegunBy}
+use Rattle.exchange_core.specs.Wording.{IsTextFor, keeps_for, wants_for}
+use Rattle.exchange_core.specs.Beginning.{exchange_by, reader_by, with_exchange, Leaves, MayBegin, IsEntered, IsBegunBy}
 use Rattle.exchange_core.specs.Sending.{sent_first}
 use Rattle.exchange_core.specs.Drafts.{DraftValue, Drafts}
 use Rattle.exchange_core.specs.Sound.{SoundState, IsSound}
@@ -68,11 +71,11 @@ pub same-seen : {R : Type 0} (old new : RustState R) → SeesSame old new → se
 same-seen old new e = core-same (state_of old) (state_of new) (given_in old) (given_in new) (outgoing old) (outgoing new) e.state e.answers e.sends
 
 -- what was entered after places were made
-pub leaves : {R : Type 0} (t : ℕ) (sense : Sense) (e : Exchange) (r : Reader) (w : Waiting) (d : DraftValue) (old mid new : RustState R) → SeesSame old mid
-    → Leaves (with_exchange t sense e r w (with_draft t d (state_of mid))) d mid new
-    → Leaves (with_exchange t sense e r w (with_draft t d (state_of old))) d old new
-leaves t sense e r w d old mid new s l = record {
-  state = l.state ∙ ap (λ (S : State). with_exchange t sense e r w (with_draft t d S)) s.state;
+pub leaves : {R : Type 0} (t : ℕ) (sense : Sense) (e : Exchange) (r : Reader) (keeps : Option Stored) (w : Waiting) (d : DraftValue) (old mid new : RustState R) → SeesSame old mid
+    → Leaves (with_exchange t sense e r keeps w (with_draft t d (state_of mid))) d mid new
+    → Leaves (with_exchange t sense e r keeps w (with_draft t d (state_of old))) d old new
+leaves t sense e r keeps w d old mid new s l = record {
+  state = l.state ∙ ap (λ (S : State). with_exchange t sense e r keeps w (with_draft t d S)) s.state;
   bytes = l.bytes ∙ ap (λ (k : ℕ). capped (k + capped (sum_by entry_size d.entries))) s.bytes;
   held =
       let held = l.held in
@@ -81,35 +84,37 @@ leaves t sense e r w d old mid new s l = record {
   sends = l.sends ∙ ap (λ (os : List Outgoing). os ++ d.sends) s.sends;
 }
 
-pub entered-by : {R X : Type 0} (r : Result X AskFault) (t : ℕ) (i j : Sense) (x e : Exchange) (n k : ℕ) (c : ℕ) (v w : Waiting) (d : DraftValue) (old new : RustState R)
-    → i ≡ j → x ≡ e → n ≡ k → v ≡ w → IsEntered r t i x (reader_by c n) v d old new → IsEntered r t j e (reader_by c k) w d old new
-entered-by r t i j x e n k c v w d old new meant a num b entered =
-    subst (λ (s : Sense). IsEntered r t s e (reader_by c k) w d old new) meant
-    (subst (λ (u : Waiting). IsEntered r t i e (reader_by c k) u d old new) b
-    (subst (λ (y : Exchange). IsEntered r t i y (reader_by c k) v d old new) a
-    (subst (λ (l : ℕ). IsEntered r t i x (reader_by c l) v d old new) num entered)))
+pub entered-by : {R X : Type 0} (r : Result X AskFault) (t : ℕ) (i j : Sense) (x e : Exchange) (n k : ℕ) (c : ℕ) (f g : Option Stored) (v w : Waiting) (d : DraftValue) (old new : RustState R)
+    → i ≡ j → x ≡ e → n ≡ k → f ≡ g → v ≡ w → IsEntered r t i x (reader_by c n) f v d old new → IsEntered r t j e (reader_by c k) g w d old new
+entered-by r t i j x e n k c f g v w d old new meant a num keeps b entered =
+    subst (λ (s : Sense). IsEntered r t s e (reader_by c k) g w d old new) meant
+    (subst (λ (u : Waiting). IsEntered r t i e (reader_by c k) g u d old new) b
+    (subst (λ (h : Option Stored). IsEntered r t i e (reader_by c k) h v d old new) keeps
+    (subst (λ (y : Exchange). IsEntered r t i y (reader_by c k) f v d old new) a
+    (subst (λ (l : ℕ). IsEntered r t i x (reader_by c l) f v d old new) num entered))))
 
 pub exchange-is : (t : ℕ) (token : List ℕ) (p : Peer) (i j : Sense) (o v : Bool) (sent : Option FirstSending) (n k : ℕ) (e : Exchange) → i ≡ j → o ≡ v → n ≡ k
     → e ≡ exchange_by t token p i o sent n → e ≡ exchange_by t token p j v sent k
 exchange-is t token p i j o v sent n k e a asks b is =
     is ∙ ap (λ (x : Sense). exchange_by t token p x o sent n) a ∙ ap (λ (x : Bool). exchange_by t token p j x sent n) asks ∙ ap (λ (x : ℕ). exchange_by t token p j v sent x) b
 
-pub unnumbered : (o : Bool) (s : Sense) (token text : List ℕ) → IsTextFor o s token text → IsUnnumberedCon token text
+pub unnumbered : (o : Manner) (s : Sense) (token text : List ℕ) → IsTextFor o s token text → IsUnnumberedCon token text
 unnumbered o s token text x = by o (first_block x.request) x.spelled
   where
-    by : (v : Bool) (b : Option Block) → Spells (asking v x.request b 0 token) text → IsUnnumberedCon token text
+    by : (v : Manner) (b : Option Block) → Spells (asking v x.request b 0 token) text → IsUnnumberedCon token text
     by v (Some b) h = con-under x.request (Some b) token text h
-    by false None h = con-under x.request None token text h
-    by true None h = record { m = observe_message x.request 0 token; spelled = h; con = refl; under = refl; unnumbered = refl }
+    by Plainly None h = con-under x.request None token text h
+    by Observing None h = record { m = observe_message x.request 0 token; spelled = h; con = refl; under = refl; unnumbered = refl }
+    by (Validating tag) None h = record { m = validate_message tag x.request 0 token; spelled = h; con = refl; under = refl; unnumbered = refl }
 
 -- the first message, which asks to observe or doesn't
 
-plain-text : (q : CoapRequest) (b : Option Block) (token text : List ℕ) → Spells (block_message q b 0 token) text → Spells (asking false q b 0 token) text
+plain-text : (q : CoapRequest) (b : Option Block) (token text : List ℕ) → Spells (block_message q b 0 token) text → Spells (asking Plainly q b 0 token) text
 plain-text q None token text h = h
 plain-text q (Some b) token text h = h
 
 pub text-plain : (s : Sense) (token text : List ℕ) → length (asked_body s) ≤ MAX_BODY_LEN → IsSentFor s (block_named s None) 0 token (Some text) → length text ≤ MAX_MESSAGE_LEN
-    → IsTextFor false s token text
+    → IsTextFor Plainly s token text
 text-plain (Requests q) token text body sent short = record { request = q; is = refl; body = body; spelled = plain-text q (first_block q) token text sent; short = short }
 text-plain (Refuses cause status) token text body sent short = absurd (cc (sent))
 
@@ -117,19 +122,31 @@ whole-get : (q : CoapRequest) → is_get q ≡ true → first_block q ≡ None
 whole-get q get = ap (λ (b : Bool). cond b None (next_block (begun (length q.body) 6))) (and_parts (q.method == 1) (is_none q.format && (length q.body == 0)) get).0
 
 pub text-observes : (rules : Rules) (s : Sense) (token text : List ℕ) → length (asked_body s) ≤ MAX_BODY_LEN → IsObserving rules s 0 token (Some text) → length text ≤ MAX_MESSAGE_LEN
-    → IsTextFor true s token text × (observed_by rules s ≡ true)
+    → IsTextFor Observing s token text × (observed_by rules s ≡ true)
 text-observes rules (Requests q) token text body sent short = (
   record {
     request = q;
     is = refl;
     body = body;
-    spelled = subst (λ (b : Option Block). Spells (asking true q b 0 token) text)
+    spelled = subst (λ (b : Option Block). Spells (asking Observing q b 0 token) text)
         (sym (whole-get q (and_parts (is_get q) (is_named rules.observed q.target.host) sent.0).0)) sent.1;
     short = short;
   },
   sent.0,
 )
 text-observes rules (Refuses cause status) token text body sent short = absurd (cc (sent))
+
+-- the first message that asks whether what is kept is valid still
+pub text-validates : (tag : List ℕ) (s : Sense) (token text : List ℕ) → length (asked_body s) ≤ MAX_BODY_LEN → IsValidating tag s 0 token (Some text) → length text ≤ MAX_MESSAGE_LEN
+    → IsTextFor (Validating tag) s token text
+text-validates tag (Requests q) token text body sent short = record {
+  request = q;
+  is = refl;
+  body = body;
+  spelled = subst (λ (b : Option Block). Spells (asking (Validating tag) q b 0 token) text) (sym (whole-get q sent.0)) sent.1;
+  short = short;
+}
+text-validates tag (Refuses cause status) token text body sent short = absurd (cc (sent))
 
 pub observes-not : (rules : Rules) (s : Sense) (token : List ℕ) → IsObserving rules s 0 token None → observed_by rules s ≡ false
 observes-not rules (Requests q) token sent = sent
@@ -149,7 +166,10 @@ module _ {R : Type 0} (t word c : ℕ) (m : Mapping) (p : Peer) (token text : Li
   abbrev w : Waiting
   w = waits token text word
 
-  pub enters-sound : {X : Type 0} (r : Result X AskFault) → IsEntered r t m.sense e first w d old new → IsSound new
+  abbrev keeps : Option Stored
+  keeps = keeps_for t m (state_of old)
+
+  pub enters-sound : {X : Type 0} (r : Result X AskFault) → IsEntered r t m.sense e first keeps w d old new → IsSound new
   enters-sound (Ok x) i =
       sound-begun t word c m p token text (state_of old) sent d old.bytes old.journal.room (given_in old) (outgoing old) s b h next none
       (state_of new) new.bytes new.journal.room (given_in new) i.0 i.1.state i.1.bytes i.1.held i.1.answers
@@ -160,13 +180,13 @@ module _ {R : Type 0} (t word c : ℕ) (m : Mapping) (p : Peer) (token text : Li
   enters-sound (Err Ask.Unknown) i = absurd i
   enters-sound (Err Ask.Pending) i = absurd i
 
-  pub enters-ok : {X : Type 0} (x : X) → IsEntered (Ok x) t m.sense e first w d old new
+  pub enters-ok : {X : Type 0} (x : X) → IsEntered (Ok x) t m.sense e first keeps w d old new
       → IsBegunBy (Ok (length old.journal.entries)) t word c m (seen old) (seen new)
   enters-ok x i =
       begun-so t word c m p token text (state_of old) sent d old.bytes old.journal.room (given_in old) (outgoing old) s b h next none
       (state_of new) (given_in new) (outgoing new) i.0 i.1.state i.1.answers i.1.sends
 
-  pub enters-err : (X : Type 0) (f : AskFault) → IsEntered {X = X} (Err f) t m.sense e first w d old new
+  pub enters-err : (X : Type 0) (f : AskFault) → IsEntered {X = X} (Err f) t m.sense e first keeps w d old new
       → IsBegunBy (Err f) t word c m (seen old) (seen new)
   enters-err X Ask.Sealed i =
       sealed-so t word c m p token text (state_of old) sent d old.bytes old.journal.room (given_in old) (outgoing old) s b h next none

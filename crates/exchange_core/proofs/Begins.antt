@@ -1,17 +1,22 @@
 -- An ask that begins an exchange leaves what the step says.
 use Rattle.std.proofs.Common.{◌≡◌, ℕ, ◌+◌, ◌≤◌, ◌<◌, Bool, true, false, cond, List, [], ◌∷◌, ◌++◌, length, Option, Some, None, Ok, Err, refl, sym, ap, subst, ◌∙◌, arith, append-nil}
-use Rattle.std.specs.Prelude.{option_map, is_some, nat_lt, sum_by, ◌&&◌}
+use Rattle.std.specs.Prelude.{option_map, is_some, nat_lt, not, sum_by, ◌&&◌}
 use Rattle.std.proofs.lemmas.Bool.{lt-ltb}
 use Rattle.coap_codec.specs.Spelling.{Spells}
 use Rattle.uri_map.specs.declared.peer.Peer.{Peer}
-use Rattle.ask_model.specs.Requests.{CoapRequest, Sense, Requests, Refuses, opening_message}
+use Rattle.ask_model.specs.Requests.{CoapRequest, Manner, Sense, Requests, Refuses, opening_message}
 use Rattle.observe_share.specs.Watches.{without}
 use Rattle.ask_model.specs.Observing.{is_named}
-use Rattle.ask_model.specs.Sharing.{is_get}
+use Rattle.ask_model.specs.Sharing.{asked_key, is_get}
+use Rattle.cache_key.specs.Keys.{CacheKey}
+use Rattle.resp_cache.specs.Stored.{Stored}
+use Rattle.resp_cache.specs.Stores.{stale_under}
+use Rattle.resp_cache.specs.declared.pair.Pair.{Pair}
+use Rattle.history_laws.specs.Observing.{manner_by, tag_of}
 use Rattle.ask_model.specs.Views.{Ask, Mapping}
 use Rattle.ask_model.specs.Sizes.{capped}
 use Rattle.ask_model.specs.Datagrams.{asked_peer}
-use Rattle.journal_book.specs.Entries.{Deed, Asks, Seals, entry_size}
+use Rattle.journal_book.specs.Entries.{Deed, Asks, Seals, Written, entry_size}
 use Rattle.journal_book.specs.Views.{ask_of}
 use Rattle.message_layer.specs.Sending.{waits, IsNext, HasPlace, mids_in_use, submitted}
 use Rattle.message_layer.specs.Prepared.{at_once as next_list}
@@ -23,7 +28,7 @@ use Rattle.message_layer.specs.Values.{LinkState}
 use Rattle.exchange_model.specs.declared.kept.Exchange.{Exchange}
 use Rattle.exchange_model.specs.declared.kept.Reader.{Reader}
 use Rattle.exchange_model.specs.State.{PeerLink, State, link_of, with_link}
-use Rattle.exchange_model.specs.Steps.{entered, given_out, seals, Numbers}
+use Rattle.exchange_model.specs.Steps.{as_pieces, asks_so, entered, given_out, if_tagged, kept_for, seals, stale_for as kept_as, Numbers}
 use Rattle.exchange_model.specs.Calls.{asked, has_place}
 use Rattle.exchange_model.specs.Keeping.{IsProper, IsNumbered}
 use Rattle.exchange_model.specs.Room.{fits, KeptInRoom}
@@ -32,7 +37,9 @@ use Rattle.exchange_model.specs.Sealing.{asks_in_room}
 use Rattle.exchange_model.specs.Entering.{entered_all, at_once, awaits_no_more, begin_deeds, begun, begun_exchange, first_deeds, IsDrained}
 use Rattle.exchange_model.proofs.CallerLemmas.{asks-in-room, begins-enter, stays-drained}
 use Rattle.exchange_core.specs.Answering.{Given}
-use Rattle.exchange_core.specs.Beginning.{IsRequest, wants_for, exchange_by, reader_by, with_exchange, numbers_of, MayBegin, IsBegunBy}
+use Rattle.exchange_core.specs.Renewing.{stale_for, stale_read}
+use Rattle.exchange_core.specs.Wording.{IsRequest, asks_for, keeps_for, wants_for}
+use Rattle.exchange_core.specs.Beginning.{exchange_by, reader_by, with_exchange, numbers_of, MayBegin, IsBegunBy}
 use Rattle.exchange_core.specs.Sending.{IsTimed, sent_first}
 use Rattle.exchange_core.specs.declared.fault.AskFault.TheVariants as Ask
 use Rattle.exchange_core.specs.Calls.{IsSpelled}
@@ -119,6 +126,15 @@ get-once true true false = refl
 get-once true false true = refl
 get-once true false false = refl
 
+-- What it keeps is looked for where it is a GET that doesn't ask to observe.
+keeps-by : (g w : Bool) (k : CacheKey) (t : ℕ) (ws : List Written) (ps : List Pair)
+    → cond w None (option_map (as_pieces ws) (stale_read (cond g (Some k) None) t ps))
+    ≡ cond (g && not w) (option_map (as_pieces ws) (if_tagged (stale_under k t ps))) None
+keeps-by true true k t ws ps = refl
+keeps-by true false k t ws ps = refl
+keeps-by false true k t ws ps = refl
+keeps-by false false k t ws ps = refl
+
 module _ (t word c : ℕ) (m : Mapping) (p : Peer) (token text : List ℕ) (S : State) where
   abbrev a : Ask
   a = ask_of m
@@ -135,8 +151,20 @@ module _ (t word c : ℕ) (m : Mapping) (p : Peer) (token text : List ℕ) (S : 
       ap (λ (s : Sense). may_watch s S.watches && observed_by m.rules s) e
       ∙ get-once (is_get q) (nat_lt (length (without (is_renewed_by q) S.watches)) 64) (is_named m.rules.observed q.target.host)
 
-  spelled-by : (b : MayBegin t word c m p token text S) → Spells (opening_message (wants a b.spelled.request S.watches) b.spelled.request 0 token) text
-  spelled-by b = subst (λ (v : Bool). Spells (opening_message v b.spelled.request 0 token) text) (asks-to b.spelled.request b.spelled.is) b.spelled.spelled
+  -- what it keeps
+  keeps-to : (q : CoapRequest) → m.sense ≡ Requests q → keeps_for t m S ≡ kept_for t a q S
+  keeps-to q e =
+      ap (λ (b : Bool). cond b None (stale_for m.sense t S.entries S.store)) (asks-to q e)
+      ∙ (ap (λ (s : Sense). cond (wants a q S.watches) None (stale_for s t S.entries S.store)) e
+      ∙ keeps-by (is_get q) (wants a q S.watches) (asked_key q) t S.entries S.store)
+
+  manner-to : (q : CoapRequest) → m.sense ≡ Requests q → asks_for t m S ≡ asks_so t a q S
+  manner-to q e =
+      ap (λ (s : Option Stored). manner_by (tag_of s []) (wants_for m S.watches)) (keeps-to q e)
+      ∙ ap (manner_by (tag_of (kept_for t a q S) [])) (asks-to q e)
+
+  spelled-by : (b : MayBegin t word c m p token text S) → Spells (opening_message (asks_so t a b.spelled.request S) b.spelled.request 0 token) text
+  spelled-by b = subst (λ (v : Manner). Spells (opening_message v b.spelled.request 0 token) text) (manner-to b.spelled.request b.spelled.is) b.spelled.spelled
 
   asked-is : (bytes room : ℕ) (gs : List Given) → SoundState S bytes room gs
       → (b : MayBegin t word c m p token text S)
@@ -153,25 +181,25 @@ module _ (t word c : ℕ) (m : Mapping) (p : Peer) (token text : List ℕ) (S : 
       → MayBegin t word c m p token text S → KeptInRoom (asks_in_room t c a n S)
   in-room bytes room gs s b =
       let q = b.spelled.request in
-      let numbered : IsNumbered a q n S = record { short = b.spelled.body; spelled = spelled-by b; token_size = b.worded.token_size; number = b.worded.number } in
+      let numbered : IsNumbered t a q n S = record { short = b.spelled.body; spelled = spelled-by b; token_size = b.worded.token_size; number = b.worded.number } in
       asks-in-room t c a n S s.kept b.later b.idle (subst IsProper (sym b.spelled.is) tt)
-      (λ r e j h. subst (λ (z : CoapRequest). IsNumbered a z n S) (request-of q r (sym b.spelled.is ∙ e)) numbered)
+      (λ r e j h. subst (λ (z : CoapRequest). IsNumbered t a z n S) (request-of q r (sym b.spelled.is ∙ e)) numbered)
       (record { request = b.small; message = b.spelled.short })
 
   spelled-so : MayBegin t word c m p token text S → IsSpelled t a n S
-  spelled-so b = λ r e j h. subst (λ (z : CoapRequest). Spells (opening_message (wants a z S.watches) z 0 token) text) (request-of b.spelled.request r (sym b.spelled.is ∙ e)) (spelled-by b)
+  spelled-so b = λ r e j h. subst (λ (z : CoapRequest). Spells (opening_message (asks_so t a z S) z 0 token) text) (request-of b.spelled.request r (sym b.spelled.is ∙ e)) (spelled-by b)
 
   module _ (sent : Option FirstSending) (d : DraftValue) where
     abbrev ds : List Deed
     ds = Asks c a ∷ sent_first p sent
 
     abbrev S1 : State
-    S1 = with_exchange t m.sense (exchange_by t token p m.sense (wants_for m S.watches) sent (length S.entries)) (reader_by c (length S.entries)) w (with_draft t d S)
+    S1 = with_exchange t m.sense (exchange_by t token p m.sense (wants_for m S.watches) sent (length S.entries)) (reader_by c (length S.entries)) (keeps_for t m S) w (with_draft t d S)
 
-    begun-at : (q : CoapRequest) (o : Bool) → o ≡ wants a q S.watches → Drafts t S (Asks c a ∷ sent_first q.peer sent) d
+    begun-at : (q : CoapRequest) (o : Bool) (f : Option Stored) → o ≡ wants a q S.watches → f ≡ kept_for t a q S → Drafts t S (Asks c a ∷ sent_first q.peer sent) d
         → IsNext t (link_of S.links q.peer).last_mid (next_list w (link_of S.links q.peer).outstanding) sent
-        → with_exchange t (Requests q) (exchange_by t token q.peer (Requests q) o sent (length S.entries)) (reader_by c (length S.entries)) w (with_draft t d S) ≡ begun t c a q n S
-    begun-at q o asks h next =
+        → with_exchange t (Requests q) (exchange_by t token q.peer (Requests q) o sent (length S.entries)) (reader_by c (length S.entries)) f w (with_draft t d S) ≡ begun t c a q n S
+    begun-at q o f asks keeps h next =
         let s = link_of S.links q.peer in
         let both = goes-at-once t (length S.entries) q.peer s.last_mid w s.outstanding sent next in
         let links = with_link q.peer (given_out (awaits_no_more (tokens_of (is_renewed_by q) S.watches) (submitted t w s))) S.links in
@@ -186,9 +214,10 @@ module _ (t word c : ℕ) (m : Mapping) (p : Peer) (token text : List ℕ) (S : 
         ap (λ (v : Option ℕ). record e { sending = v }) both.1
         ∙ ap (λ (b : Bool). record e { sending = option_map (λ (x : Waiting). length S.entries + 1) out; awaits = b }) both.2
         ∙ ap (λ (b : Bool). record e { sending = option_map (λ (x : Waiting). length S.entries + 1) out; awaits = is_some out; observes = b }) asks in
-        ap (λ (U : State). record U { issued = S.issued + 1; exchanges = S.exchanges ++ e ∷ []; readers = U.readers ++ r ∷ []; watches = rest; links = links }) draft
-        ∙ ap (λ (qs : List Reader). record (entered_all t (begin_deeds t c a q n S) S) { issued = S.issued + 1; exchanges = S.exchanges ++ e ∷ []; readers = qs ++ r ∷ []; watches = rest; links = links }) rs
-        ∙ ap (λ (x : Exchange). record (entered_all t (begin_deeds t c a q n S) S) { issued = S.issued + 1; exchanges = S.exchanges ++ x ∷ []; readers = S.readers ++ r ∷ []; watches = rest; links = links }) ex
+        ap (λ (U : State). record U { issued = S.issued + 1; exchanges = S.exchanges ++ e ∷ []; stales = S.stales ++ kept_as (length S.entries) f; readers = U.readers ++ r ∷ []; watches = rest; links = links }) draft
+        ∙ ap (λ (qs : List Reader). record (entered_all t (begin_deeds t c a q n S) S) { issued = S.issued + 1; exchanges = S.exchanges ++ e ∷ []; stales = S.stales ++ kept_as (length S.entries) f; readers = qs ++ r ∷ []; watches = rest; links = links }) rs
+        ∙ ap (λ (x : Exchange). record (entered_all t (begin_deeds t c a q n S) S) { issued = S.issued + 1; exchanges = S.exchanges ++ x ∷ []; stales = S.stales ++ kept_as (length S.entries) f; readers = S.readers ++ r ∷ []; watches = rest; links = links }) ex
+        ∙ ap (λ (v : Option Stored). record (entered_all t (begin_deeds t c a q n S) S) { issued = S.issued + 1; exchanges = S.exchanges ++ begun_exchange t a q n S ∷ []; stales = S.stales ++ kept_as (length S.entries) v; readers = S.readers ++ r ∷ []; watches = rest; links = links }) keeps
 
     begun-is : (b : MayBegin t word c m p token text S) → Drafts t S ds d
         → IsNext t (link_of S.links p).last_mid (next_list w (link_of S.links p).outstanding) sent
@@ -199,11 +228,11 @@ module _ (t word c : ℕ) (m : Mapping) (p : Peer) (token text : List ℕ) (S : 
         let sense : Requests q ≡ m.sense = sym b.spelled.is in
         subst (λ (z : Peer). Drafts t S (Asks c a ∷ sent_first z sent) d
         → IsNext t (link_of S.links z).last_mid (next_list w (link_of S.links z).outstanding) sent
-        → with_exchange t m.sense (exchange_by t token z m.sense (wants_for m S.watches) sent (length S.entries)) (reader_by c (length S.entries)) w (with_draft t d S) ≡ begun t c a q n S)
+        → with_exchange t m.sense (exchange_by t token z m.sense (wants_for m S.watches) sent (length S.entries)) (reader_by c (length S.entries)) (keeps_for t m S) w (with_draft t d S) ≡ begun t c a q n S)
         same (subst (λ (k : Sense). Drafts t S (Asks c a ∷ sent_first q.peer sent) d
         → IsNext t (link_of S.links q.peer).last_mid (next_list w (link_of S.links q.peer).outstanding) sent
-        → with_exchange t k (exchange_by t token q.peer k (wants_for m S.watches) sent (length S.entries)) (reader_by c (length S.entries)) w (with_draft t d S) ≡ begun t c a q n S)
-        sense (begun-at q (wants_for m S.watches) (asks-to q b.spelled.is))) h next
+        → with_exchange t k (exchange_by t token q.peer k (wants_for m S.watches) sent (length S.entries)) (reader_by c (length S.entries)) (keeps_for t m S) w (with_draft t d S) ≡ begun t c a q n S)
+        sense (begun-at q (wants_for m S.watches) (keeps_for t m S) (asks-to q b.spelled.is) (keeps-to q b.spelled.is))) h next
 
     module _ (bytes room : ℕ) (gs : List Given) (os : List Outgoing) (s : SoundState S bytes room gs)
         (b : MayBegin t word c m p token text S) (h : Drafts t S ds d)

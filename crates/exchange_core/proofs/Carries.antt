@@ -1,5 +1,5 @@
 -- The pairs that are carried over over a turn, in the terms of its functions.
-use Rattle.std.proofs.Common.{◌≡◌, ℕ, Bool, true, false, cond, not, ◌&&◌, eqb, List, [], ◌∷◌, ◌++◌, Option, Some, None, refl, sym, ap, ◌∙◌}
+use Rattle.std.proofs.Common.{◌≡◌, ℕ, Bool, true, false, cond, not, ◌&&◌, eqb, List, [], ◌∷◌, ◌++◌, Option, Some, None, refl, sym, ap, subst, ◌∙◌}
 use Rattle.std.specs.Prelude.{◌||◌, filter}
 use Rattle.std.specs.List.{list_any}
 use Rattle.std.specs.Option.{option_map_or}
@@ -15,6 +15,8 @@ use Rattle.exchange_model.specs.State.{State}
 use Rattle.exchange_model.specs.Steps.{asked_in, put_by, retired, settled, settled_by}
 use Rattle.exchange_model.specs.Rotating.{Backed, backed, backed_if, few_of, taken, writes_at}
 use Rattle.journal_copies.specs.Carrying.{backed_in, few_in}
+use Rattle.exchange_core.specs.Renewing.{AreAskable, is_as_heard}
+use Rattle.exchange_core.proofs.Listed.{heard-filter}
 
 -- filters
 
@@ -73,6 +75,10 @@ unwritten-are ws (e ∷ es) ps =
     ∙ filter-so (λ (p : Pair). spares ws e p && is_unwritten ws es p) (is_unwritten ws (e ∷ es))
     (λ p. not-or (writes_at ws p.key.place e) (list_any (writes_at ws p.key.place) es)) ps))
 
+-- What stays of what may be asked about may be asked about.
+pub askable-retired : (ws : List Written) (es : List Exchange) (ps : List Pair) → AreAskable ws ps → AreAskable ws (retired ws es ps)
+askable-retired ws es ps a = subst (AreAskable ws) (sym (unwritten-are ws es ps)) (heard-filter ws ps a (is_unwritten ws es))
+
 -- So those that may be carried over are looked at.
 module _ (t : ℕ) (S : State) where
   and-false : (b : Bool) → (b && false) ≡ false
@@ -83,21 +89,33 @@ module _ (t : ℕ) (S : State) where
   and-true true = refl
   and-true false = refl
 
-  backed-are : (ps : List Pair) → backed_in t S.entries (filter (is_unwritten S.entries S.exchanges) ps) ≡ backed t S ps
+  -- as it was heard, and written to by none
+  abbrev goes_on : Pair → Bool
+  goes_on p = is_unwritten S.entries S.exchanges p && is_as_heard S.entries p
+
+  backed-are : (ps : List Pair) → backed_in t S.entries (filter goes_on ps) ≡ backed t S ps
   backed-are [] = refl
-  backed-are (p ∷ ps) = by (backed-are ps) (is_unwritten S.entries S.exchanges p)
+  backed-are (p ∷ ps) = by (backed-are ps) (is_unwritten S.entries S.exchanges p) (is_as_heard S.entries p)
     where
-      by : backed_in t S.entries (filter (is_unwritten S.entries S.exchanges) ps) ≡ backed t S ps → (b : Bool)
-          → backed_in t S.entries (cond b (p ∷ filter (is_unwritten S.entries S.exchanges) ps) (filter (is_unwritten S.entries S.exchanges) ps))
-          ≡ backed_if (is_fresh t p.stored && b) S.entries p ++ backed t S ps
-      by ih true =
+      by : backed_in t S.entries (filter goes_on ps) ≡ backed t S ps → (b c : Bool)
+          → backed_in t S.entries (cond (b && c) (p ∷ filter goes_on ps) (filter goes_on ps))
+          ≡ backed_if (is_fresh t p.stored && (c && b)) S.entries p ++ backed t S ps
+      by ih true true =
           ap (λ (bs : List Backed). backed_if (is_fresh t p.stored) S.entries p ++ bs) ih
           ∙ ap (λ (b : Bool). backed_if b S.entries p ++ backed t S ps) (sym (and-true (is_fresh t p.stored)))
-      by ih false =
+      by ih true false =
+          ih
+          ∙ ap (λ (b : Bool). backed_if b S.entries p ++ backed t S ps) (sym (and-false (is_fresh t p.stored)))
+      by ih false true =
+          ih
+          ∙ ap (λ (b : Bool). backed_if b S.entries p ++ backed t S ps) (sym (and-false (is_fresh t p.stored)))
+      by ih false false =
           ih
           ∙ ap (λ (b : Bool). backed_if b S.entries p ++ backed t S ps) (sym (and-false (is_fresh t p.stored)))
 
-  pub taken-are : (ps : List Pair) → ps ≡ retired S.entries S.exchanges S.store → few_in t S.entries ps ≡ taken t S
+  pub taken-are : (ps : List Pair) → ps ≡ filter (is_as_heard S.entries) (retired S.entries S.exchanges S.store) → few_in t S.entries ps ≡ taken t S
   taken-are ps is =
-      ap (λ (qs : List Pair). few_in t S.entries qs) (is ∙ unwritten-are S.entries S.exchanges S.store)
+      ap (λ (qs : List Pair). few_in t S.entries qs)
+      (is ∙ ap (λ (qs : List Pair). filter (is_as_heard S.entries) qs) (unwritten-are S.entries S.exchanges S.store)
+      ∙ filter-both (is_unwritten S.entries S.exchanges) (is_as_heard S.entries) S.store)
       ∙ ap (λ (bs : List Backed). few_of t S.entries [] bs) (backed-are S.store)

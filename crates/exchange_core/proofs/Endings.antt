@@ -13,7 +13,7 @@ use Rattle.exchange_core.specs.declared.ending.Telling.{Telling}
 use Rattle.exchange_core.specs.Values.{written}
 use Rattle.exchange_core.specs.Answering.{Given, IsFound, CountsFrom, IsGiven}
 use Rattle.exchange_core.specs.Drafts.{DraftValue, Drafts, IsDrafted}
-use Rattle.exchange_core.specs.Ending.{IsTold, IsAnswerTo, deed_of, first_moment, given_to}
+use Rattle.exchange_core.specs.Ending.{IsTold, IsAnswerTo, counted_moment, deed_of, given_to}
 use Rattle.exchange_core.proofs.Stepping.{found-stays, counts-stay, given-stay}
 
 -- The entries after one more.
@@ -84,7 +84,7 @@ told-drafted t S ds x g d e h told is more answers = record {
           (found-stays (S.entries ++ d.entries) (written t w ∷ []) x.finding.told
           x.finding.grounds (Requests told.asked.request) told.found);
       counts = counts-stay (S.entries ++ d.entries) (written t w ∷ []) x.finding.grounds t
-          (first_moment S.entries t x.finding.grounds) told.counts;
+          (counted_moment S.entries t x) told.counts;
     }
 
 -- What is told is so still where more is drafted.
@@ -97,8 +97,8 @@ told-stays h more ws t x a = record {
       (found-stays (h ++ more) ws x.finding.told x.finding.grounds (Requests a.asked.request)
       a.found);
   counts = subst (λ (es : List Written). CountsFrom es x.finding.grounds t
-      (first_moment h t x.finding.grounds)) (append_assoc h more ws)
-      (counts-stay (h ++ more) ws x.finding.grounds t (first_moment h t x.finding.grounds) a.counts);
+      (counted_moment h t x)) (append_assoc h more ws)
+      (counts-stay (h ++ more) ws x.finding.grounds t (counted_moment h t x) a.counts);
 }
 
 pub all-told-still : (h more ws : List Written) (t : ℕ) (xs : List Telling)

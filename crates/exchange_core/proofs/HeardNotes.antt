@@ -35,7 +35,7 @@ use Rattle.message_layer.specs.declared.verdict.News.{News}
 use Rattle.message_layer.specs.declared.verdict.News.TheVariants as N
 use Rattle.history_laws.specs.Hearing.{is_such, is_update}
 use Rattle.history_laws.specs.Observing.{as_first, notice_in}
-use Rattle.history_laws.specs.Progress.{Reply, NotUnderstood, Reset, Progress, Fetches, Gives, Ends, anew, answered, answered_so, fetched, fetched_by, step}
+use Rattle.history_laws.specs.Progress.{Reply, Ending, NotUnderstood, Reset, Progress, Fetches, Gives, Ends, anew, answered, answered_so, fetched, fetched_by, step}
 use Rattle.history_laws.specs.Responses.{is_tellable}
 use Rattle.history_laws.proofs.CallerLemmas.{all-of, find-some, none-some, some-is}
 use Rattle.exchange_model.specs.declared.kept.Exchange.{Exchange}
@@ -51,7 +51,7 @@ use Rattle.exchange_core.specs.declared.matter.Going.{Going}
 use Rattle.exchange_core.specs.declared.matter.Matter.{Matter as RustMatter}
 use Rattle.exchange_core.specs.declared.matter.Matter.TheVariants as M
 use Rattle.exchange_core.specs.Hearing.{IsFirstBy, IsFirstSo, is_first, watches_after}
-use Rattle.exchange_core.specs.Matters.{Answer, IsMatter, IsPrepared, answer_in, matter_for, matter_with, replied_to}
+use Rattle.exchange_core.specs.Matters.{Answer, IsMatter, IsPrepared, answer_in, comes_or_renews, matter_for, matter_with, replied_to}
 use Rattle.exchange_core.specs.Notifying.{IsNoted, IsNotedIn, IsUnder, IsWatchedBy, ReadsIn, ReadsSo, is_alone, matter_alone, matter_told, notice_told}
 use Rattle.exchange_core.specs.declared.notifying.Watching.{Watching}
 use Rattle.exchange_core.proofs.Heeds.{WatchedAs, nothing-is}
@@ -191,9 +191,9 @@ got-is : (w : Work) (got : List Reply) → got_by (progress_with w got) ≡ got
 got-is (W.Fetches restarts pieces) got = refl
 got-is (W.Gives upload) got = refl
 
-ends-not : (w : Work) (got : List Reply) → Ends Reset ≡ progress_with w got → ⊥
-ends-not (W.Fetches restarts pieces) got e = cc
-ends-not (W.Gives upload) got e = cc
+ends-not : (how : Ending) (w : Work) (got : List Reply) → Ends how ≡ progress_with w got → ⊥
+ends-not how (W.Fetches restarts pieces) got e = cc
+ends-not how (W.Gives upload) got e = cc
 
 -- how many pieces an exchange has, and whether any
 abbrev is_empty : {X : Type 0} → List X → Bool
@@ -295,7 +295,7 @@ first-so t p x said S n new (M.Goes g) kept i =
     let a = goes-answer t p x said S g.exchange i.0 i.1 in
     subst (IsFirstSo S.pieces (M.Goes g)) (sym i.1)
     (elim (comes-by said x.token S a.0 a.1) [
-      | inl reset ↦ absurd (ends-not g.onward.work i.2.got (sym reset ∙ (a.3 ∙ i.2.is)))
+      | inl ends ↦ absurd (ends-not ends.0 g.onward.work i.2.got (sym ends.1 ∙ (a.3 ∙ i.2.is)))
       | inr came ↦ first-by S g i.0 came.0 kept i.2 (subst (λ (y : Exchange). Contains S.exchanges y) a.2 (answer-stands said x.token S a.0 a.1))
           (sym a.3 ∙ (came.1 ∙ ap (comes_to came.0 S) a.2))
     ])
@@ -366,10 +366,10 @@ noted-by t n p new k m place S N.Lost is i = nothing-noted n new k Nothing (Othe
 noted-by t n p new k m place S N.Response is i = by (find (is_under m.token) S.exchanges) refl i
   where
     by : (v : Option Exchange) → find (is_under m.token) S.exchanges ≡ v
-        → IsMatter n new k (cond (is_none v) (told_alone t N.Response m S) (matter_with place (replied_to v (comes_to m S)))) → IsNotedIn (notice_in m) m k
+        → IsMatter n new k (cond (is_none v) (told_alone t N.Response m S) (matter_with place (replied_to v (comes_or_renews m S)))) → IsNotedIn (notice_in m) m k
     by None at h = watch-noted t n new k m S (find (Watches.is_under m.token) S.watches) refl h
     by (Some e) at h =
-        exchange-noted n new k (replied place e (comes_to m S e)) e m h (replied-is place e (comes_to m S e))
+        exchange-noted n new k (replied place e (comes_or_renews m S e)) e m h (replied-is place e (comes_or_renews m S e))
         ((bytes_eq-Decides e.token m.token).0 (find-some (is_under m.token) S.exchanges e at).1)
 noted-by t n p new k m place S (N.Reset of) is i = by (find (is_under of) S.exchanges) i
   where

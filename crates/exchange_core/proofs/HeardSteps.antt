@@ -210,6 +210,7 @@ module _ (t word : ℕ) (p : Peer) (d : List ℕ) (S : State) (link : LinkValue)
           issued = T.issued;
           exchanges = T.exchanges;
           pieces = T.pieces;
+          stales = T.stales;
           watches = T.watches;
           store = T.store;
           links = T.links;

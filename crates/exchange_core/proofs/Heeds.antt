@@ -23,7 +23,7 @@ use Rattle.history_laws.specs.Progress.{Progress}
 use Rattle.observe_share.specs.declared.registration.Registration.{Registration}
 use Rattle.exchange_model.specs.declared.kept.Exchange.{Exchange}
 use Rattle.exchange_model.specs.State.{PeerLink, State, link_of, with_link}
-use Rattle.exchange_model.specs.Steps.{Matter, Nothing, Tells, Goes, Over, Numbers, exchanges_by, gone_by, has_next_place, issued_by, matter_of, more_by, pieces_by, store_by, watches_by}
+use Rattle.exchange_model.specs.Steps.{Matter, Nothing, Tells, Goes, Over, Numbers, exchanges_by, gone_by, has_next_place, issued_by, matter_of, more_by, pieces_by, stales_by, store_by, watches_by}
 use Rattle.exchange_model.specs.Calls.{goes_as, goes_by, goes_with, heard, repeats, told_for}
 use Rattle.exchange_model.specs.Entering.{Effect, awaits_no_more, entered_all, first_deeds, going_as, sent_as, answer_of, confirm, heeded, next_out, taken_with, garbled, no_effect, IsMid, Comes}
 use Rattle.exchange_model.specs.Keeping.{MayGoOn}
@@ -80,6 +80,7 @@ module _ (t : ℕ) (p : Peer) (d : List ℕ) (S : State) (link : LinkValue) (x :
     issued = issued_by matter S.issued;
     exchanges = fs;
     pieces = pieces_by n matter S.pieces;
+    stales = stales_by matter S.stales;
     watches = f.watches;
     store = store_by S.entries t matter S.store;
     links = ls;

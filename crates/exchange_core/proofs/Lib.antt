@@ -8,6 +8,9 @@ mod Takes
 mod Sounding
 mod Least
 mod Refusals
+mod Renewals
+mod Listed
+mod Askable
 mod Asked
 mod Asks
 mod BeginLinks

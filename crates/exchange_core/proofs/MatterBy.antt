@@ -6,7 +6,7 @@ use Rattle.std.specs.List.{AllByRecursion, Contains}
 use Rattle.coap_codec.specs.Spelling.{Content, Spells}
 use Rattle.coap_codec.specs.declared.block.Block.{Block}
 use Rattle.uri_map.specs.declared.peer.Peer.{Peer}
-use Rattle.ask_model.specs.Requests.{CoapRequest, Sense, Requests, Refuses, asking, block_message}
+use Rattle.ask_model.specs.Requests.{CoapRequest, Sense, Requests, Refuses, Plainly, asking, block_message}
 use Rattle.journal_book.specs.Entries.{Written}
 use Rattle.message_layer.specs.Values.{LinkValue, Told, no_news, response, was_reset, timed_out, was_dropped}
 use Rattle.message_layer.specs.Hearing.{says}
@@ -15,14 +15,16 @@ use Rattle.message_layer.specs.declared.prepared.Heeding.{Heeding}
 use Rattle.message_layer.specs.declared.prepared.Submission.{Submission}
 use Rattle.message_layer.specs.declared.verdict.News.{News}
 use Rattle.message_layer.specs.declared.verdict.News.TheVariants as N
-use Rattle.history_laws.specs.Progress.{Reply, Ending, Reset, Turned, Progress, Ends, block_after, next_message}
+use Rattle.resp_cache.specs.Stored.{Stored}
+use Rattle.history_laws.specs.Responses.{confirms}
+use Rattle.history_laws.specs.Progress.{Reply, Ending, Renewed, Reset, Turned, Progress, Ends, block_after, next_message}
 use Rattle.history_links.specs.Steps.{ended_token}
 use Rattle.history_laws.proofs.CallerLemmas.{all-of, find-some, none-some, some-is}
 use Rattle.exchange_model.specs.declared.kept.Exchange.{Exchange}
 use Rattle.exchange_model.specs.declared.kept.Work.{Work}
 use Rattle.exchange_model.specs.declared.kept.Work.TheVariants as W
 use Rattle.exchange_model.specs.State.{State}
-use Rattle.exchange_model.specs.Steps.{Nothing, Goes, Over, Numbers, answered_in, asked_in, comes_to, fetched_in, has_next_place, is_under, matter_by, progress_with, replied, reply_at, request_in, told_alone}
+use Rattle.exchange_model.specs.Steps.{Nothing, Goes, Over, Numbers, answered_in, asked_in, comes_to, fetched_in, has_next_place, is_under, matter_by, progress_with, replied, reply_at, request_in, stale_in, told_alone, unless_valid}
 use Rattle.exchange_model.specs.Laws.{IsContinued}
 use Rattle.exchange_progress.specs.Coming.{IsComing, IsEnded, block_in, comes_by, is_fetched}
 use Rattle.exchange_model.specs.Growing.{IsWorkOf}
@@ -36,9 +38,21 @@ use Rattle.exchange_progress.specs.declared.coming.Onward.{Onward}
 use Rattle.exchange_core.specs.declared.matter.Answered.{Answered}
 use Rattle.exchange_core.specs.declared.matter.Matter.TheVariants as M
 use Rattle.exchange_core.specs.Notifying.{is_alone, matter_alone}
-use Rattle.exchange_core.specs.Matters.{Answer, IsAnswered, IsAskedFor, IsFewTimes, IsNextFor, IsNextToken, IsPrepared, answer_in, matter_for, matter_with, replied_to}
+use Rattle.exchange_core.specs.Matters.{Answer, IsAnswered, IsAskedFor, IsFewTimes, IsNextFor, IsNextToken, IsPrepared, answer_in, comes_or_renews, matter_for, matter_with, replied_to}
+use Rattle.exchange_core.specs.Renewing.{unless_confirmed}
 
 -- it is the same as by the news
+
+-- where what it asks about is valid still it ends, whatever it would come to
+unless-valid : (v : Option Stored) (m : Content) (S : State) (e : Exchange) (place : Bool) (u : Progress)
+    → unless_valid v m S e (replied place e u) ≡ replied place e (unless_confirmed v (length S.entries) m u)
+unless-valid None m S e place u = refl
+unless-valid (Some s) m S e place u = by (confirms s.response.etag m)
+  where
+    by : (b : Bool) → cond b (Over e (Renewed s (reply_at (length S.entries) m))) (replied place e u)
+        ≡ replied place e (cond b (Ends (Renewed s (reply_at (length S.entries) m))) u)
+    by true = refl
+    by false = refl
 
 pub matter-told : (t : ℕ) (v : News) (m : Content) (b : Bool) (S : State)
     → matter_by t v b m S (answered_in (ended_token v m.token) S.exchanges)
@@ -47,9 +61,9 @@ matter-told t N.Quiet m b S = refl
 matter-told t N.Lost m b S = refl
 matter-told t N.Response m b S = by (find (is_under m.token) S.exchanges)
   where
-    by : (v : Option Exchange) → matter_by t N.Response b m S v ≡ cond (is_none v) (told_alone t N.Response m S) (matter_with b (replied_to v (comes_to m S)))
+    by : (v : Option Exchange) → matter_by t N.Response b m S v ≡ cond (is_none v) (told_alone t N.Response m S) (matter_with b (replied_to v (comes_or_renews m S)))
     by None = refl
-    by (Some e) = refl
+    by (Some e) = unless-valid (stale_in e.opening S.stales) m S e b (comes_to m S e)
 matter-told t (N.Reset of) m b S = by (find (is_under of) S.exchanges)
   where
     by : (v : Option Exchange) → matter_by t (N.Reset of) b m S v ≡ matter_with b (replied_to v (λ e. Ends Reset))
@@ -68,7 +82,7 @@ found-stands (Some x) token es comes a is e =
     subst (λ (y : Exchange). Contains es y) (ap exchange_in (some-is (record { exchange = x; progress = comes x }) a e)) (find-some (is_under token) es x is).0
 
 pub answer-stands : (told : Told) (token : List ℕ) (S : State) (a : Answer) → answer_in told token S ≡ Some a → Contains S.exchanges a.exchange
-answer-stands (response m) token S a e = found-stands (find (is_under token) S.exchanges) token S.exchanges (comes_to m S) a refl e
+answer-stands (response m) token S a e = found-stands (find (is_under token) S.exchanges) token S.exchanges (comes_or_renews m S) a refl e
 answer-stands (was_reset of) token S a e = found-stands (find (is_under of) S.exchanges) of S.exchanges (λ x. Ends Reset) a refl e
 answer-stands no_news token S a e = absurd (none-some a e)
 answer-stands (timed_out of) token S a e = absurd (none-some a e)
@@ -80,14 +94,15 @@ few-found q es e all is = all-of IsFewTimes es e all (find-some q es e is).0
 -- what is found
 
 pub response-none : (n : ℕ) (m : Content) (token : List ℕ) (S : State) → find (is_under token) S.exchanges ≡ None → IsAnswered n None (answer_in (response m) token S)
-response-none n m token S e = ap (λ (v : Option Exchange). replied_to v (comes_to m S)) e
+response-none n m token S e = ap (λ (v : Option Exchange). replied_to v (comes_or_renews m S)) e
 
 pub response-some : (n : ℕ) (m : Content) (token : List ℕ) (S : State) (e : Exchange) (c : Coming) → find (is_under token) S.exchanges ≡ Some e → n ≡ length S.entries
-    → IsComing n c (comes_by S.entries S.pieces e n m) → IsAnswered n (Some (record { exchange = e; coming = c })) (answer_in (response m) token S)
+    → IsComing n c (unless_confirmed (stale_in e.opening S.stales) n m (comes_by S.entries S.pieces e n m))
+    → IsAnswered n (Some (record { exchange = e; coming = c })) (answer_in (response m) token S)
 response-some n m token S e c is number comes = (
-  comes_by S.entries S.pieces e n m,
-  ap (λ (v : Option Exchange). replied_to v (comes_to m S)) is
-      ∙ ap (λ (k : ℕ). Some (record { exchange = e; progress = comes_by S.entries S.pieces e k m })) (sym number),
+  unless_confirmed (stale_in e.opening S.stales) n m (comes_by S.entries S.pieces e n m),
+  ap (λ (v : Option Exchange). replied_to v (comes_or_renews m S)) is
+      ∙ ap (λ (k : ℕ). Some (record { exchange = e; progress = unless_confirmed (stale_in e.opening S.stales) k m (comes_by S.entries S.pieces e k m) })) (sym number),
   comes,
 )
 
@@ -115,17 +130,26 @@ goes-progress f e v u h = cc
 -- what comes of a reply
 
 abbrev pub ComesBy : State → Exchange → Progress → Type 0
-ComesBy S e u = (u ≡ Ends Reset) ⊎ ((m : Content) × (u ≡ comes_to m S e))
+ComesBy S e u = ((how : Ending) × (u ≡ Ends how)) ⊎ ((m : Content) × (u ≡ comes_to m S e))
 
-comes-found : (v : Option Exchange) (S : State) (m : Content) (a : Answer) → replied_to v (comes_to m S) ≡ Some a → ComesBy S a.exchange a.progress
+comes-so : (v : Option Stored) (S : State) (m : Content) (x : Exchange) → ComesBy S x (unless_confirmed v (length S.entries) m (comes_to m S x))
+comes-so None S m x = inr (m, refl)
+comes-so (Some s) S m x = by (confirms s.response.etag m)
+  where
+    by : (b : Bool) → ComesBy S x (cond b (Ends (Renewed s (reply_at (length S.entries) m))) (comes_to m S x))
+    by true = inl (Renewed s (reply_at (length S.entries) m), refl)
+    by false = inr (m, refl)
+
+comes-found : (v : Option Exchange) (S : State) (m : Content) (a : Answer) → replied_to v (comes_or_renews m S) ≡ Some a → ComesBy S a.exchange a.progress
 comes-found None S m a e = absurd (none-some a e)
 comes-found (Some x) S m a e =
-    subst (λ (a : Answer). ComesBy S a.exchange a.progress) (some-is (record { exchange = x; progress = comes_to m S x }) a e) (inr (m, refl))
+    subst (λ (a : Answer). ComesBy S a.exchange a.progress) (some-is (record { exchange = x; progress = comes_or_renews m S x }) a e)
+    (comes-so (stale_in x.opening S.stales) S m x)
 
 reset-found : (v : Option Exchange) (S : State) (a : Answer) → replied_to v (λ x. Ends Reset) ≡ Some a → ComesBy S a.exchange a.progress
 reset-found None S a e = absurd (none-some a e)
 reset-found (Some x) S a e =
-    subst (λ (a : Answer). ComesBy S a.exchange a.progress) (some-is (record { exchange = x; progress = Ends Reset }) a e) (inl refl)
+    subst (λ (a : Answer). ComesBy S a.exchange a.progress) (some-is (record { exchange = x; progress = Ends Reset }) a e) (inl (Reset, refl))
 
 pub comes-by : (told : Told) (token : List ℕ) (S : State) (a : Answer) → answer_in told token S ≡ Some a → ComesBy S a.exchange a.progress
 comes-by (response m) token S a e = comes-found (find (is_under token) S.exchanges) S m a e
@@ -134,9 +158,9 @@ comes-by no_news token S a e = absurd (none-some a e)
 comes-by (timed_out of) token S a e = absurd (none-some a e)
 comes-by was_dropped token S a e = absurd (none-some a e)
 
-ends-not : (w : Work) (got : List Reply) → Ends Reset ≡ progress_with w got → ⊥
-ends-not (W.Fetches restarts pieces) got e = cc
-ends-not (W.Gives upload) got e = cc
+ends-not : (how : Ending) (w : Work) (got : List Reply) → Ends how ≡ progress_with w got → ⊥
+ends-not how (W.Fetches restarts pieces) got e = cc
+ends-not how (W.Gives upload) got e = cc
 
 -- A message that names no block is that of a GET.
 named-by : (S : State) (q : CoapRequest) (block : Option Block) (w : Work) (got : List Reply) (e : Exchange) {u : Progress} → ComesBy S e u → u ≡ progress_with w got
@@ -144,7 +168,7 @@ named-by : (S : State) (q : CoapRequest) (block : Option Block) (w : Work) (got 
     → block_or_first q block ≡ block_in w
 named-by S q (Some b) w got e comes is at fetches of few = at
 named-by S q None (W.Gives upload) got e comes is at fetches of few = absurd (false≢true (fetches refl))
-named-by S q None (W.Fetches restarts pieces) got e (inl reset) is at fetches of few = absurd (ends-not (W.Fetches restarts pieces) got (sym reset ∙ is))
+named-by S q None (W.Fetches restarts pieces) got e (inl ends) is at fetches of few = absurd (ends-not ends.0 (W.Fetches restarts pieces) got (sym ends.1 ∙ is))
 named-by S q None (W.Fetches restarts pieces) got e (inr came) is at fetches of few =
     let get = comes-get q e.work (fetched_in S.entries e.opening S.pieces) got (reply_at (length S.entries) came.0) restarts pieces of few (sym came.1 ∙ is) in
     rw (get) at
@@ -161,10 +185,10 @@ turned-with false e (W.Fetches restarts pieces) got is = refl
 turned-with false e (W.Gives upload) got is = refl
 turned-with true e w got is = absurd (false≢true (sym is))
 
-next-with : (q : CoapRequest) (w : Work) (got : List Reply) (token : List ℕ) → next_message false q (progress_with w got) 0 token ≡ Some (block_message q (block_in w) 0 token)
+next-with : (q : CoapRequest) (w : Work) (got : List Reply) (token : List ℕ) → next_message Plainly q (progress_with w got) 0 token ≡ Some (block_message q (block_in w) 0 token)
 next-with q (W.Fetches restarts pieces) got token = plain (block_after pieces)
   where
-    plain : (b : Option Block) → Some (asking false q b 0 token) ≡ Some (block_message q b 0 token)
+    plain : (b : Option Block) → Some (asking Plainly q b 0 token) ≡ Some (block_message q b 0 token)
     plain None = refl
     plain (Some b) = refl
 next-with q (W.Gives upload) got token = refl

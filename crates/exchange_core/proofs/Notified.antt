@@ -16,9 +16,9 @@ use Rattle.message_layer.specs.Prepared.{MayFollow}
 use Rattle.message_layer.specs.declared.prepared.Heeding.{Heeding}
 use Rattle.message_layer.specs.declared.verdict.News.TheVariants as N
 use Rattle.history_laws.specs.Hearing.{is_such, is_update}
-use Rattle.history_laws.specs.Observing.{as_first, notice_by, notice_in, number_or_zero, version}
-use Rattle.history_laws.specs.Progress.{Reply, Ending, Progress, Ends}
-use Rattle.history_laws.proofs.CallerLemmas.{none-some, some-is}
+use Rattle.history_laws.specs.Observing.{as_first, notice_by, notice_in, number_or_zero, version, first_reply}
+use Rattle.history_laws.specs.Progress.{Reply, Ending, Progress, Ends, Fetches}
+use Rattle.history_laws.proofs.CallerLemmas.{none-some, some-is, step-unrenewed}
 use Rattle.exchange_model.specs.declared.kept.Exchange.{Exchange}
 use Rattle.exchange_model.specs.declared.kept.Work.{Work}
 use Rattle.exchange_model.specs.declared.kept.Work.TheVariants as W
@@ -33,6 +33,12 @@ use Rattle.exchange_core.specs.declared.matter.Notification.{Notification}
 use Rattle.exchange_core.specs.declared.notifying.Watching.{Watching}
 use Rattle.exchange_core.specs.Matters.{IsMatter, more_in, IsNextToken, IsPrepared, matter_for}
 use Rattle.exchange_core.specs.Notifying.{IsNoted, IsWatchedBy, ReadsSo, is_alone, matter_alone, matter_told, registered_by, registered_for, unless_more}
+use Rattle.blockwise.specs.Downloads.{no_pieces}
+use Rattle.reply_reading.specs.Findings.{Found}
+use Rattle.exchange_progress.specs.Coming.{IsComing}
+use Rattle.exchange_progress.specs.declared.coming.Coming.{Coming}
+use Rattle.exchange_progress.specs.declared.coming.Coming.TheVariants as Comes
+use Rattle.exchange_progress.specs.declared.coming.Ended.TheVariants as How
 
 -- what is told of no exchange
 
@@ -92,6 +98,16 @@ found-goes t S (Update v) o u (W.Gives upload) got e = sym (ap (found_in t S (Up
 pub found-ends : (t : ℕ) (S : State) (v o : ℕ) (u : Progress) (how : Ending) (x : Option Stored) → u ≡ Ends how → x ≡ content_by S.entries t o how
     → x ≡ found_in t S (Update v) o u
 found-ends t S v o u how x e is = is ∙ sym (ap (found_in t S (Update v) o) e)
+
+-- What comes first renews nothing, so what isn't found then is nothing that is stored.
+pub found-other : (t : ℕ) (S : State) (notice : Notice) (o n : ℕ) (m : Content) (x : Coming) → IsComing n x (as_first n 0 m)
+    → ((f : Found) → x ≡ Comes.Ends (How.Found f) → ⊥) → None ≡ found_in t S notice o (as_first n 0 m)
+found-other t S notice o n m (Comes.Goes w) h other = found-goes t S notice o _ w.work h.got h.is
+found-other t S notice o n m (Comes.Ends (How.Found f)) h other = absurd (other f refl)
+found-other t S notice o n m (Comes.Ends (How.Renewed f p)) h other =
+    absurd (step-unrenewed (Fetches 0 no_pieces []) (first_reply n 0 m) h.2.1.0 h.2.1.1 (λ how e. cc) (h.1 ∙ ap Ends h.2.1.2))
+found-other t S (Other v) o n m (Comes.Ends How.Turned) h other = refl
+found-other t S (Update v) o n m (Comes.Ends How.Turned) h other = sym (ap (found_in t S (Update v) o) (h.1 ∙ ap Ends h.2))
 
 -- to whom it is
 

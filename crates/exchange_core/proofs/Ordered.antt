@@ -10,6 +10,7 @@ use Rattle.history_laws.proofs.CallerLemmas.{all-more, begun-below, entries-leng
 use Rattle.exchange_model.specs.declared.kept.Conn.{Conn}
 use Rattle.exchange_model.specs.declared.kept.Exchange.{Exchange}
 use Rattle.exchange_model.specs.declared.kept.Reader.{Reader}
+use Rattle.exchange_model.specs.declared.kept.Stale.{Stale}
 use Rattle.exchange_model.specs.Resting.{HasConn}
 use Rattle.exchange_model.specs.State.{State, pend}
 use Rattle.exchange_model.specs.Reads.{ExchangeIn, Reads}
@@ -83,6 +84,13 @@ latest S e k opening token = record {
 
     len : length l ≡ length S.entries
     len = sym (entries-length l) ∙ ap length r.entries_are
+
+-- What exchanges ask about was noted at their openings.
+pub stales-before : (S : State) → Kept S → (o : ℕ) → o ≡ length S.entries → AllByRecursion (λ (x : Stale). x.opening < o) S.stales
+stales-before S k o is =
+    let r = k.rests.reads in
+    let len : length k.reading ≡ length S.entries = sym (entries-length k.reading) ∙ ap length r.entries_are in
+    all-more (λ (x : Stale). x.opening < length k.reading) (λ (x : Stale). x.opening < o) (λ x lt. omega (arith, lt, len, is)) S.stales r.stales_are.below
 
 -- What a connection waits for is no part of the order.
 

@@ -1,5 +1,5 @@
 -- What an ask that the store answers leaves.
-use Rattle.std.proofs.Common.{◌≡◌, ◌≤◌, ◌^◌, ℕ, ◌+◌, inl, inr, Bool, true, false, cond, List, [], ◌∷◌, ◌++◌, length, map, Option, Some, None, refl, sym, ap, subst, ◌∙◌}
+use Rattle.std.proofs.Common.{◌≡◌, ◌⊎◌, ◌≤◌, ◌^◌, ℕ, ◌+◌, inl, inr, Bool, true, false, cond, List, [], ◌∷◌, ◌++◌, length, map, Option, Some, None, refl, sym, ap, subst, ◌∙◌}
 use Rattle.std.specs.Prelude.{sum_by, is_none, ◌&&◌, ◌==◌}
 use Rattle.std.specs.List.{AllByRecursion, find}
 use Rattle.std.proofs.lemmas.Bool.{and_parts}
@@ -22,7 +22,7 @@ use Rattle.exchange_model.specs.State.{State}
 use Rattle.exchange_model.specs.Steps.{seals, Numbers}
 use Rattle.exchange_model.specs.Calls.{IsAlone, asked, served_in}
 use Rattle.exchange_model.specs.Entering.{entered_all, IsDrained}
-use Rattle.exchange_model.specs.Growing.{AreCopiedAt, AreHeardAt, IsCopiedAt, IsHeardAt, IsHeardIn}
+use Rattle.exchange_model.specs.Growing.{IsHeardIn, IsRenewedIn}
 use Rattle.exchange_model.specs.Room.{fits, KeptInRoom}
 use Rattle.exchange_model.specs.Sealing.{asks_in_room}
 use Rattle.exchange_model.specs.Watching.{touched, touched_for}
@@ -30,10 +30,11 @@ use Rattle.exchange_model.proofs.CallerLemmas.{served-enters, store-heard}
 use Rattle.exchange_core.specs.Answering.{Given, AreHeard, HeardAs, IsFound, CountsFrom, IsGiven}
 use Rattle.exchange_core.specs.Drafts.{DraftValue, Drafts, IsDrafted}
 use Rattle.exchange_core.specs.Joining.{joined_for}
-use Rattle.exchange_core.specs.Recalling.{MayRecall, WasHeard, kept_given, moved_for, moved_under, recall_deeds, recalled, served_for, served_under}
+use Rattle.exchange_core.specs.Recalling.{MayRecall, WasHeard, WasRenewed, WasWhole, kept_given, moved_for, moved_under, recall_deeds, recalled, served_for, served_under}
 use Rattle.exchange_core.specs.Sound.{SoundState}
 use Rattle.exchange_core.specs.States.{core_of, with_draft}
 use Rattle.exchange_core.specs.Values.{Outgoing, stepped, written}
+use Rattle.exchange_core.proofs.Renewals.{all-copied, all-heard, copied-at, first-counts, heard-at, renewed-of}
 use Rattle.exchange_core.proofs.Refusals.{answer-drafted, asks-entered, asks-sealed, refusal-there}
 use Rattle.exchange_core.proofs.Sounding.{first-of, second-of, sound-drafted, sound-seal}
 use Rattle.exchange_core.proofs.Stepping.{committed, counts-stay, entered-entries, found-stays, same-core, stepped-seal, with-draft}
@@ -75,38 +76,6 @@ enters-served t c a q n s S sense found =
 
 -- what is stored was heard
 
-heard-at : (S : State) (n : ℕ) (m : Content) → (h : IsHeardAt S n m) → HeardAs S.entries n h.moment m
-heard-at S n m h = record {
-  peer = h.peer;
-  bytes = h.bytes;
-  deed = Hears h.peer h.bytes;
-  stands = h.stands;
-  says = refl;
-  spelled = h.spelled;
-}
-
-all-heard : (S : State) (ns : List ℕ) (ms : List Content) → AreHeardAt S ns ms → AreHeard S.entries ns ms
-all-heard S [] [] h = tt
-all-heard S [] (m ∷ ms) h = absurd h
-all-heard S (n ∷ ns) [] h = absurd h
-all-heard S (n ∷ ns) (m ∷ ms) h = ((h.0.moment, heard-at S n m h.0), all-heard S ns ms h.1)
-
-copied-at : (S : State) (n : ℕ) (m : Content) → (h : IsCopiedAt S n m) → HeardAs S.entries n h.moment m
-copied-at S n m h = record {
-  peer = h.peer;
-  bytes = h.bytes;
-  deed = Carries h.number Ground (Heard h.peer h.bytes);
-  stands = h.stands;
-  says = refl;
-  spelled = h.spelled;
-}
-
-all-copied : (S : State) (ns : List ℕ) (ms : List Content) → AreCopiedAt S ns ms → AreHeard S.entries ns ms
-all-copied S [] [] h = tt
-all-copied S [] (m ∷ ms) h = absurd h
-all-copied S (n ∷ ns) [] h = absurd h
-all-copied S (n ∷ ns) (m ∷ ms) h = ((h.0.moment, copied-at S n m h.0), all-copied S ns ms h.1)
-
 heard-all : (S : State) (p : Pair) (h : IsHeardIn S p)
     → HeardAs S.entries h.number p.stored.heard h.message × AreHeard S.entries h.others h.more
 heard-all S p h =
@@ -121,10 +90,10 @@ heard-all S p h =
       )
     ]
 
-heard-of : (S : State) (p : Pair) (x : Stored) → IsHeardIn S p → Some p.stored ≡ Some x → WasHeard S.entries x
-heard-of S p x h e =
+whole-of : (S : State) (p : Pair) (x : Stored) → IsHeardIn S p → Some p.stored ≡ Some x → WasWhole S.entries x
+whole-of S p x h e =
     let all = heard-all S p h in
-    subst (WasHeard S.entries) (some-is p.stored x e)
+    subst (WasWhole S.entries) (some-is p.stored x e)
     (record {
       number = h.number;
       others = h.others;
@@ -136,7 +105,11 @@ heard-of S p x h e =
       whole = h.whole;
     })
 
-found-heard : (k : CacheKey) (t : ℕ) (S : State) (x : Stored) (ps : List Pair) → AllByRecursion (IsHeardIn S) ps
+heard-of : (S : State) (p : Pair) (x : Stored) → IsHeardIn S p ⊎ IsRenewedIn S p → Some p.stored ≡ Some x → WasHeard S.entries x
+heard-of S p x (inl h) e = inl (whole-of S p x h e)
+heard-of S p x (inr h) e = inr (subst (WasRenewed S.entries) (some-is p.stored x e) (renewed-of S p h))
+
+found-heard : (k : CacheKey) (t : ℕ) (S : State) (x : Stored) (ps : List Pair) → AllByRecursion (λ (p : Pair). IsHeardIn S p ⊎ IsRenewedIn S p) ps
     → stored_in (find (is_fresh_under k t) ps) ≡ Some x → WasHeard S.entries x
 found-heard k t S x [] a e = absurd (none-some x e)
 found-heard k t S x (p ∷ ps) a e = by (is_fresh_under k t p) (found-heard k t S x ps a.1) e
@@ -162,13 +135,19 @@ was-heard t s q x S k sense found = by (is_get q) refl (served-is t s q S (Some 
 
 found-kept : (h : List Written) (s : Stored) (q : CoapRequest) → q.method ≡ 1 → WasHeard h s
     → IsFound h (Tells s.response) (Kept s.list) (Requests q)
-found-kept h s q get w =
+found-kept h s q get (inl w) =
     subst (λ (js : List ℕ). IsFound h (Tells s.response) (Kept js) (Requests q)) (sym w.list)
-    (w.message ∷ w.more, ((s.heard, w.first), w.rest), rw (get) w.whole)
+    (w.message ∷ w.more, ((s.heard, w.first), w.rest), inl (rw (get) w.whole))
+found-kept h s q get (inr w) =
+    subst (λ (js : List ℕ). IsFound h (Tells s.response) (Kept js) (Requests q)) (sym w.list)
+    (w.messages, w.heard, inr (get, w.renewal))
 
 counts-kept : (h : List Written) (s : Stored) (t : ℕ) → WasHeard h s → CountsFrom h (Kept s.list) t s.heard
-counts-kept h s t w =
-    subst (λ (js : List ℕ). CountsFrom h (Kept js) t s.heard) (sym w.list) (w.message, w.first)
+counts-kept h s t (inl w) =
+    subst (λ (js : List ℕ). CountsFrom h (Kept js) t s.heard) (sym w.list)
+    (inl (first-counts h w.number w.others s.heard w.message w.more s.response w.first w.rest w.whole))
+counts-kept h s t (inr w) =
+    subst (λ (js : List ℕ). CountsFrom h (Kept js) t s.heard) (sym w.list) (inr w.counts)
 
 kept-given-stands : (t c : ℕ) (m : Mapping) (s : Stored) (S : State) → MayRecall t c m s S
     → IsGiven (entered_all t (recall_deeds c (ask_of m) s S) S).entries (kept_given (length S.entries) t c m s)

@@ -1,6 +1,7 @@
 -- What the end of an exchange does to the store, and a datagram to the other tables, is what the step says.
-use Rattle.std.proofs.Common.{◌≡◌, ℕ, Bool, true, false, cond, eqb, List, [], ◌∷◌, ◌++◌, map, Option, Some, None, refl, sym, ap, subst, ◌∙◌, ◌||◌, arith}
-use Rattle.std.specs.Prelude.{filter, option_and_then, take, ◌&&◌, ◌==◌, is_none, length}
+use Rattle.std.proofs.Common.{◌≡◌, ℕ, Bool, true, false, cond, eqb, List, [], ◌∷◌, ◌++◌, map, Option, Some, None, refl, sym, ap, subst, ◌∙◌, ◌||◌, arith, length-append}
+use Rattle.std.specs.Prelude.{filter, option_and_then, slice_get, take, ◌&&◌, ◌==◌, ◌-◌, is_none, length}
+use Rattle.std.specs.Option.{option_map_or}
 use Rattle.limits.specs.declared.TheConstants.{MAX_STORED}
 use Rattle.coap_codec.specs.declared.block.Block.{Block}
 use Rattle.cache_key.specs.Keys.{CacheKey}
@@ -10,20 +11,22 @@ use Rattle.resp_cache.specs.declared.pair.Pair.{Pair}
 use Rattle.ask_model.specs.Requests.{CoapRequest}
 use Rattle.ask_model.specs.Sharing.{asked_key, asked_place}
 use Rattle.journal_book.specs.Entries.{Grounds, Live, Kept, Fault, Written}
-use Rattle.history_laws.specs.Responses.{Response}
-use Rattle.history_laws.proofs.CallerLemmas.{eqb-apart}
-use Rattle.history_laws.specs.Progress.{Reply, numbers, Ending, Whole, NotUnderstood, Reset, TimedOut, Turned, Progress}
+use Rattle.history_laws.specs.Responses.{Response, renewed_response}
+use Rattle.history_laws.proofs.CallerLemmas.{eqb-apart, got-last}
+use Rattle.history_laws.specs.Progress.{Reply, numbers, Ending, Whole, Renewed, NotUnderstood, Reset, TimedOut, Turned, Progress}
 use Rattle.reply_reading.specs.Findings.{Found, Told, Tells, Fails}
 use Rattle.exchange_model.specs.declared.kept.Exchange.{Exchange}
 use Rattle.exchange_model.specs.declared.kept.Piece.{Piece}
 use Rattle.exchange_model.specs.declared.kept.Reader.{Reader}
+use Rattle.exchange_model.specs.declared.kept.Stale.{Stale}
 use Rattle.exchange_model.specs.declared.kept.Work.{Work}
 use Rattle.exchange_model.specs.declared.kept.Work.TheVariants as W
-use Rattle.exchange_model.specs.Steps.{Matter, Numbers, asked_in, content_by, exchanges_by, goes_so, got_by, is_of_other, issued_by, moment_in, newest_content, outdated_by, pieces_by, pieces_with, progress_with, put_by, retold, settled, settled_by, store_by, work_by}
+use Rattle.exchange_model.specs.Steps.{Matter, Numbers, asked_in, content_by, exchanges_by, goes_so, got_by, is_of_other, issued_by, moment_in, newest_content, outdated_by, pieces_by, pieces_with, progress_with, put_by, renewed_by, retold, settled, settled_by, stales_by, store_by, work_by}
 use Rattle.exchange_model.specs.Calls.{grounds_for}
+use Rattle.exchange_table.specs.Stales.{is_about_another}
 use Rattle.exchange_table.specs.Tables.{went_on}
 use Rattle.exchange_table.proofs.CallerLemmas.{went-so}
-use Rattle.exchange_progress.specs.Coming.{IsEnded, first_got, found_for, told_as}
+use Rattle.exchange_progress.specs.Coming.{IsEnded, first_got, found_for, renews, told_as}
 use Rattle.exchange_progress.specs.declared.coming.Ended.{Ended}
 use Rattle.exchange_progress.specs.declared.coming.Ended.TheVariants as How
 use Rattle.exchange_core.specs.declared.matter.Going.{Going}
@@ -31,7 +34,7 @@ use Rattle.exchange_core.specs.declared.matter.Notification.{Notification}
 use Rattle.exchange_core.specs.declared.matter.Matter.TheVariants as M
 use Rattle.exchange_core.specs.Hearing.{IsFirstBy, IsFirstSo, is_first}
 use Rattle.exchange_core.specs.Matters.{IsMatter}
-use Rattle.exchange_core.specs.Storing.{content_told, if_newest, is_newest_found, key_ended, key_got, pair_of, put_for, put_in, settled_with, stored_for}
+use Rattle.exchange_core.specs.Storing.{content_told, if_newest, is_newest_found, if_unchanged, key_ended, key_got, pair_of, put_for, put_in, renewed_for, settled_with, stored_for}
 
 -- what is put, or else what is there
 abbrev with_pair : Option Pair → List Pair → List Pair → List Pair
@@ -72,14 +75,18 @@ settled-put ws (Some e) f ps =
 
 -- what is told, as it is stored
 
-content-told : (ws : List Written) (t o n : ℕ) (how : Ending) (sending : Option ℕ) (r : Reader)
+not-false : true ≡ false → ⊥
+not-false e = cc
+
+content-told : (ws : List Written) (t o n : ℕ) (how : Ending) (sending : Option ℕ) (r : Reader) → renews how ≡ false
     → stored_for ws t o (told_as how) (grounds_for how n sending r) ≡ content_by ws t o how
-content-told ws t o n (Whole w []) sending r = refl
-content-told ws t o n (Whole w (x ∷ xs)) sending r = refl
-content-told ws t o n NotUnderstood sending r = refl
-content-told ws t o n Reset sending r = refl
-content-told ws t o n TimedOut sending r = refl
-content-told ws t o n Turned sending r = refl
+content-told ws t o n (Whole w []) sending r old = refl
+content-told ws t o n (Whole w (x ∷ xs)) sending r old = refl
+content-told ws t o n (Renewed s u) sending r old = absurd (not-false old)
+content-told ws t o n NotUnderstood sending r old = refl
+content-told ws t o n Reset sending r old = refl
+content-told ws t o n TimedOut sending r old = refl
+content-told ws t o n Turned sending r old = refl
 
 none_told : (ws : List Written) (t o : ℕ) (w : Response) (g : Grounds) (b : Bool) → cond b (Some w) None ≡ None → eqb w.code 69 ≡ b → stored_for ws t o (Tells w) g ≡ None
 none_told ws t o w g true e is = absurd cc
@@ -121,23 +128,63 @@ none-either : (b : Bool) → cond {A = Option Stored} b None None ≡ None
 none-either true = refl
 none-either false = refl
 
-newest-told : (ws : List Written) (t n : ℕ) (e : Exchange) (how : Ending) (sending : Option ℕ) (r : Reader)
+newest-told : (ws : List Written) (t n : ℕ) (e : Exchange) (how : Ending) (sending : Option ℕ) (r : Reader) → renews how ≡ false
     → if_newest e (found_for how n sending r) (stored_for ws t e.opening (told_as how) (grounds_for how n sending r)) ≡ newest_content ws t e how
-newest-told ws t n e (Whole w []) sending r = both-none e.newest e.newest
-newest-told ws t n e (Whole w (x ∷ [])) sending r = refl
-newest-told ws t n e (Whole w (x ∷ y ∷ ys)) sending r =
+newest-told ws t n e (Whole w []) sending r old = both-none e.newest e.newest
+newest-told ws t n e (Renewed s u) sending r old = absurd (not-false old)
+newest-told ws t n e (Whole w (x ∷ [])) sending r old = refl
+newest-told ws t n e (Whole w (x ∷ y ∷ ys)) sending r old =
     ap (λ (b : Bool). cond (b || e.newest) (content_by ws t e.opening (Whole w (x ∷ y ∷ ys))) None)
     (eqb-apart (length (numbers (x ∷ y ∷ ys))) 1 (λ (h : length (numbers (x ∷ y ∷ ys)) ≡ 1). omega (arith, h)))
-newest-told ws t n e NotUnderstood sending r = none-either (is_newest_found e (found_for NotUnderstood n sending r))
-newest-told ws t n e Reset sending r = none-either (is_newest_found e (found_for Reset n sending r))
-newest-told ws t n e TimedOut sending r = none-either (is_newest_found e (found_for TimedOut n sending r))
-newest-told ws t n e Turned sending r = none-either (is_newest_found e (found_for Turned n sending r))
+newest-told ws t n e NotUnderstood sending r old = none-either (is_newest_found e (found_for NotUnderstood n sending r))
+newest-told ws t n e Reset sending r old = none-either (is_newest_found e (found_for Reset n sending r))
+newest-told ws t n e TimedOut sending r old = none-either (is_newest_found e (found_for TimedOut n sending r))
+newest-told ws t n e Turned sending r old = none-either (is_newest_found e (found_for Turned n sending r))
 
 pub put-ended : (n t : ℕ) (ws : List Written) (e : Exchange) (f : Found) (how : Ending) → IsEnded n (How.Found f) how
     → put_for ws (Some e) (if_newest e f (stored_for ws t e.opening f.told f.grounds)) ≡ put_for ws (Some e) (newest_content ws t e how)
 put-ended n t ws e f how i =
-    ap (λ (g : Found). put_for ws (Some e) (if_newest e g (stored_for ws t e.opening g.told g.grounds))) (i None some_reader)
-    ∙ ap (put_for ws (Some e)) (newest-told ws t n e how None some_reader)
+    ap (λ (g : Found). put_for ws (Some e) (if_newest e g (stored_for ws t e.opening g.told g.grounds))) (i.0 None some_reader)
+    ∙ ap (put_for ws (Some e)) (newest-told ws t n e how None some_reader i.1)
+
+-- what was renewed, as it is stored
+
+pub last-got : (js : List ℕ) (n : ℕ) → slice_get (js ++ n ∷ []) (length (js ++ n ∷ []) - 1) ≡ Some n
+last-got js n =
+    ap (slice_get (js ++ n ∷ [])) (let more = length-append js (n ∷ []) in omega (arith, more)) ∙ got-last js n []
+
+renewed-told : (ws : List Written) (t : ℕ) (s : Stored) (u : Reply)
+    → renewed_for ws t s.opening (Tells (renewed_response s.response u.message)) (Live (s.list ++ u.number ∷ [])) ≡ Some (renewed_by ws t s u)
+renewed-told ws t s u =
+    ap (λ (v : Option ℕ). Some (stored_of (renewed_response s.response u.message) s.opening (option_map_or (moment_in ws t) v t) (s.list ++ u.number ∷ []))) (last-got s.list u.number)
+
+pub put-renewed : (n t opening : ℕ) (ws : List Written) (e : Exchange) (f : Found) (how : Ending) → IsEnded n (How.Renewed f opening) how
+    → put_for ws (Some e) (if_unchanged e (renewed_for ws t opening f.told f.grounds)) ≡ put_for ws (Some e) (newest_content ws t e how)
+put-renewed n t opening ws e f how i =
+    let s = i.1.0 in
+    let u = i.1.1 in
+    let is : how ≡ Renewed s u = i.1.2 in
+    let found : f ≡ found_for (Renewed s u) n None some_reader = i.0 None some_reader ∙ ap (λ (h : Ending). found_for h n None some_reader) is in
+    ap (λ (g : Found). put_for ws (Some e) (if_unchanged e (renewed_for ws t opening g.told g.grounds))) found
+    ∙ (ap (λ (o : ℕ). put_for ws (Some e) (if_unchanged e (renewed_for ws t o (Tells (renewed_response s.response u.message)) (Live (s.list ++ u.number ∷ []))))) i.1.3
+    ∙ (ap (λ (v : Option Stored). put_for ws (Some e) (if_unchanged e v)) (renewed-told ws t s u)
+    ∙ ap (λ (h : Ending). put_for ws (Some e) (newest_content ws t e h)) (sym is)))
+
+-- what exchanges ask about after it
+
+pub stales-nothing : (n : ℕ) (new : Numbers) (x : Matter) (xs : List Stale) → IsMatter n new M.Nothing x → xs ≡ stales_by x xs
+stales-nothing n new x xs i = sym (ap (λ (y : Matter). stales_by y xs) i)
+
+pub stales-tell : (n : ℕ) (new : Numbers) (k : Notification) (x : Matter) (xs : List Stale) → IsMatter n new (M.Tells k) x → xs ≡ stales_by x xs
+stales-tell n new k x xs i = sym (ap (λ (y : Matter). stales_by y xs) i.1)
+
+pub stales-go : (n : ℕ) (new : Numbers) (g : Going) (x : Matter) (xs : List Stale) → IsMatter n new (M.Goes g) x
+    → filter (is_about_another g.exchange.opening) xs ≡ stales_by x xs
+stales-go n new g x xs i = sym (ap (λ (y : Matter). stales_by y xs) i.1)
+
+pub stales-over : (n : ℕ) (new : Numbers) (e : Exchange) (ended : Ended) (x : Matter) (xs : List Stale) → IsMatter n new (M.Over e ended) x
+    → filter (is_about_another e.opening) xs ≡ stales_by x xs
+stales-over n new e ended x xs i = sym (ap (λ (y : Matter). stales_by y xs) i.1)
 
 pub pair-none : (key : Option CacheKey) → pair_of key None ≡ None
 pair-none None = refl
@@ -237,4 +284,4 @@ pieces-anew n new g x xs i none =
 
 pub ended-told : (ws : List Written) (t o n : ℕ) (f : Found) (how : Ending) → IsEnded n (How.Found f) how → stored_for ws t o f.told f.grounds ≡ content_by ws t o how
 ended-told ws t o n f how i =
-    ap (λ (g : Found). stored_for ws t o g.told g.grounds) (i None some_reader) ∙ content-told ws t o n how None some_reader
+    ap (λ (g : Found). stored_for ws t o g.told g.grounds) (i.0 None some_reader) ∙ content-told ws t o n how None some_reader i.1

@@ -24,6 +24,7 @@ use Rattle.resp_cache.specs.declared.pair.Pair.{Pair}
 use Rattle.exchange_model.specs.declared.kept.Exchange.{Exchange}
 use Rattle.exchange_model.specs.declared.kept.Piece.{Piece}
 use Rattle.exchange_model.specs.declared.kept.Reader.{Reader}
+use Rattle.exchange_model.specs.declared.kept.Stale.{Stale}
 use Rattle.exchange_model.specs.State.{PeerLink}
 use Rattle.exchange_model.specs.Growing.{conns_with}
 use Rattle.exchange_core.specs.Drafts.{DraftValue, IsDrafted}
@@ -206,11 +207,11 @@ sound-shut t c p S S1 bytes bytes1 room room1 gs gs1 s has later early is bs rs 
     (omega (arith, less, most, held, rs)) same)
 
 -- a core with no entry
-pub sound-start : (h : List Written) (cs : List Conn) (es : List Exchange) (fs : List Piece) (rs : List Reader) (us : List Registration) (ps : List Pair) (xs : List PeerLink) (gs : List Given) (room : ℕ)
-    → h ≡ [] → cs ≡ [] → es ≡ [] → fs ≡ [] → rs ≡ [] → us ≡ [] → ps ≡ [] → xs ≡ [] → gs ≡ [] → 1 ≤ room
-    → SoundState (record { entries = h; sealed = false; moment = 0; opened = 0; issued = 0; conns = cs; exchanges = es; pieces = fs; readers = rs; watches = us; store = ps; links = xs }) 0 room gs
-sound-start h cs es fs rs us ps xs gs room a b c f r u p d e large =
-    rw (a, b, c, f, r, u, p, d, e) (record {
+pub sound-start : (h : List Written) (cs : List Conn) (es : List Exchange) (fs : List Piece) (qs : List Stale) (rs : List Reader) (us : List Registration) (ps : List Pair) (xs : List PeerLink) (gs : List Given) (room : ℕ)
+    → h ≡ [] → cs ≡ [] → es ≡ [] → fs ≡ [] → qs ≡ [] → rs ≡ [] → us ≡ [] → ps ≡ [] → xs ≡ [] → gs ≡ [] → 1 ≤ room
+    → SoundState (record { entries = h; sealed = false; moment = 0; opened = 0; issued = 0; conns = cs; exchanges = es; pieces = fs; stales = qs; readers = rs; watches = us; store = ps; links = xs }) 0 room gs
+sound-start h cs es fs qs rs us ps xs gs room a b c f q r u p d e large =
+    rw (a, b, c, f, q, r, u, p, d, e) (record {
       kept = start-in-room;
       drained = record { once = tt; out = tt };
       early = omega arith;

@@ -1,5 +1,5 @@
 -- What a step leaves of a core.
-use Rattle.std.proofs.Common.{◌≡◌, ℕ, ◌+◌, List, [], ◌∷◌, ◌++◌, length, map, drop, Some, None, refl, sym, ap, ◌∙◌, append_assoc, length-append, append-nil, drop_at, arith}
+use Rattle.std.proofs.Common.{◌≡◌, ℕ, ◌+◌, List, [], ◌∷◌, ◌++◌, length, map, drop, Some, None, inl, inr, refl, sym, ap, ◌∙◌, append_assoc, length-append, append-nil, drop_at, arith}
 use Rattle.std.specs.List.{AllByRecursion}
 use Rattle.std.proofs.lemmas.List.{map-append, drop_all, length-map}
 use Rattle.history_laws.proofs.CallerLemmas.{got-more}
@@ -14,7 +14,7 @@ use Rattle.exchange_model.specs.Growing.{conns_with}
 use Rattle.exchange_model.specs.Steps.{entered, seals}
 use Rattle.exchange_model.specs.Entering.{entered_all}
 use Rattle.exchange_core.specs.Values.{Outgoing, written, answered_in, sent_in, stepped}
-use Rattle.exchange_core.specs.Answering.{Given, HeardAs, AreHeard, IsFound, CountsFrom, IsGiven}
+use Rattle.exchange_core.specs.Answering.{Given, HeardAs, AreHeard, IsFound, CountsFrom, CountsFromReplies, IsGiven, last_in}
 use Rattle.exchange_core.specs.Drafts.{AllKeep, DraftValue, Drafts, KeepsConns, untaken_of}
 use Rattle.exchange_core.specs.States.{readers_with, with_draft, core_of}
 
@@ -113,11 +113,26 @@ found-stays h more (Fails cause) (Live js) s f = absurd f
 found-stays h more (Fails cause) (Kept js) s f = absurd f
 found-stays h more (Fails cause) (Fault named n) s f = f
 
+replies-stay : (h more : List Written) (j : ℕ) (js : List ℕ) (heard : ℕ) → CountsFromReplies h j js heard → CountsFromReplies (h ++ more) j js heard
+replies-stay h more j js heard (inl c) = inl (record {
+  message = c.message;
+  first = heard-stays h more j heard c.message c.first;
+  moment = c.moment;
+  last = c.last;
+  ends = heard-stays h more (last_in j js) c.moment c.last c.ends;
+  other = c.other;
+})
+replies-stay h more j js heard (inr c) = inr (record {
+  message = c.message;
+  last = heard-stays h more (last_in j js) heard c.message c.last;
+  says = c.says;
+})
+
 pub counts-stay : (h more : List Written) (g : Grounds) (t heard : ℕ) → CountsFrom h g t heard → CountsFrom (h ++ more) g t heard
 counts-stay h more (Live []) t heard c = c
-counts-stay h more (Live (j ∷ js)) t heard c = (c.0, heard-stays h more j heard c.0 c.1)
+counts-stay h more (Live (j ∷ js)) t heard c = replies-stay h more j js heard c
 counts-stay h more (Kept []) t heard c = c
-counts-stay h more (Kept (j ∷ js)) t heard c = (c.0, heard-stays h more j heard c.0 c.1)
+counts-stay h more (Kept (j ∷ js)) t heard c = replies-stay h more j js heard c
 counts-stay h more (Fault cause n) t heard c = c
 
 pub is-given-stays : (h more : List Written) (g : Given) → IsGiven h g → IsGiven (h ++ more) g

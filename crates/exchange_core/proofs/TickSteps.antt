@@ -5,7 +5,7 @@ use Rattle.journal_book.specs.Entries.{Passes}
 use Rattle.message_layer.specs.Calls.{is_among}
 use Rattle.exchange_model.specs.declared.kept.Exchange.{Exchange}
 use Rattle.exchange_model.specs.State.{State}
-use Rattle.exchange_model.specs.Steps.{seals, passes, is_gone, is_of_none, left_by, retired, timed_out, goes_on}
+use Rattle.exchange_model.specs.Steps.{seals, passes, is_gone, is_of_none, is_stale_of_none, left_by, retired, timed_out, goes_on}
 use Rattle.exchange_model.specs.Calls.{tells, told_late, something_due, move_all, ticked}
 use Rattle.exchange_model.specs.Entering.{entered_all, all_going, sent_as, gone_tokens, link_after, tick_deeds, IsDrained}
 use Rattle.exchange_model.specs.Keeping.{MayStep}
@@ -74,6 +74,7 @@ module _ (t : ℕ) (S : State) (may : MayStep t S) (drained : IsDrained S)
         ap (λ (V : State). record V {
           exchanges = es;
           pieces = filter (is_of_none over) S.pieces;
+          stales = filter (is_stale_of_none over) S.stales;
           watches = without (is_unwatched_by t S.entries over) S.watches;
           store = retired S.entries over S.store;
           links = map (link_after t (is_among gone)) S.links;
@@ -81,6 +82,7 @@ module _ (t : ℕ) (S : State) (may : MayStep t S) (drained : IsDrained S)
         ∙ ap (λ (q : List ℕ → Bool). let V = entered_all t (tick_deeds t S) S in record V {
           exchanges = es;
           pieces = filter (is_of_none over) S.pieces;
+          stales = filter (is_stale_of_none over) S.stales;
           watches = without (is_unwatched_by t S.entries over) S.watches;
           store = retired S.entries over S.store;
           links = map (link_after t q) S.links;
@@ -88,6 +90,7 @@ module _ (t : ℕ) (S : State) (may : MayStep t S) (drained : IsDrained S)
         ∙ ap (λ (xs : List Exchange). let V = entered_all t (tick_deeds t S) S in record V {
           exchanges = es;
           pieces = filter (is_of_none xs) S.pieces;
+          stales = filter (is_stale_of_none xs) S.stales;
           watches = without (is_unwatched_by t S.entries xs) S.watches;
           store = retired S.entries xs S.store;
           links = map (link_after t (is_gone t S)) S.links;
@@ -95,6 +98,7 @@ module _ (t : ℕ) (S : State) (may : MayStep t S) (drained : IsDrained S)
         ∙ ap (λ (fs : List Exchange). let V = entered_all t (tick_deeds t S) S in record V {
           exchanges = fs;
           pieces = filter (is_of_none (timed_out t S)) S.pieces;
+          stales = filter (is_stale_of_none (timed_out t S)) S.stales;
           watches = without (is_unwatched_by t S.entries (timed_out t S)) S.watches;
           store = retired S.entries (timed_out t S) S.store;
           links = map (link_after t (is_gone t S)) S.links;

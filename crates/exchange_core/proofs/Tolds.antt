@@ -1,5 +1,5 @@
 -- Who is told by a datagram what an exchange came to.
-use Rattle.std.proofs.Common.{◌≡◌, ℕ, zero, suc, ◌≤◌, Bool, true, false, cond, List, [], ◌∷◌, ◌++◌, length, map, Option, Some, refl, sym, ap, subst, ◌∙◌, append_assoc, arith}
+use Rattle.std.proofs.Common.{◌≡◌, inl, inr, ℕ, zero, suc, ◌≤◌, Bool, true, false, cond, eqb, List, [], ◌∷◌, ◌++◌, length, map, Option, Some, refl, sym, ap, subst, ◌∙◌, append_assoc, arith}
 use Rattle.std.specs.Prelude.{filter, is_some, slice_get}
 use Rattle.std.specs.List.{AllByRecursion}
 use Rattle.std.specs.Option.{option_map_or}
@@ -11,25 +11,29 @@ use Rattle.ask_model.specs.Requests.{CoapRequest}
 use Rattle.journal_book.specs.Entries.{Deed, Hears, Live, Written}
 use Rattle.message_layer.specs.Hearing.{verdict_of}
 use Rattle.message_layer.specs.declared.verdict.News.TheVariants as N
-use Rattle.history_laws.specs.Progress.{Reply, Ending, Whole, NotUnderstood, Reset, TimedOut, Turned, messages, numbers}
-use Rattle.history_laws.specs.Responses.{Response, whole_of}
+use Rattle.resp_cache.specs.Stored.{Stored}
+use Rattle.history_laws.specs.Progress.{Reply, Ending, Whole, Renewed, NotUnderstood, Reset, TimedOut, Turned, messages, numbers}
+use Rattle.history_laws.specs.Responses.{Response, confirms, last_of, renewed_response, whole_of}
 use Rattle.history_laws.proofs.CallerLemmas.{eqb-apart, none-some, some-is}
 use Rattle.exchange_model.specs.declared.kept.Exchange.{Exchange}
 use Rattle.exchange_model.specs.declared.kept.Work.{Work}
 use Rattle.exchange_model.specs.declared.kept.Work.TheVariants as W
 use Rattle.exchange_model.specs.declared.kept.Reader.{Reader}
 use Rattle.exchange_model.specs.State.{State, link_of}
-use Rattle.exchange_model.specs.Steps.{Matter, Nothing, Tells, Goes, Over, Numbers, hears, matter_of}
+use Rattle.exchange_model.specs.Steps.{Matter, Nothing, Tells, Goes, Over, Numbers, hears, matter_of, moment_in}
 use Rattle.exchange_model.specs.Calls.{is_reader_of, tell_of, told_for}
 use Rattle.exchange_model.specs.Entering.{answer_of}
-use Rattle.exchange_model.specs.Growing.{AreHeardAt, IsHeardAt, IsKnown, IsWorkOf}
+use Rattle.exchange_model.specs.Growing.{AreHeardAt, IsHeardAt, IsKeptIn, IsKnown, IsWorkOf}
 use Rattle.exchange_model.specs.Keeping.{MayStep}
-use Rattle.exchange_model.proofs.CallerLemmas.{over-heard}
-use Rattle.exchange_core.specs.Answering.{AreHeard, CountsFrom, HeardAs}
+use Rattle.exchange_model.proofs.CallerLemmas.{over-heard, over-renewed}
+use Rattle.exchange_core.specs.Answering.{AreHeard, CountsFrom, HeardAs, IsRenewal, IsResponse}
 use Rattle.exchange_core.specs.Asked.{IsAskedIn}
-use Rattle.exchange_core.specs.Ending.{IsTold, deed_of, first_moment}
+use Rattle.exchange_core.specs.Ending.{IsTold, deed_of, first_moment, last_moment}
 use Rattle.exchange_core.specs.Matters.{readers_told, telling_for, told_of}
 use Rattle.exchange_core.specs.Values.{written}
+use Rattle.exchange_core.proofs.Askable.{says-valid}
+use Rattle.exchange_core.proofs.Renewals.{counts-last, heard-push, kept-heard, last-heard, last-other, renewal-of}
+use Rattle.exchange_core.proofs.Settling.{last-got}
 use Rattle.exchange_core.proofs.Stepping.{all-heard-stay, heard-stays}
 
 -- as the step tells them
@@ -99,28 +103,65 @@ module _ (t : ℕ) (p : Peer) (d : List ℕ) (S : State) (rest : List Deed) wher
   longer : (S.entries ++ x ∷ []) ++ map (written t) rest ≡ S.entries ++ drafted
   longer = append_assoc S.entries (x ∷ []) (map (written t) rest)
 
+  heard-all : (rs : List Reply) (S1 : State) → S1.entries ≡ S.entries ++ x ∷ [] → AreHeardAt S1 (numbers rs) (messages rs)
+      → AreHeard (S.entries ++ drafted) (numbers rs) (messages rs)
+  heard-all rs S1 is a =
+      subst (λ (h : List Written). AreHeard h (numbers rs) (messages rs)) longer
+      (all-heard-stay (S.entries ++ x ∷ []) (map (written t) rest) (numbers rs) (messages rs)
+      (subst (λ (h : List Written). AreHeard h (numbers rs) (messages rs)) is (are-heard-as S1 (numbers rs) (messages rs) a)))
+
+  renewed-heard : (r : Reply) (m : Content) (S1 : State) → S1.entries ≡ S.entries ++ x ∷ [] → (a : IsHeardAt S1 r.number m) → HeardAs (S.entries ++ drafted) r.number a.moment m
+  renewed-heard r m S1 is a =
+      subst (λ (h : List Written). HeardAs h r.number a.moment m) longer
+      (heard-stays (S.entries ++ x ∷ []) (map (written t) rest) r.number a.moment m
+      (subst (λ (h : List Written). HeardAs h r.number a.moment m) is (heard-as S1 r.number m a)))
+
   counted : (rs : List Reply) (S1 : State) → S1.entries ≡ S.entries ++ x ∷ [] → AreHeardAt S1 (numbers rs) (messages rs)
+      → (q : CoapRequest) (w : Response) → whole_of q (messages rs) ≡ Some w
       → CountsFrom (S.entries ++ drafted) (Live (numbers rs)) t (first_moment S.entries t (Live (numbers rs)))
-  counted [] S1 is a = refl
-  counted (r ∷ rs) S1 is a =
+  counted [] S1 is a q w whole = refl
+  counted (r ∷ rs) S1 is a q w whole =
       let one : HeardAs (S.entries ++ x ∷ []) r.number a.0.moment r.message =
       subst (λ (h : List Written). HeardAs h r.number a.0.moment r.message) is (heard-as S1 r.number r.message a.0) in
-      let same : option_map_or moment_of (slice_get S.entries r.number) t ≡ a.0.moment = moment-is S.entries x _ r.number one.stands in (
-        r.message,
-        subst (λ (k : ℕ). HeardAs (S.entries ++ drafted) r.number k r.message) (sym same)
-            (subst (λ (h : List Written). HeardAs h r.number a.0.moment r.message) longer
-            (heard-stays (S.entries ++ x ∷ []) (map (written t) rest) r.number a.0.moment r.message one)),
-      )
+      let same : option_map_or moment_of (slice_get S.entries r.number) t ≡ a.0.moment = moment-is S.entries x _ r.number one.stands in
+      let first : HeardAs (S.entries ++ drafted) r.number a.0.moment r.message =
+      subst (λ (h : List Written). HeardAs h r.number a.0.moment r.message) longer
+      (heard-stays (S.entries ++ x ∷ []) (map (written t) rest) r.number a.0.moment r.message one) in
+      let last = last-heard (S.entries ++ drafted) r.number (numbers rs) a.0.moment r.message (messages rs) first (heard-all rs S1 is a.1) in
+      inl (record {
+        message = r.message;
+        first = subst (λ (k : ℕ). HeardAs (S.entries ++ drafted) r.number k r.message) (sym same) first;
+        moment = last.0;
+        last = last_of r.message (messages rs);
+        ends = last.1;
+        other = last-other q r.message (messages rs) w whole;
+      })
 
   found : (q : CoapRequest) (w : Response) (rs : List Reply) (S1 : State) → S1.entries ≡ S.entries ++ x ∷ [] → AreHeardAt S1 (numbers rs) (messages rs)
       → (k : CoapRequest) (work : Work) → IsWorkOf q work → IsWorkOf k work → whole_of k (messages rs) ≡ Some w
-      → (ms : List Content) × AreHeard (S.entries ++ drafted) (numbers rs) ms × (whole_of q ms ≡ Some w)
-  found q w rs S1 is a k work mine its whole = (
-    messages rs,
-    subst (λ (h : List Written). AreHeard h (numbers rs) (messages rs)) longer
-        (all-heard-stay (S.entries ++ x ∷ []) (map (written t) rest) (numbers rs) (messages rs)
-        (subst (λ (h : List Written). AreHeard h (numbers rs) (messages rs)) is (are-heard-as S1 (numbers rs) (messages rs) a))),
-    whole-work q k work (messages rs) mine its ∙ whole,
+      → (ms : List Content) × AreHeard (S.entries ++ drafted) (numbers rs) ms × IsResponse q ms w
+  found q w rs S1 is a k work mine its whole =
+      (messages rs, heard-all rs S1 is a, inl (whole-work q k work (messages rs) mine its ∙ whole))
+
+  -- what was renewed
+  renewed-counted : (s : Stored) (r : Reply) (m : Content) (S1 : State) → S1.entries ≡ S.entries ++ x ∷ [] → IsHeardAt S1 r.number m → eqb m.code 67 ≡ true
+      → CountsFrom (S.entries ++ drafted) (Live (s.list ++ r.number ∷ [])) t (last_moment S.entries t (Live (s.list ++ r.number ∷ [])))
+  renewed-counted s r m S1 is a says =
+      let one = renewed-heard r m S1 is a in
+      let same : option_map_or moment_of (slice_get S.entries r.number) t ≡ a.moment =
+      moment-is S.entries x _ r.number (subst (λ (h : List Written). HeardAs h r.number a.moment m) is (heard-as S1 r.number m a)).stands in
+      subst (λ (k : ℕ). CountsFrom (S.entries ++ drafted) (Live (s.list ++ r.number ∷ [])) t k)
+      (sym (ap (λ (v : Option ℕ). option_map_or (moment_in S.entries t) v t) (last-got s.list r.number) ∙ same))
+      (counts-last (S.entries ++ drafted) s.list r.number t a.moment m one says)
+
+  renewed-found : (q : CoapRequest) (s : Stored) (r : Reply) (m : Content) (S1 : State) → S1.entries ≡ S.entries ++ x ∷ [] → IsHeardAt S1 r.number m → q.method ≡ 1
+      → IsKeptIn S s → confirms s.response.etag m ≡ true → r.message ≡ m
+      → (ms : List Content) × AreHeard (S.entries ++ drafted) (s.list ++ r.number ∷ []) ms × IsResponse q ms (renewed_response s.response r.message)
+  renewed-found q s r m S1 is a get was says same = (
+    (was.message ∷ was.more) ++ m ∷ [],
+    heard-push (S.entries ++ drafted) s.list (was.message ∷ was.more) r.number a.moment m
+        (all-heard-stay S.entries drafted s.list (was.message ∷ was.more) (kept-heard S s was)) (renewed-heard r m S1 is a),
+    inr (get, subst (λ (n : Content). IsRenewal ((was.message ∷ was.more) ++ m ∷ []) (renewed_response s.response n)) (sym same) (renewal-of S s m was says)),
   )
 
   asked-by : (r : Reader) → IsKnown S r → IsAskedIn S.entries r
@@ -153,7 +194,14 @@ module _ (t : ℕ) (p : Peer) (d : List ℕ) (S : State) (rest : List Deed) wher
         record {
           asked = asked-by r k;
           found = found k.request w rs (hears t p d m new S) refl o.1 o.0.request e.work (k.work e o.0.has reads) o.0.work o.0.whole;
-          counts = counted rs (hears t p d m new S) refl o.1;
+          counts = counted rs (hears t p d m new S) refl o.1 o.0.request w o.0.whole;
+        }
+    one-told n e (Renewed s r) is k known_one reads =
+        let o = over-renewed t p d m new S may known short spelled kept e s r is in
+        record {
+          asked = asked-by k known_one;
+          found = renewed-found known_one.request s r m (hears t p d m new S) refl o.heard (known_one.method e o.has reads ∙ o.get) o.was o.says (ap (λ (u : Reply). u.message) o.reply);
+          counts = renewed-counted s r m (hears t p d m new S) refl o.heard (says-valid s.response.etag m o.says);
         }
 
     pub all-told : (n : ℕ) (x : Matter) → matter_of t p m (verdict_of t (link_of S.links p) m) S ≡ x → AllByRecursion (IsKnown S) S.readers

@@ -16,17 +16,18 @@ use Rattle.exchange_model.specs.declared.kept.Conn.{Conn}
 use Rattle.exchange_model.specs.declared.kept.Exchange.{Exchange}
 use Rattle.exchange_model.specs.declared.kept.Piece.{Piece}
 use Rattle.exchange_model.specs.declared.kept.Reader.{Reader}
+use Rattle.exchange_model.specs.declared.kept.Stale.{Stale}
 use Rattle.exchange_model.specs.State.{PeerLink, State}
 use Rattle.exchange_model.specs.Rotating.{RotateFault, Crowded, are_few, copied_entries, copies, fault_of, has_copy, keep_peer, pair_at, rotated, rotated_by, taken, turned}
 use Rattle.endpoint_table.specs.Keeping.{is_any, marked}
 use Rattle.endpoint_table.proofs.CallerLemmas.{copies-kept}
 
-pub state-turned : (t : ℕ) (S : State) (ws : List Written) (cs : List Conn) (es : List Exchange) (gs : List Piece) (rs : List Reader) (us : List Registration) (ps : List Pair) (xs : List PeerLink)
-    → ws ≡ copied_entries t S → cs ≡ [] → es ≡ [] → gs ≡ [] → rs ≡ [] → us ≡ [] → ps ≡ map (pair_at ws) (taken t S)
+pub state-turned : (t : ℕ) (S : State) (ws : List Written) (cs : List Conn) (es : List Exchange) (gs : List Piece) (qs : List Stale) (rs : List Reader) (us : List Registration) (ps : List Pair) (xs : List PeerLink)
+    → ws ≡ copied_entries t S → cs ≡ [] → es ≡ [] → gs ≡ [] → qs ≡ [] → rs ≡ [] → us ≡ [] → ps ≡ map (pair_at ws) (taken t S)
     → xs ≡ filter (has_copy ws) (map (keep_peer t) S.links)
-    → record { entries = ws; sealed = false; moment = t; opened = S.opened; issued = S.issued; conns = cs; exchanges = es; pieces = gs; readers = rs; watches = us; store = ps; links = xs }
+    → record { entries = ws; sealed = false; moment = t; opened = S.opened; issued = S.issued; conns = cs; exchanges = es; pieces = gs; stales = qs; readers = rs; watches = us; store = ps; links = xs }
     ≡ turned t S
-state-turned t S ws cs es gs rs us ps xs a b c g r u p d = rw (d, p, a, b, c, g, r, u) refl
+state-turned t S ws cs es gs qs rs us ps xs a b c g q r u p d = rw (d, p, a, b, c, g, q, r, u) refl
 
 -- the links of the endpoints of which something is copied
 pub links-kept : (t : ℕ) (ps : List Peer) (ws : List Written) (xs ys : List PeerLink) (ms : List Bool) → ps ≡ peers_in ws

@@ -1,15 +1,14 @@
 -- Asks that begin an exchange.
-use Rattle.std.specs.Prelude.{◌≡◌, ℕ, ◌+◌, ◌≤◌, Bool, ◌&&◌, true, false, List, [], ◌∷◌, ◌++◌, length, sum_by, Option, Some, None, option_map, is_some, Result, Ok, Err, ⊤}
+use Rattle.std.specs.Prelude.{◌≡◌, ℕ, ◌+◌, ◌≤◌, Bool, true, false, List, [], ◌∷◌, ◌++◌, length, sum_by, Option, Some, None, option_map, is_some, Result, Ok, Err}
 use Rattle.std.specs.Arc.{arc_value}
-use Rattle.limits.specs.declared.TheConstants.{LAST_MOMENT, MAX_BODY_LEN, MAX_MESSAGE_LEN, MAX_REQUEST_SIZE}
-use Rattle.coap_codec.specs.Spelling.{Spells}
+use Rattle.limits.specs.declared.TheConstants.{LAST_MOMENT, MAX_REQUEST_SIZE}
 use Rattle.blockwise.specs.Uploads.{begun}
 use Rattle.cache_key.specs.declared.digest.Digests.{Digests}
 use Rattle.cache_key.specs.Digests.{digests_of}
-use Rattle.observe_share.specs.declared.registration.Registration.{Registration}
 use Rattle.observe_share.specs.Watches.{without}
 use Rattle.uri_map.specs.declared.peer.Peer.{Peer}
-use Rattle.ask_model.specs.Requests.{CoapRequest, Sense, Requests, Refuses, opening_message}
+use Rattle.resp_cache.specs.Stored.{Stored}
+use Rattle.ask_model.specs.Requests.{Sense, Requests, Refuses}
 use Rattle.ask_model.specs.Sharing.{asked_key}
 use Rattle.ask_model.specs.Sizes.{capped, came_size}
 use Rattle.ask_model.specs.Datagrams.{asked_peer}
@@ -23,7 +22,7 @@ use Rattle.exchange_model.specs.declared.kept.Work.{Work}
 use Rattle.exchange_model.specs.declared.kept.Work.TheVariants as W
 use Rattle.exchange_model.specs.declared.kept.Reader.{Reader}
 use Rattle.exchange_model.specs.State.{State}
-use Rattle.exchange_model.specs.Steps.{first_work, seals, Numbers}
+use Rattle.exchange_model.specs.Steps.{first_work, seals, stale_for, Numbers}
 use Rattle.exchange_model.specs.Calls.{has_place}
 use Rattle.exchange_model.specs.Resting.{HasConn}
 use Rattle.exchange_model.specs.Room.{fits}
@@ -40,19 +39,8 @@ use Rattle.exchange_core.specs.Recalling.{served_for}
 use Rattle.exchange_core.specs.Drafts.{DraftValue}
 use Rattle.exchange_core.specs.States.{state_of, given_in, outgoing, with_draft, SeesSame}
 use Rattle.exchange_core.specs.Values.{CoreValue}
-use Rattle.exchange_core.specs.Watching.{is_renewed_for, may_watch, observed_by}
-
-abbrev pub IsRequest : Sense → Type 0
-IsRequest (Requests q) = ⊤
-IsRequest (Refuses cause status) = ⊥
-
--- the first message of a request, spelled under ID 0, which asks to observe or doesn't
-pub record IsTextFor (observes : Bool) (sense : Sense) (token text : List ℕ) : Type 0 where
-  pub request : CoapRequest
-  pub is : sense ≡ Requests request
-  pub body : length request.body ≤ MAX_BODY_LEN
-  pub spelled : Spells (opening_message observes request 0 token) text
-  pub short : length text ≤ MAX_MESSAGE_LEN
+use Rattle.exchange_core.specs.Watching.{is_renewed_for}
+use Rattle.exchange_core.specs.Wording.{IsTextFor, asks_for}
 
 -- the code of the request that is asked, or 0 where none is
 abbrev pub asked_method : Sense → ℕ
@@ -63,10 +51,6 @@ asked_method (Refuses cause status) = 0
 abbrev pub asked_work : Sense → Work
 asked_work (Requests q) = first_work q
 asked_work (Refuses cause status) = W.Gives (begun 0 6)
-
--- Its first message asks to observe, where so many are observed.
-abbrev pub wants_for : Mapping → List Registration → Bool
-wants_for m rs = may_watch m.sense rs && observed_by m.rules m.sense
 
 -- the digests of what it reads or changes
 abbrev pub asked_digests : Sense → Digests
@@ -95,12 +79,14 @@ exchange_by t token p sense observes sent n = record {
 abbrev pub reader_by : ℕ → ℕ → Reader
 reader_by c n = record { ask = n; conn = c; opening = n }
 
--- one exchange more with its reader, whose message was handed in under the next token; what observed the
--- same ends, and nothing is awaited under its tokens
-abbrev pub with_exchange : ℕ → Sense → Exchange → Reader → Waiting → State → State
-with_exchange t sense e r w S = record S {
+-- one exchange more with its reader and what it asks about, whose message was handed in under the next
+-- token; what observed the same ends, and nothing is awaited under its tokens
+abbrev pub with_exchange :
+    ℕ → Sense → Exchange → Reader → Option Stored → Waiting → State → State
+with_exchange t sense e r keeps w S = record S {
   issued = S.issued + 1;
   exchanges = S.exchanges ++ e ∷ [];
+  stales = S.stales ++ stale_for e.opening keeps;
   readers = S.readers ++ r ∷ [];
   watches = without (is_renewed_for sense) S.watches;
   links = submitted_to e.peer t w (tokens_of (is_renewed_for sense) S.watches) S.links;
@@ -120,7 +106,7 @@ pub record MayBegin (t word c : ℕ) (m : Mapping) (p : Peer) (token text : List
   pub peer : asked_peer m.sense ≡ Some p
   pub unserved : served_for m.sense t S.store ≡ None
   pub alone : joined_for m.sense S ≡ None
-  pub spelled : IsTextFor (wants_for m S.watches) m.sense token text
+  pub spelled : IsTextFor (asks_for t m S) m.sense token text
   pub small : came_size m.came ≤ MAX_REQUEST_SIZE
   pub worded : IsWordedBy word (numbers_of token text word) S
   pub place : has_place t p S ≡ true
@@ -142,16 +128,16 @@ pub record LeavesSealed {R : Type 0} (t : ℕ) (old new : RustState R) : Type 0 
 
 -- What was drafted is entered with its exchange where there is room for it; else the journal is
 -- sealed. Where memory is wanted, nothing changes.
-abbrev pub IsEntered : {R X : Type 0} → Result X AskFault → ℕ → Sense → Exchange → Reader → Waiting
-    → DraftValue → RustState R → RustState R → Type 0
-IsEntered (Ok x) t sense e r w d old new =
+abbrev pub IsEntered : {R X : Type 0} → Result X AskFault → ℕ → Sense → Exchange → Reader
+    → Option Stored → Waiting → DraftValue → RustState R → RustState R → Type 0
+IsEntered (Ok x) t sense e r keeps w d old new =
     (fits (with_draft t d (state_of old)) ≡ true)
-    × Leaves (with_exchange t sense e r w (with_draft t d (state_of old))) d old new
-IsEntered (Err Ask.Sealed) t sense e r w d old new =
+    × Leaves (with_exchange t sense e r keeps w (with_draft t d (state_of old))) d old new
+IsEntered (Err Ask.Sealed) t sense e r keeps w d old new =
     (fits (with_draft t d (state_of old)) ≡ false) × LeavesSealed t old new
-IsEntered (Err Ask.Memory) t sense e r w d old new = SeesSame old new
-IsEntered (Err Ask.Unknown) t sense e r w d old new = ⊥
-IsEntered (Err Ask.Pending) t sense e r w d old new = ⊥
+IsEntered (Err Ask.Memory) t sense e r keeps w d old new = SeesSame old new
+IsEntered (Err Ask.Unknown) t sense e r keeps w d old new = ⊥
+IsEntered (Err Ask.Pending) t sense e r keeps w d old new = ⊥
 
 -- An ask is entered under the next number, and its exchange begins; or there is no place for it; or
 -- the journal takes it no more. Where memory is wanted, nothing changes.

@@ -6,9 +6,8 @@ use Rattle.uri_map.specs.declared.peer.Peer.{Peer}
 use Rattle.ask_model.specs.Requests.{CoapRequest, Requests, opening_message}
 use Rattle.ask_model.specs.Views.{Ask}
 use Rattle.history_laws.specs.Numbering.{token_number}
-use Rattle.exchange_model.specs.Watching.{wants}
 use Rattle.exchange_model.specs.State.{State, link_of}
-use Rattle.exchange_model.specs.Steps.{opens, shuts, Numbers}
+use Rattle.exchange_model.specs.Steps.{opens, shuts, asks_so, Numbers}
 use Rattle.exchange_model.specs.Resting.{HasConn}
 use Rattle.exchange_model.specs.Calls.{has_place, IsAlone, goes_by}
 use Rattle.exchange_model.specs.Keeping.{MayGoOn}
@@ -57,7 +56,7 @@ pub record IsWordedBy (word : ℕ) (n : Numbers) (S : State) : Type 0 where
 abbrev pub IsSpelled : ℕ → Ask → Numbers → State → Type 0
 IsSpelled t a n S =
     (q : CoapRequest) → a.sense ≡ Requests q → IsAlone t q S → has_place t q.peer S ≡ true
-    → Spells (opening_message (wants a q S.watches) q 0 n.token) n.text
+    → Spells (opening_message (asks_so t a q S) q 0 n.token) n.text
 
 pub record AsksSo (t word c : ℕ) (a : Ask) (old new : CoreValue) : Type 0 where
   pub numbers : Numbers

@@ -1,5 +1,6 @@
 -- Exchanges that end, and all who wait for them.
-use Rattle.std.specs.Prelude.{◌≡◌, ℕ, List, ◌∷◌, ◌++◌, map, filter, filter_map, Option, Some, option_map, slice_get, unwrap_or}
+use Rattle.std.specs.Prelude.{◌≡◌, ℕ, ◌-◌, false, List, ◌∷◌, ◌++◌, length, map, filter, filter_map, Option, Some, option_map, slice_get, unwrap_or, if◌then◌else◌}
+use Rattle.std.specs.Option.{option_map_or}
 use Rattle.ask_model.specs.declared.cause.Cause.TheVariants as C
 use Rattle.ask_model.specs.Requests.{Requests}
 use Rattle.ask_model.specs.Views.{Ask, Mapping}
@@ -22,13 +23,23 @@ abbrev pub deed_of : Telling → Deed
 deed_of x = Answers x.reader.conn x.reader.ask x.finding.grounds
 
 abbrev pub tell_of : Found → Reader → Telling
-tell_of f r = record { reader = r; finding = f }
+tell_of f r = record { reader = r; finding = f; renewed = false }
 
 -- the moment from which it counts: that of its first reply, or of this step
 abbrev pub first_moment : List Written → ℕ → Grounds → ℕ
 first_moment ws t (Live (j ∷ js)) = moment_in ws t j
 first_moment ws t (Kept (j ∷ js)) = moment_in ws t j
 first_moment ws t grounds = t
+
+-- What was renewed counts from the moment of the last.
+abbrev pub last_moment : List Written → ℕ → Grounds → ℕ
+last_moment ws t (Live js) =
+    option_map_or (moment_in ws t) (slice_get js (length js - 1)) t
+last_moment ws t grounds = t
+
+abbrev pub counted_moment : List Written → ℕ → Telling → ℕ
+counted_moment ws t x =
+    if x.renewed then last_moment ws t x.finding.grounds else first_moment ws t x.finding.grounds
 
 -- All who wait for one of these exchanges are told that it took too long.
 abbrev pub late_of : Reader → Exchange → Telling
@@ -49,8 +60,7 @@ late_deeds t S = map answer_of (told_late (filter (is_past t) S.exchanges) S.rea
 pub record IsTold (h drafted : List Written) (t : ℕ) (x : Telling) : Type 0 where
   pub asked : IsAskedIn h x.reader
   pub found : IsFound (h ++ drafted) x.finding.told x.finding.grounds (Requests asked.request)
-  pub counts : CountsFrom (h ++ drafted) x.finding.grounds t
-      (first_moment h t x.finding.grounds)
+  pub counts : CountsFrom (h ++ drafted) x.finding.grounds t (counted_moment h t x)
 
 -- the answer to its ask, under this number, after these entries
 abbrev pub given_to : List Written → ℕ → ℕ → Telling → Mapping → Given
@@ -59,7 +69,7 @@ given_to h t n x m = record {
   ask = x.reader.ask;
   number = n;
   moment = t;
-  heard = first_moment h t x.finding.grounds;
+  heard = counted_moment h t x;
   mapping = m;
   found = x.finding;
 }

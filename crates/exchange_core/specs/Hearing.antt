@@ -13,7 +13,7 @@ use Rattle.history_laws.specs.Progress.{Progress}
 use Rattle.exchange_model.specs.declared.kept.Exchange.{Exchange}
 use Rattle.exchange_model.specs.declared.kept.Piece.{Piece}
 use Rattle.exchange_model.specs.State.{State, link_of, with_link}
-use Rattle.exchange_model.specs.Steps.{Matter, Goes, asked_in, exchanges_by, got_by, is_piece_of, issued_by, newest_by, pieces_by, store_by, went_out}
+use Rattle.exchange_model.specs.Steps.{Matter, Goes, asked_in, exchanges_by, got_by, is_piece_of, issued_by, newest_by, pieces_by, stales_by, store_by, went_out}
 use Rattle.exchange_model.specs.Calls.{told_for}
 use Rattle.exchange_model.specs.Entering.{Effect, answer_of, confirm, entered_all}
 use Rattle.exchange_model.specs.Watching.{is_written_by}
@@ -85,6 +85,7 @@ tables_after t p h k x S = record S {
       note_next (first_number (length S.entries) h) (next_in h k)
       (exchanges_by S.entries x.numbers.token x.matter S.exchanges);
   pieces = pieces_by (length S.entries) x.matter S.pieces;
+  stales = stales_by x.matter S.stales;
   watches = x.watches;
   store = store_by S.entries t x.matter S.store;
   links = with_link p (heeds t h (more_in k) x.gone (link_of S.links p)) S.links;
@@ -101,6 +102,7 @@ hearing_state t p d h k x S =
       issued = S2.issued;
       exchanges = S2.exchanges;
       pieces = S2.pieces;
+      stales = S2.stales;
       watches = S2.watches;
       store = S2.store;
       links = S2.links;

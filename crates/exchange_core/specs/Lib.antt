@@ -12,6 +12,7 @@ pub mod Joining
 pub mod Matters
 pub mod Notifying
 pub mod Recalling
+pub mod Renewing
 pub mod Storing
 pub mod Refusing
 pub mod Passing
@@ -27,3 +28,4 @@ pub mod Taking
 pub mod Turns
 pub mod Values
 pub mod Watching
+pub mod Wording

@@ -2,7 +2,7 @@
 use Rattle.std.specs.Prelude.{◌≡◌, ℕ, ◌≤◌, Bool, true, List, [], length, map, filter, Option, Some, None, option_map, is_some}
 use Rattle.std.specs.List.{AllByRecursion, find}
 use Rattle.limits.specs.declared.TheConstants.{MAX_MESSAGE_LEN}
-use Rattle.coap_codec.specs.Spelling.{Spells}
+use Rattle.coap_codec.specs.Spelling.{Content, Spells}
 use Rattle.coap_codec.specs.declared.block.Block.{Block}
 use Rattle.uri_map.specs.declared.peer.Peer.{Peer}
 use Rattle.ask_model.specs.Requests.{CoapRequest, block_message}
@@ -19,17 +19,18 @@ use Rattle.observe_share.specs.declared.registration.Registration.{Registration}
 use Rattle.exchange_model.specs.declared.kept.Exchange.{Exchange}
 use Rattle.exchange_model.specs.declared.kept.Reader.{Reader}
 use Rattle.exchange_model.specs.State.{State}
-use Rattle.exchange_model.specs.Steps.{Matter, Nothing, Tells, Goes, Over, Numbers, asked_in, comes_to, has_next_place, is_under, replied}
+use Rattle.exchange_model.specs.Steps.{Matter, Nothing, Tells, Goes, Over, Numbers, asked_in, comes_to, has_next_place, is_under, replied, stale_in}
 use Rattle.exchange_model.specs.Calls.{is_reader_of}
 use Rattle.exchange_model.specs.Growing.{IsFewTimes as WorkedFew, IsWorkOf}
 use Rattle.exchange_model.specs.Laws.{IsContinued}
-use Rattle.exchange_progress.specs.Coming.{IsComing, IsEnded, IsOnward, found_for}
+use Rattle.exchange_progress.specs.Coming.{IsComing, IsEnded, IsOnward, found_for, renews}
 use Rattle.exchange_core.specs.declared.ending.Telling.{Telling}
 use Rattle.exchange_core.specs.declared.matter.Answered.{Answered}
 use Rattle.exchange_core.specs.declared.matter.Matter.{Matter as RustMatter}
 use Rattle.exchange_core.specs.declared.matter.Matter.TheVariants as M
 use Rattle.exchange_core.specs.Calls.{IsWordedBy}
 use Rattle.exchange_core.specs.Ending.{IsTold}
+use Rattle.exchange_core.specs.Renewing.{unless_confirmed}
 use Rattle.exchange_core.specs.Values.{written}
 
 -- the exchange that a datagram answers, by what a link tells of it, and what that comes to
@@ -40,8 +41,13 @@ pub record Answer : Type 0 where
 abbrev pub replied_to : Option Exchange → (Exchange → Progress) → Option Answer
 replied_to v comes = option_map (λ (e : Exchange). record { exchange = e; progress = comes e }) v
 
+-- By a message that says that what it asks about is valid still it ends, and by any other it comes so far.
+abbrev pub comes_or_renews : Content → State → Exchange → Progress
+comes_or_renews m S e =
+    unless_confirmed (stale_in e.opening S.stales) (length S.entries) m (comes_to m S e)
+
 abbrev pub answer_in : Told → List ℕ → State → Option Answer
-answer_in (response m) token S = replied_to (find (is_under token) S.exchanges) (comes_to m S)
+answer_in (response m) token S = replied_to (find (is_under token) S.exchanges) (comes_or_renews m S)
 answer_in (was_reset of) token S = replied_to (find (is_under of) S.exchanges) (λ e. Ends Reset)
 answer_in told token S = None
 
@@ -112,7 +118,8 @@ next_in x k = or_handed_in x.next (more_in k)
 
 -- Who waits for an exchange that ended so is told it.
 abbrev pub telling_for : Ending → ℕ → Option ℕ → Reader → Telling
-telling_for how n sending r = record { reader = r; finding = found_for how n sending r }
+telling_for how n sending r =
+    record { reader = r; finding = found_for how n sending r; renewed = renews how }
 
 abbrev pub readers_told : Ending → ℕ → Exchange → List Reader → List Telling
 readers_told how n e rs = map (telling_for how n e.sending) (filter (is_reader_of e) rs)

@@ -2,7 +2,7 @@
 use Rattle.std.specs.Prelude.{ℕ, Bool, List, filter, map}
 use Rattle.exchange_model.specs.declared.kept.Exchange.{Exchange}
 use Rattle.exchange_model.specs.State.{State}
-use Rattle.exchange_model.specs.Steps.{is_of_none, retired}
+use Rattle.exchange_model.specs.Steps.{is_of_none, is_stale_of_none, retired}
 use Rattle.exchange_model.specs.Entering.{link_after}
 use Rattle.observe_share.specs.Watches.{without}
 use Rattle.exchange_core.specs.Drafts.{DraftValue}
@@ -15,6 +15,7 @@ abbrev pub moved_on :
 moved_on t gone over es d S = let V = with_draft t d S in record V {
   exchanges = es;
   pieces = filter (is_of_none over) S.pieces;
+  stales = filter (is_stale_of_none over) S.stales;
   watches = without (is_unwatched_by t S.entries over) S.watches;
   store = retired S.entries over S.store;
   links = map (link_after t gone) S.links;

@@ -1,5 +1,5 @@
 -- Asks that the store answers.
-use Rattle.std.specs.Prelude.{◌≡◌, ℕ, ◌+◌, List, [], ◌∷◌, length, Option, Some, None}
+use Rattle.std.specs.Prelude.{◌≡◌, ◌⊎◌, ℕ, ◌+◌, List, [], ◌∷◌, length, Option, Some, None}
 use Rattle.coap_codec.specs.Spelling.{Content}
 use Rattle.cache_key.specs.Keys.{CacheKey}
 use Rattle.resp_cache.specs.Stored.{Stored}
@@ -19,7 +19,7 @@ use Rattle.exchange_model.specs.Entering.{entered_all}
 use Rattle.exchange_model.specs.Room.{KeptInRoom}
 use Rattle.exchange_model.specs.Watching.{touched}
 use Rattle.exchange_model.specs.Sealing.{in_room}
-use Rattle.exchange_core.specs.Answering.{Given, HeardAs, AreHeard}
+use Rattle.exchange_core.specs.Answering.{Given, HeardAs, AreHeard, CountsFromLast, IsRenewal}
 
 -- what is stored for an ask, where it is a GET and that is fresh
 abbrev pub served_under : Option CacheKey → ℕ → List Pair → Option Stored
@@ -62,7 +62,7 @@ kept_given n t c m s = record {
 
 -- What is stored was heard whole, in reply to a GET: the first of it at that moment, and the other
 -- pieces, if there are any, after it.
-pub record WasHeard (h : List Written) (s : Stored) : Type 0 where
+pub record WasWhole (h : List Written) (s : Stored) : Type 0 where
   pub number : ℕ
   pub others : List ℕ
   pub message : Content
@@ -71,6 +71,19 @@ pub record WasHeard (h : List Written) (s : Stored) : Type 0 where
   pub first : HeardAs h number s.heard message
   pub rest : AreHeard h others more
   pub whole : whole_fetched message more ≡ Some s.response
+
+-- Or a 2.03 that renewed it was heard at that moment, after the pieces.
+pub record WasRenewed (h : List Written) (s : Stored) : Type 0 where
+  pub number : ℕ
+  pub others : List ℕ
+  pub list : s.list ≡ number ∷ others
+  pub messages : List Content
+  pub heard : AreHeard h (number ∷ others) messages
+  pub renewal : IsRenewal messages s.response
+  pub counts : CountsFromLast h number others s.heard
+
+abbrev pub WasHeard : List Written → Stored → Type 0
+WasHeard h s = WasWhole h s ⊎ WasRenewed h s
 
 -- The ask is a GET that is answered so, whatever its message would be sent under, which keeps what
 -- a core keeps.

@@ -25,6 +25,7 @@ state_of s = record {
   conns = s.conns.items;
   exchanges = s.exchanges.exchanges;
   pieces = s.fetched.pieces;
+  stales = s.stales.stales;
   readers = s.readers.items;
   watches = s.watches.standing;
   store = s.store.pairs;

@@ -13,6 +13,7 @@ use Rattle.history_laws.specs.Storing.{content}
 use Rattle.reply_reading.specs.Findings.{Found, Told, Tells, Fails}
 use Rattle.exchange_model.specs.declared.kept.Exchange.{Exchange}
 use Rattle.exchange_model.specs.Steps.{Matter, Over, Tells as Notifies, asked_in, moment_in, newest_content, settled}
+use Rattle.exchange_core.specs.Ending.{last_moment}
 
 -- the whole 2.05 that is told, if it is one
 abbrev pub content_told : Told → Option Response
@@ -24,6 +25,14 @@ abbrev pub stored_for : List Written → ℕ → ℕ → Told → Grounds → Op
 stored_for ws t o (Tells w) (Live (j ∷ js)) =
     if w.code == content then Some (stored_of w o (moment_in ws t j) (j ∷ js)) else None
 stored_for ws t o told grounds = None
+
+-- what was renewed, which counts from the moment of the last of its replies
+abbrev pub renewed_for : List Written → ℕ → ℕ → Told → Grounds → Option Stored
+renewed_for ws t o (Tells w) (Live js) = Some (stored_of w o (last_moment ws t (Live js)) js)
+renewed_for ws t o told grounds = None
+
+abbrev pub if_unchanged : Exchange → Option Stored → Option Stored
+if_unchanged e s = if e.newest then s else None
 
 -- the key of a GET whose exchange has ended and wasn't outrun
 abbrev pub key_got : CoapRequest → Option CacheKey

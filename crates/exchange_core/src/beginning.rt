@@ -2,6 +2,7 @@
 
 ghost use Rattle.std.specs.Prelude.{◌≡◌, ◌≤◌, ◌<◌, ◌+◌, ◌&&◌, ◌^◌, ◌∷◌, ◌++◌, [], List, None, true, false, length, sum_by, IfOk, IfErr, OnOk, Ok, Err, Some};
 ghost use Rattle.std.specs.Arc.{arc_value};
+ghost use Rattle.std.specs.List.{AllByRecursion};
 ghost use Rattle.limits.specs.declared.TheConstants.{LAST_MOMENT, MAX_ENTRIES, MAX_EXCHANGES, MAX_REQUEST_SIZE};
 ghost use Rattle.ask_model.specs.Datagrams.{asked_peer};
 ghost use Rattle.ask_model.specs.Sizes.{capped, came_size};
@@ -11,15 +12,18 @@ ghost use Rattle.message_layer.specs.Prepared.{IsUnnumberedCon, IsSubmission, Ma
 ghost use Rattle.message_layer.specs.Sending.{IsSubmitted};
 ghost use Rattle.exchange_model.specs.State.{State as CoreState, link_of};
 ghost use Rattle.exchange_model.specs.Resting.{HasConn};
+ghost use Rattle.exchange_model.specs.Steps.{stale_for};
+ghost use Rattle.exchange_model.specs.declared.kept.Stale.{Stale as StaleValue};
 ghost use Rattle.endpoint_table.specs.Tables.{link_at};
-ghost use Rattle.exchange_core.specs.Beginning.{IsRequest, IsTextFor, wants_for, with_exchange, IsBegun, IsBegunBy, IsEntered, MayBegin, asked_method, asked_work, exchange_by};
+ghost use Rattle.exchange_core.specs.Beginning.{with_exchange, IsBegun, IsBegunBy, IsEntered, MayBegin, asked_method, asked_work, exchange_by};
 ghost use Rattle.exchange_core.specs.Joining.{joined_for};
 ghost use Rattle.exchange_core.specs.Recalling.{served_for};
 ghost use Rattle.exchange_core.specs.Sending.{IsTimed, sent_first};
 ghost use Rattle.exchange_core.specs.Drafts.{Drafts};
 ghost use Rattle.exchange_core.specs.Places.{IsOrdered};
 ghost use Rattle.exchange_model.specs.Watching.{tokens_of};
-ghost use Rattle.exchange_core.specs.Watching.{is_renewed_for, observed_by};
+ghost use Rattle.exchange_core.specs.Watching.{is_renewed_for};
+ghost use Rattle.exchange_core.specs.Wording.{keeps_for, wants_for};
 ghost use Rattle.exchange_table.specs.Tables.{IsLatest};
 ghost use Rattle.exchange_core.specs.Sound.{IsSound};
 ghost use Rattle.exchange_core.specs.States.{state_of, seen, given_in, outgoing, with_draft, HasPlaces, SeesSame};
@@ -33,13 +37,16 @@ use crate::room;
 use crate::sealing::seal;
 use crate::sending::draft_first;
 use crate::state::{State, commit, make_places, start};
-use crate::watching::{may_watch, renew, tokens_renewed};
+use crate::watching::{renew, tokens_renewed};
+use crate::wording::{First, first_of};
 use ask_model::{Mapped, Meaning};
 use blockwise::{LARGEST_SZX, Pieces, Upload};
-use coap_codec::{Bytes, Token};
-use exchange_model::{Exchange, Reader, Work};
+use coap_codec::Token;
+use exchange_model::{Exchange, Reader, Stale, Work};
+use exchange_table::Stales;
 use journal_book::{Entry, Event};
 use message_layer::{FirstSending, LinkFault, Submission};
+use resp_cache::StoredResponse;
 use std::alloc::{AllocError, Global};
 use std::sync::Arc;
 use transformers::Relation;
@@ -55,47 +62,6 @@ pub enum Begun<R: Relation> {
     Asked(Ticket<R>),
     /// Its endpoint has no place for one more message. This is the request again.
     Busy(Arc<Mapped<R>>),
-}
-
-/// The first message of a request, under message ID 0, which its link sets when it goes out.
-#[derive(Drop)]
-struct First {
-    text: Bytes,
-    /// it asks to observe
-    observes: bool,
-}
-
-/// The first message of a request. It asks to observe where its server may be observed, and one more
-/// may.
-fn text_of<R: Relation>(
-    alloc: Global,
-    mapped: &Mapped<R>,
-    token: &Token,
-    may_watch: bool,
-) -> Result<First, AllocError>
-    requires { IsRequest mapped.now.sense }
-    ensures text { IfOk result (λ x. IsTextFor x.observes mapped.now.sense token.now x.text) }
-    ensures observes { IfOk result
-        (λ x. x.observes ≡ may_watch && observed_by mapped.now.rules mapped.now.sense) }
-    ensures small { came_size mapped.now.came ≤ MAX_REQUEST_SIZE }
-{
-    let _came = mapped.came();
-    let _body = mapped.body();
-    if may_watch {
-        if let Some(text) = mapped.observe_request(alloc, 0, token)? {
-            return Ok(First {
-                text,
-                observes: true,
-            });
-        }
-    }
-    let Some(text) = mapped.request(alloc, None, 0, token)? else {
-        unreachable!()
-    };
-    Ok(First {
-        text,
-        observes: false,
-    })
 }
 
 /// The ask of a connection, and its message where that goes out at once.
@@ -124,6 +90,17 @@ fn draft_ask<R: Relation>(
     Ok(draft)
 }
 
+/// Notes what the exchange with this opening asks about, if it does. There is room for it.
+fn note_stale(stales: &mut Stales, opening: u32, keeps: Option<StoredResponse>)
+    requires room { stales.old.room ≡ true }
+    requires latest { AllByRecursion (λ (x : StaleValue). x.opening < opening) stales.old.stales }
+    ensures { stales.new.stales ≡ stales.old.stales ++ stale_for opening keeps }
+{
+    if let Some(stored) = keeps {
+        stales.push_in_room(Stale { opening, stored });
+    }
+}
+
 /// Opens the exchange with its reader, hands in its message, and adds what was drafted. What observed
 /// the same ends, and nothing is awaited any more under these tokens.
 fn add_exchange<R: Relation>(
@@ -131,6 +108,7 @@ fn add_exchange<R: Relation>(
     mapped: &Mapped<R>,
     exchange: Exchange,
     reader: Reader,
+    keeps: Option<StoredResponse>,
     submission: Submission,
     gone: &[Token],
     draft: Draft<R>,
@@ -143,10 +121,13 @@ fn add_exchange<R: Relation>(
     requires ordered { IsOrdered (state_of s.old) }
     requires exchange { s.old.exchanges.room ≡ true }
     requires reader { s.old.readers.room ≡ true }
+    requires stale { s.old.stales.room ≡ true }
     requires latest { IsLatest exchange s.old.exchanges.exchanges }
+    requires later { AllByRecursion (λ (x : StaleValue). x.opening < exchange.opening)
+        s.old.stales.stales }
     requires may { MaySubmit moment (link_at s.old.endpoints exchange.peer) submission }
     requires gone { gone.now ≡ tokens_of (is_renewed_for mapped.now.sense) s.old.watches.standing }
-    ensures state { state_of s.new ≡ with_exchange moment mapped.now.sense exchange reader
+    ensures state { state_of s.new ≡ with_exchange moment mapped.now.sense exchange reader keeps
         submission.waiting (with_draft moment draft (state_of s.old)) }
     ensures bytes { s.new.bytes ≡ capped (s.old.bytes + capped (sum_by entry_size draft.entries)) }
     ensures held { length s.old.conns.items + 1 ≤ s.new.journal.room }
@@ -154,7 +135,9 @@ fn add_exchange<R: Relation>(
     ensures sends { outgoing s.new ≡ outgoing s.old ++ draft.sends }
 {
     let peer = exchange.peer;
+    let opening = exchange.opening;
     s.exchanges.push_in_room(exchange);
+    note_stale(&mut s.stales, opening, keeps);
     s.issued += 1;
     renew(&mut s.watches, mapped);
     s.endpoints.submit(peer, submission, gone, moment);
@@ -225,10 +208,12 @@ fn make_all_places<R: Relation>(s: &mut State<R>, draft: &Draft<R>) -> Result<()
     ensures endpoints { s.new.endpoints ≡ s.old.endpoints }
     ensures places { OnOk result (HasPlaces s.new draft.now) }
     ensures exchange { OnOk result (s.new.exchanges.room ≡ true) }
+    ensures stale { OnOk result (s.new.stales.room ≡ true) }
     ensures reader { OnOk result (s.new.readers.room ≡ true) }
 {
     make_places(s, draft)?;
     s.exchanges.make_room()?;
+    s.stales.make_room()?;
     s.readers.make_room()?;
     Ok(())
 }
@@ -241,6 +226,7 @@ fn enter<R: Relation>(
     mapped: &Mapped<R>,
     exchange: Exchange,
     reader: Reader,
+    keeps: Option<StoredResponse>,
     submission: Submission,
     gone: &[Token],
     draft: Draft<R>,
@@ -249,11 +235,13 @@ fn enter<R: Relation>(
     requires sound { IsSound s.old }
     requires unsealed { s.old.sealed ≡ false }
     requires latest { IsLatest exchange s.old.exchanges.exchanges }
+    requires later { AllByRecursion (λ (x : StaleValue). x.opening < exchange.opening)
+        s.old.stales.stales }
     requires early { moment ≤ LAST_MOMENT }
     requires may { MaySubmit moment (link_at s.old.endpoints exchange.peer) submission }
     requires gone { gone.now ≡ tokens_of (is_renewed_for mapped.now.sense) s.old.watches.standing }
-    ensures { IsEntered result moment mapped.now.sense exchange reader submission.waiting draft
-        s.old s.new }
+    ensures { IsEntered result moment mapped.now.sense exchange reader keeps submission.waiting
+        draft s.old s.new }
 {
     let taken = room::takes(alloc, s, &draft)?;
     if !taken {
@@ -261,7 +249,9 @@ fn enter<R: Relation>(
         return Err(AskFault::Sealed);
     }
     make_all_places(s, &draft)?;
-    add_exchange(s, mapped, exchange, reader, submission, gone, draft, moment);
+    add_exchange(
+        s, mapped, exchange, reader, keeps, submission, gone, draft, moment,
+    );
     Ok(())
 }
 
@@ -308,6 +298,7 @@ fn ask<R: Relation>(
     requires begins { MayBegin moment word conn (arc_value mapped) message.peer message.token
         message.first.text (state_of s.old) }
     requires observes { message.first.observes ≡ wants_for (arc_value mapped) s.old.watches.standing }
+    requires keeps { message.first.keeps ≡ keeps_for moment (arc_value mapped) (state_of s.old) }
     requires gone { message.gone.items
         ≡ tokens_of (is_renewed_for (arc_value mapped).sense) s.old.watches.standing }
     requires message { IsSubmission moment message.token message.first.text word
@@ -335,8 +326,9 @@ fn ask<R: Relation>(
         conn,
         opening: number,
     };
+    let keeps = first.keeps;
     match enter(
-        alloc, s, &mapped, exchange, reader, submission, &gone, draft, moment,
+        alloc, s, &mapped, exchange, reader, keeps, submission, &gone, draft, moment,
     ) {
         Ok(()) => Ok(Ticket {
             conn,
@@ -374,8 +366,7 @@ pub fn begin<R: Relation>(
         (seen s.old) (seen s.new) }
 {
     let token = token_of(s.issued, word);
-    let may_watch = may_watch(&s.watches, &mapped);
-    let first = text_of(alloc, &mapped, &token, may_watch)?;
+    let first = first_of(alloc, s, moment, &mapped, &token)?;
     let gone = tokens_renewed(alloc, s.watches.as_slice(), &mapped)?;
     match prepare(s, peer, token, first.text.as_slice(), moment, word) {
         Ok(submission) => {

@@ -30,7 +30,7 @@ use crate::{asking, due, hearing, opening, rotating, serving, snapshot, taking, 
 use ask_model::Mapped;
 use endpoint_table::Endpoints;
 use exchange_model::{Conn, Exchange};
-use exchange_table::{Exchanges, Fetched, Readers};
+use exchange_table::{Exchanges, Fetched, Readers, Stales};
 use journal_book::Journal;
 use limits::LAST_MOMENT;
 use observe_share::Watch;
@@ -89,6 +89,7 @@ impl<R: Relation> Core<R> {
                 conns: Vec::new(alloc),
                 exchanges: Exchanges::new(alloc),
                 fetched: Fetched::new(alloc),
+                stales: Stales::new(alloc),
                 readers: Readers::new(alloc),
                 watches: Watch::new(alloc),
                 store: Store::new(alloc),

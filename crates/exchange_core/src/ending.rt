@@ -7,11 +7,11 @@ ghost use Rattle.journal_book.specs.Views.{grounds_of};
 ghost use Rattle.history_laws.specs.Progress.{Ending};
 ghost use Rattle.exchange_model.specs.State.{State as CoreState};
 ghost use Rattle.exchange_model.specs.Steps.{moment_in};
-ghost use Rattle.exchange_progress.specs.Coming.{IsEnded, found_for};
+ghost use Rattle.exchange_progress.specs.Coming.{IsEnded, found_for, renews};
 ghost use Rattle.exchange_core.specs.Answering.{given_of};
 ghost use Rattle.exchange_core.specs.Asked.{IsAskIn};
 ghost use Rattle.exchange_core.specs.Drafts.{IsDrafted};
-ghost use Rattle.exchange_core.specs.Ending.{IsAnswerTo, IsTold, deed_of, first_moment};
+ghost use Rattle.exchange_core.specs.Ending.{IsAnswerTo, IsTold, counted_moment, deed_of, first_moment, last_moment};
 ghost use Rattle.exchange_core.specs.Matters.{readers_told};
 
 use crate::answer::Answer;
@@ -32,6 +32,8 @@ use transformers::Relation;
 pub struct Telling {
     pub reader: Reader,
     pub finding: Finding,
+    /// it was renewed, and counts from the last of its replies
+    pub renewed: bool,
 }
 
 /// What the reader is told of that.
@@ -41,7 +43,18 @@ fn finding_for(ended: &Ended, reader: &Reader) -> Result<Finding, AllocError>
 {
     match ended {
         Ended::Found(finding) => finding.copy(),
+        Ended::Renewed(finding, _) => finding.copy(),
         Ended::Turned => Ok(Finding::fault(Cause::Busy, reader.ask)),
+    }
+}
+
+/// Whether it ended with what was renewed.
+fn is_renewed(ended: &Ended) -> bool
+    ensures { (n : ℕ) (how : Ending) → IsEnded n ended.now how → result ≡ renews how }
+{
+    match ended {
+        Ended::Renewed(_, _) => true,
+        _ => false,
     }
 }
 
@@ -56,11 +69,13 @@ pub fn readers_told(
         → IfOk result (λ v. v.items ≡ readers_told how n exchange.now readers.now.items) }
 {
     let waiting = readers.of(exchange.opening);
+    let renewed = is_renewed(ended);
     let mut told = VecDeque::new(alloc);
     'each: for reader in waiting {
         told.push_back(Telling {
             reader: *reader,
             finding: finding_for(ended, reader)?,
+            renewed,
         })?;
     }
     Ok(told)
@@ -78,6 +93,32 @@ pub fn first_moment<R: Relation>(journal: &Journal<R>, grounds: &Grounds, moment
     match numbers.as_slice() {
         [first, ..] => moment_in(journal, *first, moment),
         [] => moment,
+    }
+}
+
+/// The moment from which what was renewed counts: that of the last of its replies, or this one, where
+/// the entry of that comes now.
+pub fn last_moment<R: Relation>(journal: &Journal<R>, grounds: &Grounds, moment: u64) -> u64
+    ensures { result ≡ last_moment journal.now.entries moment (grounds_of grounds.now) }
+{
+    let Grounds::Live(numbers) = grounds else {
+        return moment;
+    };
+    match numbers.as_slice().last() {
+        Some(last) => moment_in(journal, *last, moment),
+        None => moment,
+    }
+}
+
+/// The moment from which what is told counts.
+fn counted_moment<R: Relation>(journal: &Journal<R>, telling: &Telling, moment: u64) -> u64
+    ensures { result ≡ counted_moment journal.now.entries moment telling.now }
+{
+    let grounds = telling.finding.grounds();
+    if telling.renewed {
+        last_moment(journal, grounds, moment)
+    } else {
+        first_moment(journal, grounds, moment)
     }
 }
 
@@ -103,7 +144,7 @@ fn answer_to<R: Relation>(
         (λ a. IsAnswerTo journal.now.entries moment number telling (given_of a)) }
 {
     let mapped = request_of(journal, telling.reader.ask)?;
-    let heard = first_moment(journal, telling.finding.grounds(), moment);
+    let heard = counted_moment(journal, &telling, moment);
     Ok(Answer {
         conn: telling.reader.conn,
         ask: telling.reader.ask,

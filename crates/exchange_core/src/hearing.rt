@@ -9,7 +9,7 @@ ghost use Rattle.message_layer.specs.Hearing.{listed};
 ghost use Rattle.message_layer.specs.Prepared.{IsHearing, MayFollow, MayHeed};
 ghost use Rattle.endpoint_table.specs.Tables.{link_at};
 ghost use Rattle.exchange_model.specs.State.{State as CoreState, link_of};
-ghost use Rattle.exchange_model.specs.Steps.{IsDigested, Matter as ModelMatter, Numbers, exchanges_by, issued_by, pieces_by, store_by};
+ghost use Rattle.exchange_model.specs.Steps.{IsDigested, Matter as ModelMatter, Numbers, exchanges_by, issued_by, pieces_by, stales_by, store_by};
 ghost use Rattle.exchange_model.specs.Entering.{Effect, confirm};
 ghost use Rattle.exchange_core.specs.Calls.{HearsSo};
 ghost use Rattle.exchange_core.specs.Drafts.{Drafts, IsDrafted};
@@ -35,7 +35,7 @@ use crate::state::{State, commit, make_places, start};
 use crate::storing::{make_room_for, put_of, retell, settle};
 use crate::watching::retire;
 use coap_codec::{Bytes as Whole, Token};
-use exchange_table::{Exchanges, Fetched, Readers};
+use exchange_table::{Exchanges, Fetched, Readers, Stales};
 use journal_book::{Entry, Event, Journal};
 use message_layer::{Bytes, FirstSending, Hearing, Heeding, Submission};
 use observe_share::{Notice, Registration, Watch};
@@ -217,6 +217,18 @@ fn change_pieces(fetched: &mut Fetched, matter: &Matter, number: u32)
     }
 }
 
+/// By a reply, or its end, an exchange asks about nothing any more.
+fn change_stales(stales: &mut Stales, matter: &Matter)
+    ensures { (n : ℕ) (new : Numbers) (x : ModelMatter) → IsMatter n new matter.now x
+        → stales.new.stales ≡ stales_by x stales.old.stales }
+{
+    match matter {
+        Matter::Nothing | Matter::Tells(_) => {}
+        Matter::Goes(going) => stales.drop_of(going.exchange.opening),
+        Matter::Over(exchange, _) => stales.drop_of(exchange.opening),
+    }
+}
+
 /// The store after the datagram: what is put, where something is.
 fn change_store<R: Relation>(
     store: &mut Store,
@@ -333,6 +345,7 @@ fn change_tables<R: Relation>(
     let next = next_in(&heeding, &matter);
     note_next(&mut s.exchanges, next, first_number(number, &heeding));
     change_pieces(&mut s.fetched, &matter, number);
+    change_stales(&mut s.stales, &matter);
     s.issued = issued_after(s.issued, &matter);
     let more = into_more(matter);
     s.endpoints

@@ -27,6 +27,7 @@ mod passing;
 mod places;
 mod recalling;
 mod refusing;
+mod renewing;
 mod requests;
 mod room;
 mod rotating;
@@ -41,6 +42,7 @@ mod ticking;
 mod timeouts;
 mod turns;
 mod watching;
+mod wording;
 
 pub use answer::{Answer, Ticket};
 pub use core_state::Core;

@@ -11,11 +11,13 @@ ghost use Rattle.message_layer.specs.Values.{told};
 ghost use Rattle.message_layer.specs.Prepared.{IsUnnumberedCon, MayHeed};
 ghost use Rattle.endpoint_table.specs.Tables.{link_at};
 ghost use Rattle.exchange_model.specs.State.{link_of};
-ghost use Rattle.exchange_model.specs.Steps.{asked_in, has_next_place, is_under};
+ghost use Rattle.exchange_model.specs.Steps.{asked_in, has_next_place, is_under, stale_in};
 ghost use Rattle.exchange_progress.specs.Coming.{AsksSayable, IsComing, comes_by};
 ghost use Rattle.exchange_core.specs.Matters.{IsAnswered, IsAskedFor, IsFewTimes, IsNextFor, IsNextToken, IsPrepared, answer_in, matter_for, next_in};
+ghost use Rattle.exchange_core.specs.Renewing.{unless_confirmed};
 ghost use Rattle.exchange_core.specs.States.{state_of};
 
+use crate::renewing::{is_confirmed, renewed_by};
 use crate::state::State;
 use ask_model::Cause;
 use cache_key::Key;
@@ -98,6 +100,29 @@ fn coming_of<R: Relation>(
     comes_to(alloc, &s.journal, pieces, exchange, number, message)
 }
 
+/// What the exchange comes to by the reply, which the entry with this number bears. It ends where that
+/// says that what it asks about is valid still.
+fn replied_to<R: Relation>(
+    alloc: Global,
+    s: &State<R>,
+    exchange: &Exchange,
+    number: u32,
+    message: Message,
+) -> Result<Coming, AllocError>
+    requires { IsFewTimes exchange.now }
+    ensures coming { IfOk result (λ x. IsComing number x
+        (unless_confirmed (stale_in exchange.now.opening s.now.stales.stales) number (content message)
+        (comes_by s.now.journal.entries s.now.fetched.pieces exchange.now number (content message)))) }
+    ensures sayable { IfOk result AsksSayable }
+{
+    if let Some(stored) = s.stales.of(exchange.opening) {
+        if is_confirmed(stored, &message) {
+            return renewed_by(alloc, stored, number, &message);
+        }
+    }
+    coming_of(alloc, s, exchange, number, message)
+}
+
 /// The exchange that the datagram answers, by what its link tells of it, and what that comes to by the
 /// entry with this number.
 fn answer_in<R: Relation>(
@@ -118,7 +143,7 @@ fn answer_in<R: Relation>(
             let Some(exchange) = exchange_under(s, token) else {
                 return Ok(None);
             };
-            let coming = coming_of(alloc, s, &exchange, number, message)?;
+            let coming = replied_to(alloc, s, &exchange, number, message)?;
             Ok(Some(Answered { exchange, coming }))
         }
         Up::Reset(of) => {

@@ -85,7 +85,9 @@ fn found_in<R: Relation>(
         Coming::Ends(Ended::Found(finding)) => {
             stored_for(alloc, journal, opening, &finding, moment)
         }
-        _ => Ok(None),
+        Coming::Ends(Ended::Renewed(_, _)) => Ok(None),
+        Coming::Ends(Ended::Turned) => Ok(None),
+        Coming::Goes(_) => Ok(None),
     }
 }
 

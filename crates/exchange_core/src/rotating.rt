@@ -1,6 +1,6 @@
 //! The turn from a sealed journal to the next one.
 
-ghost use Rattle.std.specs.Prelude.{◌≡◌, ◌≤◌, ◌<◌, ◌+◌, [], None, Some, length, map, not, if◌then◌else◌, sum_by, IfErr, IfOk, IfSome, OnOk};
+ghost use Rattle.std.specs.Prelude.{◌≡◌, ◌≤◌, ◌<◌, ◌+◌, [], None, Some, filter, length, map, not, if◌then◌else◌, sum_by, IfErr, IfOk, IfSome, OnOk};
 ghost use Rattle.std.specs.List.{list_all};
 ghost use Rattle.ask_model.specs.Sizes.{capped};
 ghost use Rattle.limits.specs.declared.TheConstants.{LAST_MOMENT, MAX_ENTRIES};
@@ -11,17 +11,19 @@ ghost use Rattle.resp_cache.specs.Stores.{IsStore};
 ghost use Rattle.endpoint_table.specs.Keeping.{is_any};
 ghost use Rattle.exchange_model.specs.Steps.{is_past, retired};
 ghost use Rattle.exchange_model.specs.Rotating.{are_few, copied_entries, copies, fault_of, pair_at, taken, turned, Crowded};
+ghost use Rattle.exchange_core.specs.Renewing.{AreAskable, ends_as_heard};
 ghost use Rattle.exchange_core.specs.Rotating.{fault_in, IsRefused, IsTurned};
 ghost use Rattle.exchange_core.specs.Sound.{IsSound};
 ghost use Rattle.exchange_core.specs.States.{given_in, outgoing, seen, state_of};
 
 use crate::due::is_past;
 use crate::fault::RotateFault;
+use crate::renewing::is_as_heard;
 use crate::state::State;
 use crate::storing::retire_all;
 use endpoint_table::Keeping;
 use exchange_model::Exchange;
-use exchange_table::{Exchanges, Fetched, Readers};
+use exchange_table::{Exchanges, Fetched, Readers, Stales};
 use journal_book::Journal;
 use journal_copies::{Begun, Copies, Marks, begin, remembered};
 use limits::MAX_NUMBERED;
@@ -106,6 +108,14 @@ fn unwritten<R: Relation>(s: &State<R>) -> Result<Vec<Pair>, AllocError>
     store.to_pairs()
 }
 
+/// Takes out the pairs that a 2.03 has renewed.
+fn keep_heard<R: Relation>(journal: &Journal<R>, pairs: &mut Vec<Pair>)
+    ensures pairs { pairs.new.items ≡ filter (ends_as_heard journal.now.entries) pairs.old.items }
+    ensures store { IsStore pairs.old.items → IsStore pairs.new.items }
+{
+    pairs.retain(|pair| is_as_heard(journal, &pair.stored));
+}
+
 /// What the next journal begins with, and the pairs that are carried over.
 fn next_of<R: Relation>(
     alloc: Global,
@@ -114,6 +124,7 @@ fn next_of<R: Relation>(
     moment: u64,
 ) -> Result<Begun<R>, AllocError>
     requires few { length s.now.journal.entries ≤ MAX_ENTRIES }
+    requires askable { AreAskable s.now.journal.entries s.now.store.pairs }
     requires marks { AreMarks moment s.now.journal.entries [] remembered }
     ensures counted { IfOk result (λ b. AreCounted b.copies) }
     ensures copied { IfOk result (λ b. b.copies.journal.entries
@@ -122,7 +133,8 @@ fn next_of<R: Relation>(
         ≡ map (pair_at b.copies.journal.entries) (taken moment (state_of s.now))) }
     ensures store { IfOk result (λ b. IsStore b.pairs.items) }
 {
-    let pairs = unwritten(s)?;
+    let mut pairs = unwritten(s)?;
+    keep_heard(&s.journal, &mut pairs);
     begin(alloc, &s.journal, moment, remembered, &pairs)
 }
 
@@ -156,6 +168,7 @@ fn turn<R: Relation>(
     s.conns.clear();
     s.exchanges = Exchanges::new(alloc);
     s.fetched = Fetched::new(alloc);
+    s.stales = Stales::new(alloc);
     s.readers = Readers::new(alloc);
     s.watches = Watch::new(alloc);
     s.store = store;

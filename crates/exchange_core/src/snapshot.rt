@@ -17,7 +17,7 @@ use crate::outgoing::Datagram;
 use crate::state::State;
 use endpoint_table::Endpoints;
 use exchange_model::Conn;
-use exchange_table::{Exchanges, Fetched, Readers};
+use exchange_table::{Exchanges, Fetched, Readers, Stales};
 use observe_share::Watch;
 use resp_cache::Store;
 use std::alloc::{AllocError, Global};
@@ -39,6 +39,7 @@ pub struct Snapshot<R: Relation> {
     conns: Vec<Conn>,
     exchanges: Exchanges,
     fetched: Fetched,
+    stales: Stales,
     readers: Readers,
     watches: Watch,
     store: Store,
@@ -67,6 +68,7 @@ impl<R: Relation> Model for Snapshot<R> {
         conns = s.conns.items;
         exchanges = s.exchanges.exchanges;
         pieces = s.fetched.pieces;
+        stales = s.stales.stales;
         readers = s.readers.items;
         watches = s.watches.standing;
         store = s.store.pairs;
@@ -121,6 +123,7 @@ pub fn take_snapshot<R: Relation>(alloc: Global, s: &State<R>) -> Result<Snapsho
         conns: Vec::from_slice(alloc, &s.conns)?,
         exchanges: s.exchanges.copy(alloc)?,
         fetched: s.fetched.copy(alloc)?,
+        stales: s.stales.copy(alloc)?,
         readers: s.readers.copy(alloc)?,
         watches: s.watches.copy()?,
         store: s.store.copy()?,
@@ -150,6 +153,7 @@ pub fn put_back<R: Relation>(s: &mut State<R>, snapshot: Snapshot<R>)
     s.conns = snapshot.conns;
     s.exchanges = snapshot.exchanges;
     s.fetched = snapshot.fetched;
+    s.stales = snapshot.stales;
     s.readers = snapshot.readers;
     s.watches = snapshot.watches;
     s.store = snapshot.store;

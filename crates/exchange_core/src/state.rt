@@ -20,7 +20,7 @@ use crate::noting::{note_conns, note_readers};
 use crate::outgoing::Datagram;
 use endpoint_table::Endpoints;
 use exchange_model::Conn;
-use exchange_table::{Exchanges, Fetched, Readers};
+use exchange_table::{Exchanges, Fetched, Readers, Stales};
 use journal_book::{Entry, Journal};
 use observe_share::Watch;
 use resp_cache::Store;
@@ -45,6 +45,8 @@ pub struct State<R: Relation> {
     pub exchanges: Exchanges,
     /// the pieces that they have fetched
     pub fetched: Fetched,
+    /// what they ask about
+    pub stales: Stales,
     /// who waits for an exchange, in the order of their asks
     pub readers: Readers,
     /// what is observed

@@ -8,9 +8,9 @@ ghost use Rattle.history_laws.specs.Progress.{Ending};
 ghost use Rattle.resp_cache.specs.Stored.{Stored};
 ghost use Rattle.exchange_progress.specs.Coming.{IsEnded};
 ghost use Rattle.exchange_core.specs.Matters.{IsMatter};
-ghost use Rattle.exchange_core.specs.Storing.{content_told, if_newest, is_newest_found, key_ended, pair_of, put_for, put_in, settled_with, stored_for};
+ghost use Rattle.exchange_core.specs.Storing.{content_told, if_newest, if_unchanged, is_newest_found, key_ended, pair_of, put_for, put_in, renewed_for, settled_with, stored_for};
 
-use crate::ending::first_moment;
+use crate::ending::{first_moment, last_moment};
 use crate::matter::{Matter, Notification};
 use cache_key::{Key, Reading};
 use exchange_model::Exchange;
@@ -112,6 +112,59 @@ fn put_found<R: Relation>(
     }))
 }
 
+/// What was renewed, as it is stored: it counts from the moment of the last of its replies, and came
+/// first of the exchange with this opening. It shares the response.
+fn renewed_for<R: Relation>(
+    alloc: Global,
+    journal: &Journal<R>,
+    opening: u32,
+    finding: &Finding,
+    moment: u64,
+) -> Result<Option<StoredResponse>, AllocError>
+    ensures { IfOk result (λ o. o
+        ≡ renewed_for journal.now.entries moment opening finding.now.told finding.now.grounds) }
+{
+    let Outcome::Whole(response) = finding.outcome() else {
+        return Ok(None);
+    };
+    let Grounds::Live(numbers) = finding.grounds() else {
+        return Ok(None);
+    };
+    let heard = last_moment(journal, finding.grounds(), moment);
+    let shared = Arc::try_clone(response)?;
+    let list = Vec::from_slice(alloc, numbers.as_slice())?;
+    Ok(Some(StoredResponse::new(alloc, shared, opening, heard, list)?))
+}
+
+/// What the exchange puts into the store that ends with what was renewed, which came first of the
+/// exchange with this opening: that, where no write and no notification outran it.
+fn put_renewed<R: Relation>(
+    alloc: Global,
+    journal: &Journal<R>,
+    ended: &Exchange,
+    opening: u32,
+    finding: &Finding,
+    moment: u64,
+) -> Result<Option<Pair>, AllocError>
+    ensures { IfOk result (λ o. o ≡ put_for journal.now.entries (Some ended.now)
+        (if_unchanged ended.now (renewed_for journal.now.entries moment opening
+        finding.now.told finding.now.grounds))) }
+{
+    if !ended.newest {
+        return Ok(None);
+    }
+    let Some(reading) = reading_in(journal, ended) else {
+        return Ok(None);
+    };
+    let Some(stored) = renewed_for(alloc, journal, opening, finding, moment)? else {
+        return Ok(None);
+    };
+    Ok(Some(Pair {
+        key: Key::of(alloc, reading.peer, reading.target, reading.accept)?,
+        stored,
+    }))
+}
+
 /// What the end of the exchange puts into the store.
 fn put_ended<R: Relation>(
     alloc: Global,
@@ -126,6 +179,9 @@ fn put_ended<R: Relation>(
 {
     match ended {
         Ended::Found(finding) => put_found(alloc, journal, exchange, finding, moment),
+        Ended::Renewed(finding, opening) => {
+            put_renewed(alloc, journal, exchange, *opening, finding, moment)
+        }
         Ended::Turned => Ok(None),
     }
 }

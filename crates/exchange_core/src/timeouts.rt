@@ -37,6 +37,7 @@ fn late_to(exchanges: &[Exchange], reader: &Reader) -> Option<Telling>
     Some(Telling {
         reader: *reader,
         finding: Finding::fault(Cause::Timeout, named),
+        renewed: false,
     })
 }
 

@@ -3,7 +3,7 @@ use Rattle.std.specs.Arc.{arc_value}
 use Rattle.ask_model.specs.Views.{Mapping}
 use Rattle.exchange_table.specs.Tables.{number_of, opening_of}
 use Rattle.exchange_core.specs.States.{state_of}
-use Rattle.exchange_core.proofs.Ordered.{latest}
+use Rattle.exchange_core.proofs.Ordered.{latest, stales-before}
 use Rattle.exchange_core.proofs.BeginLinks.{link-takes}
 use Rattle.exchange_core.proofs.Begins.{timely, sent-next}
 use Rattle.exchange_core.proofs.BeginSound.{enters-sound, enters-ok, enters-err, entered-by, exchange-is}
@@ -27,8 +27,8 @@ returns-in-Ok-clause-sound g c =
     c.requires.message.ready in
     let next = sent-next _ _ _ _ _ k c.requires.message.waiting in
     let h = c.in_ok-draft.ensures.drafts in
-    let i = entered-by c.enter.result _ _ _ _ _ _ _ _ _ _ c.in_ok-draft.draft c.args.s.now c.enter.new.s
-    (ap (λ (m : Mapping). m.sense) c.deref-2.ensures) (exchange-is _ _ _ _ _ _ _ _ _ _ _ asked c.requires.observes n c.exchange_of-exchange.ensures) n c.requires.message.waiting c.enter.ensures in
+    let i = entered-by c.enter.result _ _ _ _ _ _ _ _ _ _ _ _ c.in_ok-draft.draft c.args.s.now c.enter.new.s
+    (ap (λ (m : Mapping). m.sense) c.deref-2.ensures) (exchange-is _ _ _ _ _ _ _ _ _ _ _ asked c.requires.observes n c.exchange_of-exchange.ensures) n c.requires.keeps c.requires.message.waiting c.enter.ensures in
     enters-sound c.args.moment c.args.word c.args.conn (arc_value c.args.mapped) c.args.message.peer c.args.message.token c.args.message.first.text c.args.message.submission.sent c.in_ok-draft.draft c.args.s.now c.enter.new.s
     c.requires.sound c.requires.begins h next c.in_ok-draft.ensures.answers c.enter.result i
 
@@ -40,8 +40,8 @@ returns-in-Err-clause-sound g c =
     c.requires.message.ready in
     let next = sent-next _ _ _ _ _ k c.requires.message.waiting in
     let h = c.in_ok-draft.ensures.drafts in
-    let i = entered-by c.enter.result _ _ _ _ _ _ _ _ _ _ c.in_ok-draft.draft c.args.s.now c.enter.new.s
-    (ap (λ (m : Mapping). m.sense) c.deref-2.ensures) (exchange-is _ _ _ _ _ _ _ _ _ _ _ asked c.requires.observes n c.exchange_of-exchange.ensures) n c.requires.message.waiting c.enter.ensures in
+    let i = entered-by c.enter.result _ _ _ _ _ _ _ _ _ _ _ _ c.in_ok-draft.draft c.args.s.now c.enter.new.s
+    (ap (λ (m : Mapping). m.sense) c.deref-2.ensures) (exchange-is _ _ _ _ _ _ _ _ _ _ _ asked c.requires.observes n c.exchange_of-exchange.ensures) n c.requires.keeps c.requires.message.waiting c.enter.ensures in
     enters-sound c.args.moment c.args.word c.args.conn (arc_value c.args.mapped) c.args.message.peer c.args.message.token c.args.message.first.text c.args.message.submission.sent c.in_ok-draft.draft c.args.s.now c.enter.new.s
     c.requires.sound c.requires.begins h next c.in_ok-draft.ensures.answers c.enter.result i
 
@@ -53,8 +53,8 @@ returns-in-Ok-clause-ok g c =
     c.requires.message.ready in
     let next = sent-next _ _ _ _ _ k c.requires.message.waiting in
     let h = c.in_ok-draft.ensures.drafts in
-    let i = entered-by c.enter.result _ _ _ _ _ _ _ _ _ _ c.in_ok-draft.draft c.args.s.now c.enter.new.s
-    (ap (λ (m : Mapping). m.sense) c.deref-2.ensures) (exchange-is _ _ _ _ _ _ _ _ _ _ _ asked c.requires.observes n c.exchange_of-exchange.ensures) n c.requires.message.waiting c.enter.ensures in
+    let i = entered-by c.enter.result _ _ _ _ _ _ _ _ _ _ _ _ c.in_ok-draft.draft c.args.s.now c.enter.new.s
+    (ap (λ (m : Mapping). m.sense) c.deref-2.ensures) (exchange-is _ _ _ _ _ _ _ _ _ _ _ asked c.requires.observes n c.exchange_of-exchange.ensures) n c.requires.keeps c.requires.message.waiting c.enter.ensures in
     let b =
     enters-ok c.args.moment c.args.word c.args.conn (arc_value c.args.mapped) c.args.message.peer c.args.message.token c.args.message.first.text c.args.message.submission.sent c.in_ok-draft.draft c.args.s.now c.enter.new.s
     c.requires.sound c.requires.begins h next c.in_ok-draft.ensures.answers c.in-Ok.field-0 (rw (c.in-Ok.is) at i) in
@@ -68,10 +68,15 @@ returns-in-Err-clause-err g c =
     c.requires.message.ready in
     let next = sent-next _ _ _ _ _ k c.requires.message.waiting in
     let h = c.in_ok-draft.ensures.drafts in
-    let i = entered-by c.enter.result _ _ _ _ _ _ _ _ _ _ c.in_ok-draft.draft c.args.s.now c.enter.new.s
-    (ap (λ (m : Mapping). m.sense) c.deref-2.ensures) (exchange-is _ _ _ _ _ _ _ _ _ _ _ asked c.requires.observes n c.exchange_of-exchange.ensures) n c.requires.message.waiting c.enter.ensures in
+    let i = entered-by c.enter.result _ _ _ _ _ _ _ _ _ _ _ _ c.in_ok-draft.draft c.args.s.now c.enter.new.s
+    (ap (λ (m : Mapping). m.sense) c.deref-2.ensures) (exchange-is _ _ _ _ _ _ _ _ _ _ _ asked c.requires.observes n c.exchange_of-exchange.ensures) n c.requires.keeps c.requires.message.waiting c.enter.ensures in
     enters-err c.args.moment c.args.word c.args.conn (arc_value c.args.mapped) c.args.message.peer c.args.message.token c.args.message.first.text c.args.message.submission.sent c.in_ok-draft.draft c.args.s.now c.enter.new.s
     c.requires.sound c.requires.begins h next c.in_ok-draft.ensures.answers (Unit {0}) c.in-Err.fault (rw (c.in-Err.is) at i)
+
+pub enter-requires-clause-later : goal.enter-requires-clause-later
+enter-requires-clause-later g c =
+    stales-before (state_of c.args.s.now) c.requires.sound.kept.kept c.exchange_of-exchange.result.opening
+    (ap opening_of c.exchange_of-exchange.ensures ∙ c.len-number.ensures)
 
 pub enter-requires-clause-latest : goal.enter-requires-clause-latest
 enter-requires-clause-latest g c =

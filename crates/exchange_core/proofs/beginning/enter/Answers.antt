@@ -38,6 +38,6 @@ pub returns : goal.returns
 returns g c =
     let e = c.add_exchange.ensures in (
       sym (c.in_ok-taken.ensures c.args.moment) ∙ c.if-not-taken.false,
-      leaves c.args.moment c.args.mapped.now.sense c.args.exchange c.args.reader c.args.submission.waiting c.args.draft c.args.s.now c.make_all_places.new.s c.add_exchange.new.s c.make_all_places.ensures.same
+      leaves c.args.moment c.args.mapped.now.sense c.args.exchange c.args.reader c.args.keeps c.args.submission.waiting c.args.draft c.args.s.now c.make_all_places.new.s c.add_exchange.new.s c.make_all_places.ensures.same
           (record { state = e.state; bytes = e.bytes; held = e.held; answers = e.answers; sends = e.sends }),
     )

@@ -1,9 +1,9 @@
-use Rattle.std.proofs.Common.{◌≡◌, ℕ, zero, suc, ◌+◌, ◌<◌, ◌++◌, ◌∷◌, [], List, Option, drop, get_or, length, map, refl, sym, ap, subst, ◌∙◌, append-nil, arith}
+use Rattle.std.proofs.Common.{◌≡◌, ℕ, Bool, zero, suc, ◌+◌, ◌<◌, ◌++◌, ◌∷◌, [], List, Option, drop, get_or, length, map, refl, sym, ap, subst, ◌∙◌, append-nil, arith}
 use Rattle.std.proofs.lemmas.List.{drop_all}
 use Rattle.reply_reading.specs.Findings.{Found}
 use Rattle.history_laws.specs.Progress.{Ending}
 use Rattle.exchange_model.specs.declared.kept.Reader.{Reader}
-use Rattle.exchange_progress.specs.Coming.{found_for}
+use Rattle.exchange_progress.specs.Coming.{found_for, renews}
 use Rattle.exchange_core.specs.Matters.{telling_for}
 use Rattle.exchange_core.proofs.ending.readers_told.Goals as goal
 
@@ -22,9 +22,11 @@ more-told {X = X} {Y = Y} f told xs i d y all lt is e =
     next (z ∷ zs) zero less = refl
     next (z ∷ zs) (suc k) less = next zs k (omega (arith, less)) ∙ ap (λ (j : ℕ). get_or zs k d ∷ drop j (z ∷ zs)) (let e : suc (k + 1) ≡ suc k + 1 = omega arith in e)
 
-telling-is : (how : Ending) (n : ℕ) (sending : Option ℕ) (r : Reader) (f : Found) → f ≡ found_for how n sending r
-    → (record { reader = r; finding = f }) ≡ telling_for how n sending r
-telling-is how n sending r f e = ap (λ (g : Found). record { reader = r; finding = g }) e
+telling-is : (how : Ending) (n : ℕ) (sending : Option ℕ) (r : Reader) (f : Found) (b : Bool) → f ≡ found_for how n sending r → b ≡ renews how
+    → (record { reader = r; finding = f; renewed = b }) ≡ telling_for how n sending r
+telling-is how n sending r f b e d =
+    ap (λ (g : Found). record { reader = r; finding = g; renewed = b }) e
+    ∙ ap (λ (c : Bool). record { reader = r; finding = found_for how n sending r; renewed = c }) d
 
 pub each-preserved : goal.each-preserved
 each-preserved c = λ n how i.
@@ -33,7 +35,7 @@ each-preserved c = λ n how i.
     let waiting = c.of-waiting.result.now in
     rw (c.in_ok-push_back.ensures.items)
     (more-told tell c.each.told.items waiting c.each.reader-index _ _ (map tell waiting) c.each-test.true
-    (telling-is how n sending _ _ (c.in_ok-finding_for.ensures n how sending i)) (c.each.invariant n how i))
+    (telling-is how n sending _ _ _ (c.in_ok-finding_for.ensures n how sending i) (c.is_renewed-renewed.ensures n how i)) (c.each.invariant n how i))
 
 pub returns : goal.returns
 returns c = λ n how i.

@@ -2,6 +2,7 @@ use Rattle.std.proofs.Common.{List, ap, ◌∙◌}
 use Rattle.exchange_model.specs.State.{PeerLink, State}
 use Rattle.exchange_model.specs.Rotating.{turned}
 use Rattle.exchange_core.specs.States.{state_of}
+use Rattle.exchange_core.proofs.Askable.{askable}
 use Rattle.exchange_core.proofs.Sounding.{sound-turned}
 use Rattle.exchange_core.proofs.rotating.rotate.Goals as goal
 
@@ -13,3 +14,6 @@ returns-clause-sound g c =
     c.in_ok-remembered.ensures.none
     (e.state ∙ ap (λ (xs : List PeerLink). turned c.args.moment (record S { links = xs })) c.prepare_keep.ensures.same)
     e.bytes e.place e.answers
+
+pub next_of-requires-clause-askable : goal.next_of-requires-clause-askable
+next_of-requires-clause-askable g c = askable (state_of c.args.s.now) c.requires.sound.kept

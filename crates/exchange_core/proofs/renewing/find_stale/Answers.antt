@@ -1,0 +1,7 @@
+use Rattle.std.proofs.Common.{sym}
+use Rattle.exchange_core.proofs.Listed.{stale-askable}
+use Rattle.exchange_core.proofs.renewing.find_stale.Goals as goal
+
+pub as_pieces-requires : goal.as_pieces-requires
+as_pieces-requires g c =
+    (stale-askable c.args.journal.now.entries _ c.args.moment c.in-Some-stale.stored.now c.args.store.now.pairs c.requires (sym c.in-Some-stale.ensures)).1
