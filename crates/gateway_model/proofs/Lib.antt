@@ -20,10 +20,12 @@ mod Pacing
 mod Recounting
 mod Opened
 mod Order
+mod Renewed
 mod Rested
 mod Rotated
 mod Serving
 mod Shown
+mod Spelled
 mod Shutting
 mod Standing
 mod Untold

@@ -8,7 +8,7 @@ use Rattle.uri_map.specs.Peers.{same_peer}
 use Rattle.journal_book.specs.Entries.{Ground, Past, Asked, Sent, Heard, Deed, Opens, Asks, Sends, Hears, Passes, Answers, Shuts, Seals, Carries, Written}
 use Rattle.history_laws.specs.Hearing.{is_such, is_live, live_heard, recalls, recalls_by}
 use Rattle.history_laws.specs.Justified.{Legal, Follows}
-use Rattle.history_laws.specs.Readings.{Noted, Note, Plain, Begins, First, Copies, Confirms, Says, Repeats, Garbled, Bygone, Recalls, entries, Joins, Serves}
+use Rattle.history_laws.specs.Readings.{Noted, Note, Plain, Begins, Renews, First, Copies, Confirms, Says, Repeats, Garbled, Bygone, Recalls, entries, Joins, Serves}
 use Rattle.history_laws.specs.Transmissions.{FirstSending, firsts, firsts_by, last_sent}
 use Rattle.history_laws.proofs.CallerLemmas.{and-right}
 use Rattle.exchange_model.specs.Reads.{Reads}
@@ -87,6 +87,7 @@ live-came t s p (Sends q b w) note e = absurd cc
 live-came t s p (Hears q b) (Says m to notice) e = and-right (is_such m.kind) _ e
 live-came t s p (Hears q b) Plain e = absurd cc
 live-came t s p (Hears q b) (Begins r) e = absurd cc
+live-came t s p (Hears q b) (Renews r kept) e = absurd cc
 live-came t s p (Hears q b) (Joins o) e = absurd cc
 live-came t s p (Hears q b) (Serves js) e = absurd cc
 live-came t s p (Hears q b) (First o m) e = absurd cc

@@ -1,121 +1,38 @@
 -- What a connection is told of an answer is what the entries say of it.
-use Rattle.std.proofs.Common.{◌≡◌, ℕ, zero, suc, ◌-◌, cond, eqb, List, [], ◌∷◌, ◌++◌, length, Option, Some, refl, sym, ap, subst, ◌∙◌, append-nil, ◌⊎◌, inl, inr, false}
+use Rattle.std.proofs.Common.{◌≡◌, ℕ, zero, suc, ◌-◌, List, [], ◌∷◌, ◌++◌, length, Some, refl, sym, ap, subst, ◌∙◌, append-nil, ◌⊎◌, inl, inr}
 use Rattle.std.specs.List.{AllByRecursion, flat_map, slice_get}
-use Rattle.coap_codec.specs.declared.block.Block.{Block}
-use Rattle.coap_codec.specs.Spelling.{Content, Spells}
-use Rattle.coap_codec.proofs.Unique.{spells_one}
+use Rattle.coap_codec.specs.Spelling.{Content}
 use Rattle.media_map.specs.declared.form.Form.{Form}
-use Rattle.uri_map.specs.declared.peer.Peer.{Peer}
 use Rattle.http_edge.specs.declared.answer.HttpAnswer.{HttpAnswer}
-use Rattle.ask_model.specs.Requests.{CoapRequest, Sense, Requests, Refuses, request_message}
+use Rattle.ask_model.specs.Requests.{CoapRequest, Sense, Requests, Refuses}
 use Rattle.ask_model.specs.Views.{Ask, Rules}
-use Rattle.journal_book.specs.Entries.{Grounds, Live, Kept, Fault, Ground, Done, Heard, done_of, Deed, Asks, Hears, Answers, Carries, Written}
+use Rattle.journal_book.specs.Entries.{Grounds, Live, Kept, Fault, Heard, Asks, Hears, Answers, Written}
 use Rattle.journal_book.specs.Views.{ask_of}
-use Rattle.blockwise.specs.Uploads.{begun as begun_as}
-use Rattle.history_laws.specs.Responses.{Response, whole_fetched, whole_given, whole_of}
-use Rattle.history_laws.specs.Progress.{Point, first_point, block_for, point_after}
+use Rattle.history_laws.specs.Responses.{Response, whole_of}
+use Rattle.history_laws.specs.Progress.{Point, first_point}
 use Rattle.history_laws.specs.Justified.{Stands}
 use Rattle.history_laws.proofs.CallerLemmas.{some-is}
-use Rattle.history_claims.specs.Headline.{IsEntry, IsAsked, IsHeardFirst, IsHeardFor, AreHeardFor, AreNotified, IsSameGet, RestsOn}
-use Rattle.history_claims.specs.Carried.{IsCarriedFor, AreCarriedFor, IsCarriedFirst}
+use Rattle.history_claims.specs.Headline.{IsEntry, IsHeardFirst, AreHeardFor, RestsOn}
+use Rattle.history_claims.specs.Stored.{IsServed, RestsOnRenewed}
 use Rattle.history_claims.specs.Causes.{AreCaused}
 use Rattle.history_claims.proofs.CallerLemmas.{rests-on-replies, rests-on-stored}
 use Rattle.reply_reading.specs.Findings.{Told, Tells as TellsOf, Fails}
 use Rattle.exchange_core.specs.Values.{CoreValue, Untaken, Outgoing, written, answered_in, sent_in}
-use Rattle.exchange_core.specs.Answering.{Given, HeardAs, AreHeard, IsFound, CountsFrom}
+use Rattle.exchange_core.specs.Answering.{Given, HeardAs, AreHeard, IsFound, IsRenewal, IsResponse, CountsFrom}
 use Rattle.http_mapping.specs.Means.{Tells, MeansWhole, MeansTold, last_reply}
 use Rattle.gateway_model.specs.declared.input.When.{When}
 use Rattle.gateway_model.specs.Acts.{Act, Served, Terms, DoesAll}
 use Rattle.gateway_model.specs.Emissions.{Emission}
 use Rattle.gateway_model.specs.Going.{goes_in, GoesOut, SendsJust}
 use Rattle.gateway_model.specs.Tellings.{IsMapped, AreMapped, terms_of, IsMeant, AreMeant}
-use Rattle.gateway_model.specs.Told.{ShowsGrounds, ShowsReplies, ShowsStored, TellsAnswer, Piece, interim, final, answers_in, IsPiece, AreOnce, IsToldAnswers, TellsAll, HasCause}
+use Rattle.gateway_model.specs.Told.{ShowsGrounds, ShowsReplies, ShowsRenewed, ShowsStored, TellsAnswer, Piece, interim, final, answers_in, IsPiece, AreOnce, IsToldAnswers, TellsAll, HasCause}
 use Rattle.gateway_model.specs.Waiting.{IsDrained}
 use Rattle.gateway_model.proofs.Order.{all-append}
 use Rattle.gateway_model.proofs.Moves.{Whoever, TellsGiven, IsSaid, ToldIn, Wait, Did, nums, nums-in}
 use Rattle.gateway_model.proofs.Doing.{did-all}
 use Rattle.gateway_model.proofs.Pacing.{IsQuiet, flow-once, Paced, paced-all}
-
--- entries at a place are one
-
-ask-same : (c d : ℕ) (a b : Ask) → Asks c a ≡ Asks d b → a ≡ b
-ask-same c d a b e = cc
-
-asks-same : (t s c d : ℕ) (a b : Ask) → Some (written t (Asks c a)) ≡ Some (written s (Asks d b)) → a ≡ b
-asks-same t s c d a b e =
-    ask-same c d a b (ap (λ (w : Written). w.deed) (some-is (written t (Asks c a)) (written s (Asks d b)) e))
-
-entry-says : (t s : ℕ) (d e : Deed) (x y : Done) → Some (written t d) ≡ Some (written s e) → done_of d ≡ Some x → done_of e ≡ Some y → (t ≡ s) × (x ≡ y)
-entry-says t s d e x y same a b =
-    let one = some-is (written t d) (written s e) same in
-    (ap (λ (w : Written). w.moment) one, some-is x y (sym a ∙ (ap (λ (w : Written). done_of w.deed) one ∙ b)))
-
-texts-same : (p r : Peer) (a b : List ℕ) → Heard p a ≡ Heard r b → a ≡ b
-texts-same p r a b e = cc
-
--- so is the message that they spell
-text-same : (t s : ℕ) (p : Peer) (d : Deed) (a : List ℕ) (m n : Content) → Spells m a → done_of d ≡ Some (Heard p a)
-    → (r : Peer) (e : Deed) (b : List ℕ) → Some (written t d) ≡ Some (written s e) → done_of e ≡ Some (Heard r b) → Spells n b → m ≡ n
-text-same t s p d a m n spelled says r e b same said other =
-    let text = texts-same p r a b (entry-says t s d e (Heard p a) (Heard r b) same says said).1 in
-    spells_one m n b (subst (Spells m) text spelled) other
-
-request-same : (q r : CoapRequest) → Requests q ≡ Requests r → q ≡ r
-request-same q r e = cc
-
--- the messages that entries spell are one list
-
-message-same : (h : List Written) (k j t : ℕ) (q : CoapRequest) (block : Option Block) (m n : Content) → IsHeardFor h k q block j m
-    → HeardAs h j t n → m ≡ n
-message-same h k j t q block m n a b =
-    let heard = a.response.heard in
-    text-same a.response.moment t q.peer (Hears q.peer heard.bytes) heard.bytes m n heard.spelled refl b.peer b.deed b.bytes (sym heard.stands ∙ b.stands) b.says b.spelled
-
-messages-same : (h : List Written) (k : ℕ) (q : CoapRequest) (point : Point) (js : List ℕ) (ms ns : List Content)
-    → AreHeardFor h k q point js ms → AreHeard h js ns → ms ≡ ns
-messages-same h k q point [] [] [] a b = refl
-messages-same h k q point [] [] (n ∷ ns) a b = absurd b
-messages-same h k q point [] (m ∷ ms) ns a b = absurd a
-messages-same h k q point (j ∷ js) [] ns a b = absurd a
-messages-same h k q point (j ∷ js) (m ∷ ms) [] a b = absurd b
-messages-same h k q point (j ∷ js) (m ∷ ms) (n ∷ ns) a b =
-    ap (λ (x : Content). x ∷ ms) (message-same h k j b.0.0 q (block_for point) m n a.0 b.0.1)
-    ∙ ap (λ (xs : List Content). n ∷ xs) (messages-same h j q (point_after point m) js ms ns a.1 b.1)
-
-carried-same : (h : List Written) (o j t : ℕ) (q : CoapRequest) (m n : Content) → IsCarriedFor h o q j m → HeardAs h j t n → m ≡ n
-carried-same h o j t q m n a b =
-    text-same a.heard_at t q.peer (Carries a.heard_as Ground (Heard q.peer a.bytes)) a.bytes m n a.spelled refl b.peer b.deed b.bytes (sym a.heard ∙ b.stands) b.says b.spelled
-
-messages-carried : (h : List Written) (o : ℕ) (q : CoapRequest) (js : List ℕ) (ms ns : List Content) → AreCarriedFor h o q js ms → AreHeard h js ns → ms ≡ ns
-messages-carried h o q [] [] [] a b = refl
-messages-carried h o q [] [] (n ∷ ns) a b = absurd b
-messages-carried h o q [] (m ∷ ms) ns a b = absurd a
-messages-carried h o q (j ∷ js) [] ns a b = absurd a
-messages-carried h o q (j ∷ js) (m ∷ ms) [] a b = absurd b
-messages-carried h o q (j ∷ js) (m ∷ ms) (n ∷ ns) a b =
-    ap (λ (x : Content). x ∷ ms) (carried-same h o j b.0.0 q m n a.0 b.0.1)
-    ∙ ap (λ (xs : List Content). n ∷ xs) (messages-carried h o q js ms ns a.1 b.1)
-
-messages-kept : (h : List Written) (k : ℕ) (q : CoapRequest) (js : List ℕ) (ms ns : List Content)
-    → AreHeardFor h k q (first_point q) js ms ⊎ AreNotified h k q js ms → AreHeard h js ns → ms ≡ ns
-messages-kept h k q js ms ns (inl a) b = messages-same h k q (first_point q) js ms ns a b
-messages-kept h k q (j ∷ []) (m ∷ []) (n ∷ []) (inr a) b =
-    let heard = a.response.heard in
-    let it : HeardAs h j b.0.0 n = b.0.1 in
-    ap (λ (x : Content). x ∷ [])
-    (text-same a.response.moment b.0.0 q.peer (Hears q.peer heard.bytes) heard.bytes m n heard.spelled refl it.peer it.deed it.bytes (sym heard.stands ∙ it.stands) it.says it.spelled)
-messages-kept h k q (j ∷ []) (m ∷ []) [] (inr a) b = absurd b
-messages-kept h k q (j ∷ []) (m ∷ []) (n ∷ o ∷ ns) (inr a) b = absurd b.1
-messages-kept h k q [] ms ns (inr a) b = absurd a
-messages-kept h k q (j ∷ []) [] ns (inr a) b = absurd a
-messages-kept h k q (j ∷ []) (m ∷ n ∷ ms) ns (inr a) b = absurd a
-messages-kept h k q (i ∷ j ∷ js) ms ns (inr a) b = absurd a
-
--- What replies are as a whole is the same for requests that are alike.
-by-message : (q r : CoapRequest) (ms : List Content) → request_message q 0 [] ≡ request_message r 0 [] → whole_of q ms ≡ whole_of r ms
-by-message q r [] e = refl
-by-message q r (m ∷ ms) e =
-    ap (λ (n : Content). cond (eqb n.code 1) (whole_fetched m ms) (whole_given (begun_as (length n.payload) 6) (m ∷ ms))) e
+use Rattle.gateway_model.proofs.Renewed.{counts-valid, heard-valid, renewal-whole, renewed-as, served-as, valid-whole}
+use Rattle.gateway_model.proofs.Spelled.{IsFirstAs, asks-same, counts-alike, counts-first, entry-says, messages-same, request-same}
 
 -- each ask of the entries is meant so
 meant-at : (M : Terms) (h : List Written) (k t c : ℕ) (a : Ask) → AreMeant M h → slice_get h k ≡ Some (written t (Asks c a)) → M.IsMeaning a
@@ -126,27 +43,8 @@ meant-at M (w ∷ h) (suc k) t c a meant e = meant-at M h k t c a meant.1 e
 
 module _ (holds : Form → Form → List ℕ → List ℕ → Type 0) (takes : Form → Form → List ℕ → Type 0) (rules : Rules)
     (h : List Written) (stands : Stands h) where
-  -- The first of them was heard at this moment.
-  abbrev IsFirstAs : List ℕ → ℕ → Type 0
-  IsFirstAs [] t = ⊥
-  IsFirstAs (j ∷ js) t = (m : Content) × HeardAs h j t m
-
-  -- the first reply was heard then, or was copied with its moment
-  first-as : (js : List ℕ) (t heard : ℕ) (q : CoapRequest) (ms : List Content) (w : Response) → AreHeard h js ms
-      → whole_of q ms ≡ Some w → CountsFrom h (Kept js) t heard → IsFirstAs js heard
-  first-as [] t heard q [] w a e counts = absurd (none-some e)
-    where
-      none-some : whole_of q [] ≡ Some w → ⊥
-      none-some e = cc
-  first-as [] t heard q (m ∷ ms) w a e counts = absurd a
-  first-as (j ∷ js) t heard q ms w a e counts = counts
-
-  counts-alike : (js : List ℕ) (t heard : ℕ) → CountsFrom h (Live js) t heard → CountsFrom h (Kept js) t heard
-  counts-alike [] t heard c = c
-  counts-alike (j ∷ js) t heard c = c
-
   heard-first : (js : List ℕ) (heard k : ℕ) (q : CoapRequest) (point : Point) (ms : List Content) → AreHeardFor h k q point js ms
-      → IsFirstAs js heard → IsHeardFirst h heard js
+      → IsFirstAs h js heard → IsHeardFirst h heard js
   heard-first [] heard k q point ms a b = absurd b
   heard-first (j ∷ js) heard k q point [] a b = absurd a
   heard-first (j ∷ js) heard k q point (m ∷ ms) a b =
@@ -158,80 +56,84 @@ module _ (holds : Form → Form → List ℕ → List ℕ → Type 0) (takes : F
       → slice_get h g.ask ≡ Some (written asked (Asks c (ask_of g.mapping)))
       → g.mapping.rules ≡ rules → g.mapping.sense ≡ Requests q
       → IsEntry h n g.moment (Answers c g.ask (Live js))
-      → (ms : List Content) → AreHeard h js ms → whole_of q ms ≡ Some w → CountsFrom h (Live js) g.moment g.heard
+      → (ms : List Content) → AreHeard h js ms → IsResponse q ms w → CountsFrom h (Live js) g.moment g.heard
       → MeansWhole rules.routes holds takes g.mapping w (last_reply (Live js)) (g.moment - g.heard) r
-      → ShowsReplies holds takes h n g.moment c g.ask (ask_of g.mapping) js r
-  shows-live n c g r js w q asked ask by sense answered ms heard whole counts means =
-      let rests : RestsOn h n c g.ask js = rests-on-replies h n g.moment c g.ask js stands answered in
-      let one = asks-same rests.shared.moment asked c c _ _ (sym rests.shared.asked.stands ∙ ask) in
-      let request : rests.request ≡ q = request-same rests.request q (ap (λ (a : Ask). a.sense) one ∙ sense) in
-      let messages : rests.messages ≡ ms = messages-same h rests.opening rests.request (first_point rests.request) js rests.messages ms rests.heard heard in
-      let response : rests.response ≡ w =
-      some-is rests.response w
-      (sym rests.whole
-      ∙ (ap (λ (q : CoapRequest). whole_of q rests.messages) request
-      ∙ (ap (whole_of q) messages ∙ whole))) in
-      record {
+      → ShowsReplies holds takes h n g.moment c g.ask (ask_of g.mapping) js r ⊎ ShowsRenewed holds takes h n g.moment c g.ask (ask_of g.mapping) js r
+  shows-live n c g r js w q asked ask rules_are sense answered ms heard found counts means =
+      by (rests-on-replies h n g.moment c g.ask js stands answered) found
+    where
+      counted : CountsFrom h (Kept js) g.moment g.heard
+      counted = counts-alike h js g.moment g.heard counts
+
+      shown : MeansWhole g.mapping.rules.routes holds takes g.mapping w (last_reply (Live js)) (g.moment - g.heard) r
+      shown = subst (λ (s : Rules). MeansWhole s.routes holds takes g.mapping w (last_reply (Live js)) (g.moment - g.heard) r) (sym rules_are) means
+
+      as-whole : (rests : RestsOn h n c g.ask js) → whole_of q ms ≡ Some rests.response
+      as-whole rests =
+          let one = asks-same rests.shared.moment asked c c _ _ (sym rests.shared.asked.stands ∙ ask) in
+          let request : rests.request ≡ q = request-same rests.request q (ap (λ (a : Ask). a.sense) one ∙ sense) in
+          let messages : rests.messages ≡ ms = messages-same h rests.opening rests.request (first_point rests.request) js rests.messages ms rests.heard heard in
+          sym (ap (λ (q : CoapRequest). whole_of q rests.messages) request ∙ ap (whole_of q) messages) ∙ rests.whole
+
+      replied : (rests : RestsOn h n c g.ask js) → whole_of q ms ≡ Some w → ShowsReplies holds takes h n g.moment c g.ask (ask_of g.mapping) js r
+      replied rests whole = record {
         rests = rests;
         since = g.heard;
         first = heard-first js g.heard rests.opening rests.request (first_point rests.request) rests.messages rests.heard
-            (first-as js g.moment g.heard q ms w heard whole (counts-alike js g.moment g.heard counts));
-        shows = subst (λ (v : Response). MeansWhole g.mapping.rules.routes holds takes g.mapping v (last_reply (Live js)) (g.moment - g.heard) r) (sym response)
-            (subst (λ (s : Rules). MeansWhole s.routes holds takes g.mapping w (last_reply (Live js)) (g.moment - g.heard) r) (sym by) means);
+            (counts-first h js g.moment g.heard q ms w heard whole counted);
+        shows = subst (λ (v : Response). MeansWhole g.mapping.rules.routes holds takes g.mapping v (last_reply (Live js)) (g.moment - g.heard) r)
+            (some-is w rests.response (sym whole ∙ as-whole rests)) shown;
       }
 
-  since-heard : (js : List ℕ) (t s : ℕ) → IsHeardFirst h t js → IsFirstAs js s → t ≡ s
-  since-heard [] t s a b = absurd a
-  since-heard (j ∷ js) t s a b = (entry-says t s _ _ (Heard a.0 a.1) (Heard b.1.peer b.1.bytes) (sym a.2 ∙ b.1.stands) refl b.1.says).0
+      at-valid : (rests : RestsOnRenewed h n c g.ask js) → HeardAs h rests.number rests.valid.heard.response.moment rests.message
+      at-valid rests =
+          heard-valid h rests.request.peer rests.number rests.valid.heard.response.moment rests.message rests.valid.heard.response.heard
 
-  since-carried : (js : List ℕ) (t s : ℕ) → IsCarriedFirst h t js → IsFirstAs js s → t ≡ s
-  since-carried [] t s a b = absurd a
-  since-carried (j ∷ js) t s a b = (entry-says t s _ _ (Heard a.0 a.2) (Heard b.1.peer b.1.bytes) (sym a.3 ∙ b.1.stands) refl b.1.says).0
+      renewed : (rests : RestsOnRenewed h n c g.ask js) → IsRenewal ms w → ShowsRenewed holds takes h n g.moment c g.ask (ask_of g.mapping) js r
+      renewed rests renewal =
+          let u : ℕ = rests.valid.heard.response.moment in
+          let since : g.heard ≡ u =
+          counts-valid h rests.was.first.list rests.number g.moment g.heard u rests.message (at-valid rests) rests.valid.code
+          (subst (λ (js : List ℕ). CountsFrom h (Kept js) g.moment g.heard) (sym rests.list) counted) in
+          record {
+            rests = rests;
+            response = w;
+            is = renewed-as h rests.request rests.was.first rests.stored rests.opening rests.number u rests.message ms w
+                (subst (λ (js : List ℕ). AreHeard h js ms) (sym rests.list) heard) renewal (at-valid rests) rests.was.whole rests.was.renewed;
+            shows = subst (λ (u : ℕ). MeansWhole g.mapping.rules.routes holds takes g.mapping w (last_reply (Live js)) (g.moment - u) r) since shown;
+          }
+
+      by : RestsOn h n c g.ask js ⊎ RestsOnRenewed h n c g.ask js → IsResponse q ms w
+          → ShowsReplies holds takes h n g.moment c g.ask (ask_of g.mapping) js r ⊎ ShowsRenewed holds takes h n g.moment c g.ask (ask_of g.mapping) js r
+      by (inl rests) (inl whole) = inl (replied rests whole)
+      by (inl rests) (inr renewal) = absurd (renewal-whole q ms w rests.response renewal.1 (as-whole rests))
+      by (inr rests) (inl whole) =
+          absurd (valid-whole h rests.was.first.list rests.number rests.valid.heard.response.moment rests.message q ms w (at-valid rests) rests.valid.code
+          (subst (λ (js : List ℕ). AreHeard h js ms) (sym rests.list) heard) whole)
+      by (inr rests) (inr renewal) = inr (renewed rests renewal.1)
 
   -- what is stored is what the answer tells
   shows-kept : (n c : ℕ) (g : Given) (r : HttpAnswer) (js : List ℕ) (w : Response) (q : CoapRequest) (asked : ℕ)
       → slice_get h g.ask ≡ Some (written asked (Asks c (ask_of g.mapping)))
       → g.mapping.rules ≡ rules → g.mapping.sense ≡ Requests q
       → IsEntry h n g.moment (Answers c g.ask (Kept js))
-      → (ms : List Content) → AreHeard h js ms → whole_of q ms ≡ Some w → CountsFrom h (Kept js) g.moment g.heard
+      → (ms : List Content) → AreHeard h js ms → IsResponse q ms w → CountsFrom h (Kept js) g.moment g.heard
       → MeansWhole rules.routes holds takes g.mapping w (last_reply (Kept js)) (g.moment - g.heard) r
       → ShowsStored holds takes h g.moment c g.ask (ask_of g.mapping) js r
-  shows-kept n c g r js w q asked ask by sense answered ms heard whole counts means =
-      elim (rests-on-stored h n g.moment c g.ask js stands answered) [
-        | inl s ↦ inl (
-          s,
-          shows s.response s.since
-              (told s.request s.other s.messages s.response (asked-so s.request s.asked) s.same (messages-kept h s.opening s.other js s.messages ms s.heard heard) s.whole)
-              (since-heard js s.since g.heard s.first first),
-        )
-        | inr s ↦ inr (
-          s,
-          shows s.response s.heard_at
-              (told s.request s.copied s.messages s.response (asked-so s.request s.asked) s.same (messages-carried h s.opening s.copied js s.messages ms s.heard heard) s.whole)
-              (since-carried js s.heard_at g.heard s.first first),
-        )
-      ]
-    where
-      first : IsFirstAs js g.heard
-      first = first-as js g.moment g.heard q ms w heard whole counts
-
-      asked-so : (k : CoapRequest) → IsAsked h g.ask c g.moment (Requests k) → k ≡ q
-      asked-so k a =
-          let one = asks-same g.moment asked c c _ _ (sym a.stands ∙ ask) in
-          request-same k q (ap (λ (a : Ask). a.sense) one ∙ sense)
-
-      told : (k other : CoapRequest) (xs : List Content) (v : Response) → k ≡ q → IsSameGet k other → xs ≡ ms → whole_of other xs ≡ Some v → v ≡ w
-      told k other xs v is same texts whole_then =
-          let message : request_message other 0 [] ≡ request_message q 0 [] =
-          sym (same.2 false 0 []) ∙ ap (λ (k : CoapRequest). request_message k 0 []) is in
-          some-is v w (sym whole_then ∙ (by-message other q xs message ∙ (ap (whole_of q) texts ∙ whole)))
-
-      shows : (v : Response) (since : ℕ) → v ≡ w → since ≡ g.heard
-          → MeansWhole g.mapping.rules.routes holds takes g.mapping v (last_reply (Kept js)) (g.moment - since) r
-      shows v since is then =
-          subst (λ (i : ℕ). MeansWhole g.mapping.rules.routes holds takes g.mapping v (last_reply (Kept js)) (g.moment - i) r) (sym then)
-          (subst (λ (v : Response). MeansWhole g.mapping.rules.routes holds takes g.mapping v (last_reply (Kept js)) (g.moment - g.heard) r) (sym is)
-          (subst (λ (s : Rules). MeansWhole s.routes holds takes g.mapping w (last_reply (Kept js)) (g.moment - g.heard) r) (sym by) means))
+  shows-kept n c g r js w q asked ask rules_are sense answered ms heard found counts means =
+      let s : IsServed h g.moment c g.ask js = rests-on-stored h n g.moment c g.ask js stands answered in
+      let one = asks-same g.moment asked c c _ _ (sym s.asked.stands ∙ ask) in
+      let request : s.request ≡ q = request-same s.request q (ap (λ (a : Ask). a.sense) one ∙ sense) in
+      let so = served-as h g.moment g.heard g.ask q s.request ms w s.is.first s.stored request
+      (subst (λ (js : List ℕ). AreHeard h js ms) (sym s.list) heard) found
+      (subst (λ (js : List ℕ). CountsFrom h (Kept js) g.moment g.heard) (sym s.list) counts) s.is.whole s.is.renewed in
+      record {
+        served = s;
+        response = w;
+        is = so.0;
+        shows = subst (λ (u : ℕ). MeansWhole g.mapping.rules.routes holds takes g.mapping w (last_reply (Kept js)) (g.moment - u) r) (sym so.1)
+            (subst (λ (s : Rules). MeansWhole s.routes holds takes g.mapping w (last_reply (Kept js)) (g.moment - g.heard) r) (sym rules_are) means);
+      }
 
   shows-grounds : (n c : ℕ) (g : Given) (r : HttpAnswer) (asked : ℕ)
       → slice_get h g.ask ≡ Some (written asked (Asks c (ask_of g.mapping)))

@@ -1,18 +1,21 @@
 -- What connections are told, said of the entries of the journal alone: each answer shows one whole
 -- response that was heard for just what its ask asks for, or is the proxy's own error, and tells the
 -- cause and the entry that the journal names.
-use Rattle.std.specs.Prelude.{◌≡◌, ◌⊎◌, ℕ, ◌+◌, ◌-◌, ◌<◌, ⊤, ◌==◌, if◌then◌else◌, List, [], ◌∷◌, ◌++◌, length, map, flat_map}
+use Rattle.std.specs.Prelude.{◌≡◌, ◌⊎◌, ℕ, ◌+◌, ◌-◌, ◌<◌, ⊤, ◌==◌, if◌then◌else◌, List, [], ◌∷◌, ◌++◌, length, map, flat_map, Option}
 use Rattle.std.specs.List.{AllByRecursion}
+use Rattle.coap_codec.specs.Spelling.{Content}
 use Rattle.media_map.specs.declared.form.Form.{Form}
 use Rattle.http_edge.specs.Answers.{answer_text}
 use Rattle.http_edge.specs.declared.answer.HttpAnswer.{HttpAnswer}
+use Rattle.ask_model.specs.Requests.{CoapRequest}
 use Rattle.ask_model.specs.Views.{Ask, Mapping, Rules}
 use Rattle.journal_book.specs.Entries.{Grounds, Live, Kept, Fault, Deed, Asks, Answers, Written}
 use Rattle.http_mapping.specs.Means.{MeansWhole, Tells, last_reply}
-use Rattle.history_laws.specs.Responses.{Response}
+use Rattle.resp_cache.specs.Stored.{Stored}
+use Rattle.history_laws.specs.Responses.{Response, renewed_response}
 use Rattle.history_laws.specs.Justified.{Stands}
-use Rattle.history_claims.specs.Headline.{IsEntry, IsHeardFirst, IsServed, RestsOn}
-use Rattle.history_claims.specs.Carried.{IsServedCarried}
+use Rattle.history_claims.specs.Headline.{IsEntry, IsHeardFirst, RestsOn}
+use Rattle.history_claims.specs.Stored.{WasRenewed, never, again, IsServed, RestsOnRenewed}
 use Rattle.history_claims.specs.Causes.{IsCausedBy, AreCaused}
 use Rattle.exchange_core.specs.Values.{CoreValue}
 use Rattle.gateway_model.specs.declared.input.When.{When}
@@ -23,6 +26,19 @@ use Rattle.gateway_model.specs.Waiting.{IsDrained}
 
 abbrev pub mapping_of : Ask → Mapping
 mapping_of a = record { came = a.came; sense = a.sense; rules = a.rules }
+
+-- It is what was stored, as this 2.03 renews it: with the Max-Age of that, and in its format where it
+-- names one (RFC 7252 section 5.9.1.3). Before it was in some format, be it one that a 2.03 named.
+pub record IsRenewedAs (stored : Response) (m : Content) (w : Response) : Type 0 where
+  pub before : Option ℕ
+  pub is : w ≡ renewed_response (record stored { format = before }) m
+
+-- It is what is stored, which was heard so, or renewed.
+abbrev pub IsAsStored : (h : List Written) (q : CoapRequest) (first : Stored) (n : ℕ) (s : Stored)
+    → WasRenewed h q first n s → Response → Type 0
+IsAsStored h q first n s (never before) w = w ≡ s.response
+IsAsStored h q first n s (again {s = old} o c t j r m asked same was it before) w =
+    IsRenewedAs old.response m w
 
 module _ (holds : Form → Form → List ℕ → List ℕ → Type 0)
     (takes : Form → Form → List ℕ → Type 0) where
@@ -36,21 +52,31 @@ module _ (holds : Form → Form → List ℕ → List ℕ → Type 0)
     pub shows : MeansWhole a.rules.routes holds takes (mapping_of a) rests.response
         (last_reply (Live js)) (t - since) r
 
-  -- It shows a stored one, which is so old.
-  abbrev pub MeansStored : Ask → List ℕ → Response → ℕ → HttpAnswer → Type 0
-  MeansStored a js w age r =
-      MeansWhole a.rules.routes holds takes (mapping_of a) w (last_reply (Kept js)) age r
+  -- Or it shows what was stored for that, as the 2.03 renews it on which the answer rests: it is as
+  -- old as that.
+  pub record ShowsRenewed (h : List Written) (n t c k : ℕ) (a : Ask) (js : List ℕ) (r : HttpAnswer)
+      : Type 0 where
+    pub rests : RestsOnRenewed h n c k js
+    pub response : Response
+    pub is : IsRenewedAs rests.stored.response rests.message response
+    pub shows : MeansWhole a.rules.routes holds takes (mapping_of a) response
+        (last_reply (Live js)) (t - rests.valid.heard.response.moment) r
 
-  -- Or it shows a stored one, which is fresh at the moment of the answer, and as old as its first
-  -- reply: one that was heard in this journal, or one that this begins with.
-  abbrev pub ShowsStored : List Written → ℕ → ℕ → ℕ → Ask → List ℕ → HttpAnswer → Type 0
-  ShowsStored h t c k a js r =
-      ((s : IsServed h t c k js) × MeansStored a js s.response (t - s.since) r)
-      ⊎ ((s : IsServedCarried h t c k js) × MeansStored a js s.response (t - s.heard_at) r)
+  -- It shows a stored one, which is fresh at the moment of the answer, and as old as its first
+  -- reply, or as the 2.03 that renewed it: one that was heard in this journal, or one that this
+  -- begins with.
+  pub record ShowsStored (h : List Written) (t c k : ℕ) (a : Ask) (js : List ℕ) (r : HttpAnswer)
+      : Type 0 where
+    pub served : IsServed h t c k js
+    pub response : Response
+    pub is : IsAsStored h served.request served.is.first k served.stored served.is.renewed response
+    pub shows : MeansWhole a.rules.routes holds takes (mapping_of a) response
+        (last_reply (Kept js)) (t - served.stored.heard) r
 
   -- So it does; or it is the proxy's own error, and tells its cause and an entry.
   abbrev pub ShowsGrounds : List Written → ℕ → ℕ → ℕ → ℕ → Ask → Grounds → HttpAnswer → Type 0
-  ShowsGrounds h n t c k a (Live js) r = ShowsReplies h n t c k a js r
+  ShowsGrounds h n t c k a (Live js) r =
+      ShowsReplies h n t c k a js r ⊎ ShowsRenewed h n t c k a js r
   ShowsGrounds h n t c k a (Kept js) r = ShowsStored h t c k a js r
   ShowsGrounds h n t c k a (Fault cause j) r = Tells (mapping_of a) cause j r
 
