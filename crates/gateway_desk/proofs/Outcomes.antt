@@ -1,5 +1,5 @@
 -- What a journal's entries show of what an ask came to.
-use Rattle.std.proofs.Common.{◌≡◌, ◌↔◌, ℕ, zero, suc, ◌+◌, ◌<◌, Bool, IsTrue, List, [], ◌∷◌, ◌++◌, length, map, take, get_or, Option, Some, None, MatchOption, Result, Ok, Err, IfOk, refl, sym, ap, subst, ◌∙◌, arith}
+use Rattle.std.proofs.Common.{◌≡◌, ◌↔◌, inl, inr, ℕ, zero, suc, ◌+◌, ◌<◌, Bool, IsTrue, List, [], ◌∷◌, ◌++◌, length, map, take, get_or, Option, Some, None, MatchOption, Result, Ok, Err, IfOk, refl, sym, ap, subst, ◌∙◌, arith}
 use Rattle.std.specs.Prelude.{slice_get}
 use Rattle.std.proofs.lemmas.List.{map_push, take_more}
 use Rattle.coap_codec.specs.Spelling.{Content, Spells, content}
@@ -8,14 +8,14 @@ use Rattle.coap_codec.proofs.Unique.{spells_one}
 use Rattle.uri_map.specs.declared.peer.Peer.{Peer}
 use Rattle.ask_model.specs.Requests.{CoapRequest, Sense, Requests}
 use Rattle.journal_book.specs.Entries.{Grounds, Done, Heard, done_of, Deed, Written, Live, Kept}
-use Rattle.history_laws.specs.Responses.{Response, whole_of}
+use Rattle.history_laws.specs.Responses.{Response}
 use Rattle.reply_reading.specs.Findings.{Told, Tells}
 use Rattle.exchange_core.specs.Values.{written}
-use Rattle.exchange_core.specs.Answering.{HeardAs, AreHeard, IsFound, CountsFrom}
-use Rattle.gateway_desk.specs.Shown.{bytes_heard, HearsAt, HearsNone, SpellsNone, IsHeardAt, IsUnheard, AreUnheard, IsFirstAt, RestsOn, whole_by}
+use Rattle.exchange_core.specs.Answering.{HeardAs, AreHeard, IsFound, IsResponse, CountsFrom}
+use Rattle.gateway_desk.specs.Shown.{bytes_heard, CountsAt, HearsAt, HearsNone, SpellsNone, IsHeardAt, IsResponseBy, IsUnheard, AreUnheard, RestsOn}
 use Rattle.gateway_desk.proofs.Whole.{whole-by}
 
-some-same : {X : Type 0} (x y : X) → Some x ≡ Some y → x ≡ y
+pub some-same : {X : Type 0} (x y : X) → Some x ≡ Some y → x ≡ y
 some-same x y e = cc
 
 heard-same : (p o : Peer) (a b : List ℕ) → Heard p a ≡ Heard o b → a ≡ b
@@ -48,7 +48,7 @@ hears-so None now h n t d stands e = λ bytes a.
     none-some : (bytes : List ℕ) → None ≡ Some bytes → ⊥
     none-some bytes e = cc
 
-message-one : (h : List Written) (n : ℕ) (m k : Content) → IsHeardAt h n m → IsHeardAt h n k → m ≡ k
+pub message-one : (h : List Written) (n : ℕ) (m k : Content) → IsHeardAt h n m → IsHeardAt h n k → m ≡ k
 message-one h n m k a b =
     spells_one m k b.1.bytes
     (subst (Spells m) (entry-bytes h n a.1.bytes b.1.bytes (heard-at h n a.0 m a.1) (heard-at h n b.0 k b.1)) a.1.spelled) b.1.spelled
@@ -112,52 +112,51 @@ message-so (Err e) h n bytes x p = p
 
 -- What rests on these entries does so by the messages that were heard in them.
 
-if-same : {E : Type 0} (r : Result Bool E) (A B : Type 0) → A ↔ B → IfOk r (λ is. IsTrue is ↔ A)
+pub if-same : {E : Type 0} (r : Result Bool E) (A B : Type 0) → A ↔ B → IfOk r (λ is. IsTrue is ↔ A)
     → IfOk r (λ is. IsTrue is ↔ B)
 if-same (Ok b) A B same p = ((λ is. same.0 (p.0 is)), (λ s. p.1 (same.1 s)))
 if-same (Err e) A B same p = p
 
 pub rests-so : {E : Type 0} (r : Result Bool E) (h : List Written) (js : List ℕ) (t k len : ℕ) (w : Response) (ms : List Content)
-    → IsFirstAt h t js → AreHeard h js ms → IfOk r (λ is. IsTrue is ↔ (whole_by k len ms ≡ Some w))
+    → CountsAt h t js → AreHeard h js ms → IfOk r (λ is. IsTrue is ↔ IsResponseBy k len ms w)
     → IfOk r (λ is. IsTrue is ↔ RestsOn h js t k len w)
-rests-so r h js t k len w ms first heard = if-same r _ _ (to, from)
+rests-so r h js t k len w ms counts heard = if-same r _ _ (to, from)
   where
-    to : whole_by k len ms ≡ Some w → RestsOn h js t k len w
-    to e = (ms, heard, first, e)
+    to : IsResponseBy k len ms w → RestsOn h js t k len w
+    to e = (ms, heard, counts, e)
 
-    from : RestsOn h js t k len w → whole_by k len ms ≡ Some w
-    from x = ap (whole_by k len) (messages-one h js ms x.0 heard x.1) ∙ x.3
+    from : RestsOn h js t k len w → IsResponseBy k len ms w
+    from x = subst (λ (ms : List Content). IsResponseBy k len ms w) (messages-one h js x.0 ms x.1 heard) x.3
 
 -- Entries bear a response just where that is what rests on them, live or kept.
 
 abbrev Shows : List Written → Told → Grounds → Sense → ℕ → ℕ → Type 0
 Shows h told grounds sense t heard = IsFound h told grounds sense × CountsFrom h grounds t heard
 
-heard-first : (h : List Written) (j t : ℕ) (m : Content) → IsHeardAt h j m → (w : Written) → slice_get h j ≡ Some w → w.moment ≡ t
-    → HeardAs h j t m
-heard-first h j t m a w is now =
-    let moment : a.0 ≡ t = ap (λ (v : Written). v.moment) (some-same (written a.0 a.1.deed) w (sym a.1.stands ∙ is)) ∙ now in
-    subst (λ (s : ℕ). HeardAs h j s m) moment a.1
+response-by : (q : CoapRequest) (ms : List Content) (w : Response) → IsResponseBy q.method (length q.body) ms w → IsResponse q ms w
+response-by q ms w (inl e) = inl (whole-by q ms ∙ e)
+response-by q ms w (inr r) = inr r
+
+by-response : (q : CoapRequest) (ms : List Content) (w : Response) → IsResponse q ms w → IsResponseBy q.method (length q.body) ms w
+by-response q ms w (inl e) = inl (sym (whole-by q ms) ∙ e)
+by-response q ms w (inr r) = inr r
+
+-- No response is made of no message.
+none-heard : (h : List Written) (q : CoapRequest) (w : Response) (ms : List Content) → AreHeard h [] ms → IsResponse q ms w → ⊥
+none-heard h q w [] a (inl e) = absurd cc
+none-heard h q w [] a (inr r) = let it : [] ≡ (r.1.first ∷ r.1.more) ++ r.1.last ∷ [] = r.1.is in absurd cc
+none-heard h q w (m ∷ ms) a e = a
 
 live-shown : (h : List Written) (js : List ℕ) (t heard : ℕ) (q : CoapRequest) (w : Response)
     → RestsOn h js heard q.method (length q.body) w ↔ Shows h (Tells w) (Live js) (Requests q) t heard
 live-shown h [] t heard q w = (
   (λ r. absurd r.2),
-  (λ s. absurd (by s.0.0 s.0.1 s.0.2)),
+  (λ s. absurd (none-heard h q w s.0.0 s.0.1 s.0.2)),
 )
-  where
-    by : (ms : List Content) → AreHeard h [] ms → whole_of q ms ≡ Some w → ⊥
-    by [] a e = absurd cc
-    by (m ∷ ms) a e = a
 live-shown h (j ∷ js) t heard q w = (
-  (λ r. to r.0 r.1 r.2 r.3),
-  (λ s. (s.0.0, s.0.1, (written heard s.1.1.deed, s.1.1.stands, refl), sym (whole-by q s.0.0) ∙ s.0.2)),
+  (λ r. ((r.0, r.1, response-by q r.0 w r.3), r.2)),
+  (λ s. (s.0.0, s.0.1, s.1, by-response q s.0.0 w s.0.2)),
 )
-  where
-    to : (ms : List Content) → AreHeard h (j ∷ js) ms → IsFirstAt h heard (j ∷ js) → whole_by q.method (length q.body) ms ≡ Some w
-        → Shows h (Tells w) (Live (j ∷ js)) (Requests q) t heard
-    to [] a f e = absurd a
-    to (m ∷ ms) a f e = ((m ∷ ms, a, whole-by q (m ∷ ms) ∙ e), (m, heard-first h j heard m a.0 f.0 f.1 f.2))
 
 kept-shown : (h : List Written) (js : List ℕ) (t heard : ℕ) (q : CoapRequest) (w : Response)
     → RestsOn h js heard q.method (length q.body) w ↔ Shows h (Tells w) (Kept js) (Requests q) t heard

@@ -108,17 +108,25 @@ fn is_same_age(a: Option<u32>, b: Option<u32>) -> bool
     }
 }
 
-/// Whether these are the same responses.
-pub fn is_same_response(a: &Response, b: &Response) -> bool
-    ensures { IsTrue result ↔ (a.now ≡ b.now) }
+/// Whether the first response would be the second in this format and with this Max-Age.
+pub fn is_same_in(a: &Response, format: Option<u16>, max_age: Option<u32>, b: &Response) -> bool
+    ensures { IsTrue result
+        ↔ (record a.now { format = format; max_age = max_age } ≡ b.now) }
 {
-    let format = is_same_format(a.format, b.format);
+    let format = is_same_format(format, b.format);
     let etag = is_same_value(&a.etag, &b.etag);
-    let max_age = is_same_age(a.max_age, b.max_age);
+    let max_age = is_same_age(max_age, b.max_age);
     let path = are_same_values(a.location.path.as_slice(), b.location.path.as_slice());
     let query = are_same_values(a.location.query.as_slice(), b.location.query.as_slice());
     let body = are_same_bytes(a.body.as_slice(), b.body.as_slice());
     a.code == b.code && format && etag && max_age && path && query && body
+}
+
+/// Whether these are the same responses.
+pub fn is_same_response(a: &Response, b: &Response) -> bool
+    ensures { IsTrue result ↔ (a.now ≡ b.now) }
+{
+    is_same_in(a, a.format, a.max_age, b)
 }
 
 /// The body that came in.

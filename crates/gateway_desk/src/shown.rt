@@ -1,15 +1,15 @@
 //! Whether a journal shows what asks came to.
 
-ghost use Rattle.std.specs.Prelude.{◌≡◌, ◌↔◌, ◌≤◌, length, map, IfOk, IsTrue, MatchOption, None, Some};
+ghost use Rattle.std.specs.Prelude.{◌≡◌, ◌↔◌, ◌≤◌, false, length, map, IfOk, IsTrue, MatchOption, None, Some};
 ghost use Rattle.limits.specs.declared.TheConstants.{MAX_BODY_LEN};
 ghost use Rattle.coap_codec.specs.Spelling.{Spells, content};
 ghost use Rattle.exchange_core.specs.Answering.{AreHeard, given_of};
 ghost use Rattle.gateway_desk.specs.Settled.{IsShown};
 ghost use Rattle.journal_book.specs.Entries.{done_of};
 ghost use Rattle.journal_book.specs.Views.{event_of};
-ghost use Rattle.gateway_desk.specs.Shown.{AreUnheard, bytes_heard, HearsAt, HearsNone, IsFirstAt, IsHeardAt, IsUnheard, RestsOn, SpellsNone};
+ghost use Rattle.gateway_desk.specs.Shown.{AreUnheard, CountsAt, bytes_heard, HearsAt, HearsNone, IsHeardAt, IsMadeAt, IsUnheard, RestsOn, SpellsNone};
 
-use crate::replies::are_response;
+use crate::replies::{are_response, ends_valid};
 use ask_model::Meaning;
 use coap_codec::{Bytes, CodecFault, Message, decode};
 use exchange_core::Answer;
@@ -95,11 +95,12 @@ fn messages_at<R: Relation>(
     Ok(Some(messages))
 }
 
-/// Whether the first of these entries was made at this moment.
-fn is_first_at<R: Relation>(journal: &Journal<R>, numbers: &[u32], moment: u64) -> bool
-    ensures { IsTrue result ↔ IsFirstAt journal.now.entries moment numbers.now }
+/// Whether the entry with this number, if there is one, was made at this moment.
+fn is_made_at<R: Relation>(journal: &Journal<R>, number: Option<&u32>, moment: u64) -> bool
+    ensures { MatchOption number.entry (result ≡ false)
+        (λ n. IsTrue result ↔ IsMadeAt journal.now.entries n.now moment) }
 {
-    let Some(number) = numbers.first() else {
+    let Some(number) = number else {
         return false;
     };
     match journal.get(*number as usize) {
@@ -108,8 +109,25 @@ fn is_first_at<R: Relation>(journal: &Journal<R>, numbers: &[u32], moment: u64) 
     }
 }
 
+/// Whether what these entries heard counts from this moment: that of the first, or of the last where
+/// that is a 2.03.
+fn counts_from<R: Relation>(
+    journal: &Journal<R>,
+    numbers: &[u32],
+    messages: &[Message],
+    moment: u64,
+) -> bool
+    requires { AreHeard journal.now.entries numbers.now (map content messages.now) }
+    ensures { IsTrue result ↔ CountsAt journal.now.entries moment numbers.now }
+{
+    if ends_valid(messages) {
+        return is_made_at(journal, numbers.last(), moment);
+    }
+    is_made_at(journal, numbers.first(), moment)
+}
+
 /// Whether these entries bear the response: they heard all replies to a request with this method and body,
-/// the first at this moment, and those are it.
+/// count from this moment, and those are it.
 fn rests_on<R: Relation>(
     alloc: Global,
     journal: &Journal<R>,
@@ -123,13 +141,13 @@ fn rests_on<R: Relation>(
     ensures { IfOk result (λ is. IsTrue is
         ↔ RestsOn journal.now.entries numbers.now moment method (length body.now) response.now) }
 {
-    if !is_first_at(journal, numbers, moment) {
+    let Some(messages) = messages_at(alloc, journal, numbers)? else {
+        return Ok(false);
+    };
+    if !counts_from(journal, numbers, &messages, moment) {
         return Ok(false);
     }
-    match messages_at(alloc, journal, numbers)? {
-        Some(messages) => are_response(alloc, method, body, messages, response),
-        None => Ok(false),
-    }
+    are_response(alloc, method, body, messages, response)
 }
 
 /// Whether the journal shows what the ask came to.

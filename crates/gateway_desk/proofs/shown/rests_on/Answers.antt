@@ -4,9 +4,9 @@ use Rattle.coap_codec.specs.Spelling.{content}
 use Rattle.gateway_desk.proofs.Outcomes.{rests-so}
 use Rattle.gateway_desk.proofs.shown.rests_on.Goals as goal
 
-pub returns-in-Some : goal.returns-in-Some
-returns-in-Some g c =
+pub returns : goal.returns
+returns g c =
     let a = c.args in
-    let first : IsTrue c.is_first_at.result = search rules in
+    let counts : IsTrue c.counts_from.result = search rules in
     rests-so c.are_response.result a.journal.now.entries a.numbers.now a.moment a.method (length a.body.now) a.response.now (map content c.in-Some.messages.items)
-    (c.is_first_at.ensures.0 first) (rw c.in-Some.is at c.in_ok-messages.ensures) c.are_response.ensures
+    (c.counts_from.ensures.0 counts) (rw c.in-Some.is at c.in_ok-messages.ensures) c.are_response.ensures
