@@ -9,7 +9,7 @@ use Rattle.coap_codec.proofs.Again.{message_again}
 use Rattle.coap_codec.proofs.Unique.{spells_one}
 use Rattle.uri_map.specs.declared.peer.Peer.{Peer}
 use Rattle.journal_book.specs.Entries.{Deed, Sends}
-use Rattle.history_laws.specs.Readings.{Noted, Note, First, Copies, Confirms, Plain, Begins, Joins, Serves, Says, Repeats, Garbled, Bygone, Recalls, noted, at, before}
+use Rattle.history_laws.specs.Readings.{Noted, Note, First, Copies, Confirms, Plain, Begins, Renews, Joins, Serves, Says, Repeats, Garbled, Bygone, Recalls, noted, at, before}
 use Rattle.history_laws.specs.Justified.{Follows, Legal}
 use Rattle.history_laws.specs.Laws.{IsFirst}
 use Rattle.history_laws.proofs.CallerLemmas.{all-of, at-before, at-same, follows-at, legal-before, none-some, some-is}
@@ -110,6 +110,7 @@ by-note l n t p b w Confirms m legal e reads asks may =
     absurd cc
 by-note l n t p b w Plain m legal e reads asks may = absurd may.1
 by-note l n t p b w (Begins q) m legal e reads asks may = absurd may.1
+by-note l n t p b w (Renews q kept) m legal e reads asks may = absurd may.1
 by-note l n t p b w (Joins q) m legal e reads asks may = absurd may.1
 by-note l n t p b w (Serves js) m legal e reads asks may = absurd may.1
 by-note l n t p b w (Says k to notice) m legal e reads asks may = absurd may.1

@@ -12,7 +12,7 @@ use Rattle.coap_codec.proofs.Unique.{spells_one}
 use Rattle.uri_map.specs.declared.peer.Peer.{Peer}
 use Rattle.ask_model.specs.Requests.{Sense, Requests, Refuses}
 use Rattle.journal_book.specs.Entries.{Mark, Ground, Past, Done, Asked, Sent, Heard, Deed, Opens, Asks, Sends, Hears, Passes, Answers, Shuts, Seals, Carries, Written}
-use Rattle.history_laws.specs.Readings.{Noted, Note, First, Copies, Confirms, Plain, Begins, Joins, Serves, Says, Repeats, Garbled, Bygone, Recalls, noted, at, entries}
+use Rattle.history_laws.specs.Readings.{Noted, Note, First, Copies, Confirms, Plain, Begins, Renews, Joins, Serves, Says, Repeats, Garbled, Bygone, Recalls, noted, at, entries}
 use Rattle.history_laws.specs.Transmissions.{FirstSending, firsts, bears_token, Transmission, begun_way, copied_way, due, given_up, transmission, transmission_by}
 use Rattle.history_laws.specs.Justified.{AskNote, CopiedNote, MayBeCopy, Follows, Legal}
 use Rattle.history_laws.specs.Laws.{IsFirst}
@@ -152,6 +152,7 @@ module _ (l : List Noted) (legal : Legal l) (s o i : ℕ) (p : Peer) (m : Conten
       other-way b c t q v (way_after b (entries l) None) (empty-apart c _ may.1.1.spelled refl) ∙ older y e
   step t (Sends q c v) Plain may y e = absurd may.1
   step t (Sends q c v) (Begins r) may y e = absurd may.1
+  step t (Sends q c v) (Renews r kept) may y e = absurd may.1
   step t (Sends q c v) (Joins r) may y e = absurd may.1
   step t (Sends q c v) (Serves js) may y e = absurd may.1
   step t (Sends q c v) (Says n to notice) may y e = absurd may.1
@@ -277,6 +278,7 @@ punctual (x ∷ older) legal h = (punctual older legal.0 before, by x.note refl)
     by Confirms is = tt
     by Plain is = tt
     by (Begins q) is = tt
+    by (Renews q kept) is = tt
     by (Joins q) is = tt
     by (Serves js) is = tt
     by (Says m to notice) is = tt

@@ -7,13 +7,13 @@ use Rattle.coap_codec.specs.declared.block.Block.{Block}
 use Rattle.coap_codec.proofs.Unique.{spells_one}
 use Rattle.uri_map.specs.declared.peer.Peer.{Peer}
 use Rattle.blockwise.specs.Uploads.{begun}
-use Rattle.ask_model.specs.Requests.{CoapRequest, asking}
+use Rattle.ask_model.specs.Requests.{CoapRequest, Manner, Plainly, Observing, Validating, asking}
 use Rattle.journal_book.specs.Entries.{Deed, Sends, Hears, Live, Answers, Written}
 use Rattle.history_laws.specs.Justified.{Follows, Legal, Stands}
 use Rattle.history_laws.specs.Laws.{IsFirst}
 use Rattle.history_laws.specs.Progress.{Fetched, Given, first_point}
 use Rattle.blockwise.specs.Downloads.{no_pieces}
-use Rattle.history_laws.specs.Readings.{Noted, Note, First, Copies, Confirms, Plain, Begins, Joins, Serves, Says, Repeats, Garbled, Bygone, Recalls, noted, at, before, entries}
+use Rattle.history_laws.specs.Readings.{Noted, Note, First, Copies, Confirms, Plain, Begins, Renews, Joins, Serves, Says, Repeats, Garbled, Bygone, Recalls, noted, at, before, entries}
 use Rattle.history_laws.specs.Responses.{Response, whole_given, whole_of}
 use Rattle.history_laws.proofs.CallerLemmas.{follows-at, none-some, some-is}
 use Rattle.history_claims.specs.Headline.{AreHeardFor, IsEntry, IsFirstSending, RestsOn}
@@ -42,6 +42,7 @@ first-by l i t p b w (Copies j) m e spelled may = absurd (none-some w (sym may.1
 first-by l i t p b w Confirms m e spelled may = absurd (none-some w (sym may.1.0))
 first-by l i t p b w Plain m e spelled may = absurd may.1
 first-by l i t p b w (Begins q) m e spelled may = absurd may.1
+first-by l i t p b w (Renews q kept) m e spelled may = absurd may.1
 first-by l i t p b w (Joins q) m e spelled may = absurd may.1
 first-by l i t p b w (Serves js) m e spelled may = absurd may.1
 first-by l i t p b w (Says k to notice) m e spelled may = absurd may.1
@@ -82,9 +83,10 @@ heard-write h k q js ms changes a =
     let other = not-get q.method changes in
     subst (λ (b : Bool). AreHeardFor h k q (cond b (Fetched no_pieces) (Given (begun (length q.body) 6))) js ms) other a
 
-pub code-of : (f : Bool) (q : CoapRequest) (b : Option Block) (mid : ℕ) (token : List ℕ) → (asking f q b mid token).code ≡ q.method
-code-of true q None mid token = refl
-code-of false q None mid token = refl
+pub code-of : (f : Manner) (q : CoapRequest) (b : Option Block) (mid : ℕ) (token : List ℕ) → (asking f q b mid token).code ≡ q.method
+code-of Plainly q None mid token = refl
+code-of Observing q None mid token = refl
+code-of (Validating tag) q None mid token = refl
 code-of f q (Some b) mid token = refl
 
 -- ---- a write that was answered by success

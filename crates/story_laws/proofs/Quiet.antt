@@ -10,17 +10,17 @@ use Rattle.blockwise.specs.Uploads.{next_block}
 use Rattle.uri_map.specs.Limits.{host_options, option_with, options_with}
 use Rattle.uri_map.specs.declared.target.Host.{Host}
 use Rattle.uri_map.specs.declared.target.Host.TheVariants as H
-use Rattle.ask_model.specs.Requests.{CoapRequest, block_message, block_option, block_value, optional, request_options, uint_bytes}
+use Rattle.ask_model.specs.Requests.{CoapRequest, asking, validating_options, block_message, block_option, block_value, optional, request_options, uint_bytes}
 use Rattle.ask_model.specs.Observing.{is_named, may_observe}
 use Rattle.ask_model.specs.Sharing.{is_get}
 use Rattle.ask_model.specs.Views.{Ask, Rules}
 use Rattle.journal_book.specs.Entries.{Deed, Asks, Written}
-use Rattle.history_laws.specs.Exchanges.{replies}
+use Rattle.history_laws.specs.Exchanges.{kept, replies}
 use Rattle.history_laws.specs.Justified.{Stands}
-use Rattle.history_laws.specs.Observing.{observes, unless_replied, wants_by, wants_in}
+use Rattle.history_laws.specs.Observing.{manner_by, observes, tag_of, unless_replied, wants_by, wants_in}
 use Rattle.history_laws.specs.Progress.{Reply, Progress, Fetches, Gives, Ends, block_after, next_message, progress}
 use Rattle.history_laws.specs.Readings.{Noted, Note, Begins, at, before, entries}
-use Rattle.history_laws.proofs.CallerLemmas.{asking-plain, at-before, at-entries, none-some, sent-for, some-is}
+use Rattle.history_laws.proofs.CallerLemmas.{at-before, at-entries, none-some, sent-for, some-is}
 use Rattle.history_claims.specs.Headline.{AreNotified, IsEntry, IsSentFor}
 use Rattle.story_laws.proofs.Posting.{first-sent}
 
@@ -74,14 +74,26 @@ quiet-message q None mid token = quiet-request q
 quiet-message q (Some b) mid token =
     quiet-both (request_options q) _ (quiet-request q) (quiet-block q.method (uint_bytes (block_value b)))
 
-next-quiet : (q : CoapRequest) (w : Progress) (mid : ℕ) (token : List ℕ) (m : Content) → next_message false q w mid token ≡ Some m
-    → Quiet m.options
-next-quiet q (Fetches restarts pieces got) mid token m e =
-    let b = block_after pieces in
-    ap (λ (m : Content). values 6 m.options) (sym (some-is _ _ e) ∙ asking-plain q b mid token) ∙ quiet-message q b mid token
-next-quiet q (Gives upload got) mid token m e =
+quiet-validating : (tag : List ℕ) (q : CoapRequest) → Quiet (validating_options tag q.target q.format q.accept)
+quiet-validating tag q =
+    quiet-both (host_options q.target.host) _ (quiet-host q.target.host)
+    (quiet-both (options_with 11 q.target.path) _ (quiet-with 11 refl q.target.path)
+    (quiet-both (optional 12 q.format) _ (quiet-optional 12 refl q.format)
+    (quiet-both (options_with 15 q.target.query) (optional 17 q.accept) (quiet-with 15 refl q.target.query) (quiet-optional 17 refl q.accept))))
+
+-- What doesn't ask to observe has no Observe, also where it asks whether something is valid still.
+quiet-asking : (tag : Option (List ℕ)) (q : CoapRequest) (b : Option Block) (mid : ℕ) (token : List ℕ) → Quiet (asking (manner_by tag false) q b mid token).options
+quiet-asking tag q (Some b) mid token = quiet-message q (Some b) mid token
+quiet-asking None q None mid token = quiet-request q
+quiet-asking (Some tag) q None mid token = quiet-validating tag q
+
+next-quiet : (tag : Option (List ℕ)) (q : CoapRequest) (w : Progress) (mid : ℕ) (token : List ℕ) (m : Content)
+    → next_message (manner_by tag false) q w mid token ≡ Some m → Quiet m.options
+next-quiet tag q (Fetches restarts pieces got) mid token m e =
+    ap (λ (m : Content). values 6 m.options) (sym (some-is _ _ e)) ∙ quiet-asking tag q (block_after pieces) mid token
+next-quiet tag q (Gives upload got) mid token m e =
     ap (λ (m : Content). values 6 m.options) (sym (some-is _ _ e)) ∙ quiet-message q (next_block upload) mid token
-next-quiet q (Ends how) mid token m e = absurd (none-some m e)
+next-quiet tag q (Ends how) mid token m e = absurd (none-some m e)
 
 -- ---- what may not be observed
 
@@ -135,8 +147,9 @@ module _ (h : List Written) (none : NoneObserved h) where
       let it = sent-for l x.moment first.0 i q.peer m s.legal first.1 in
       let asked = it.exchange.request in
       let w = progress asked (replies (before l i) first.0) in
-      next-quiet asked w m.mid m.token m
-      (subst (λ (f : Bool). next_message f asked w m.mid m.token ≡ Some m) (observes-not l i first.0 s.entries_are) it.next)
+      let tag = tag_of (kept (before l i) first.0) (replies (before l i) first.0) in
+      next-quiet tag asked w m.mid m.token m
+      (subst (λ (f : Bool). next_message (manner_by tag f) asked w m.mid m.token ≡ Some m) (observes-not l i first.0 s.entries_are) it.next)
 
   pub none-notified : (o : ℕ) (q : CoapRequest) (js : List ℕ) (ms : List Content) → AreNotified h o q js ms → ⊥
   none-notified o q [] ms x = x

@@ -8,7 +8,7 @@ use Rattle.coap_codec.specs.Spelling.{Content, Spells}
 use Rattle.coap_codec.proofs.Unique.{spells_one}
 use Rattle.uri_map.specs.declared.peer.Peer.{Peer}
 use Rattle.journal_book.specs.Entries.{Deed, Sends}
-use Rattle.history_laws.specs.Readings.{Noted, Note, First, Copies, Confirms, Plain, Begins, Joins, Serves, Says, Repeats, Garbled, Bygone, Recalls, noted, at, before, newest}
+use Rattle.history_laws.specs.Readings.{Noted, Note, First, Copies, Confirms, Plain, Begins, Renews, Joins, Serves, Says, Repeats, Garbled, Bygone, Recalls, noted, at, before, newest}
 use Rattle.history_laws.specs.Transmissions.{FirstSending, firsts, Transmission, begun_way, copied_way, due, transmission}
 use Rattle.history_laws.specs.Justified.{MayBeFirst, MayBeCopy, Follows, Legal}
 use Rattle.history_laws.specs.Laws.{IsFirst}
@@ -194,6 +194,7 @@ by-note l s o i n t p r m b w Confirms legal prompts f e spelled may =
     absurd (omega (arith, size, none))
 by-note l s o i n t p r m b w Plain legal prompts f e spelled may = absurd may.1
 by-note l s o i n t p r m b w (Begins q) legal prompts f e spelled may = absurd may.1
+by-note l s o i n t p r m b w (Renews q kept) legal prompts f e spelled may = absurd may.1
 by-note l s o i n t p r m b w (Joins q) legal prompts f e spelled may = absurd may.1
 by-note l s o i n t p r m b w (Serves js) legal prompts f e spelled may = absurd may.1
 by-note l s o i n t p r m b w (Says k to notice) legal prompts f e spelled may = absurd may.1
@@ -233,6 +234,7 @@ after-note l s o i n t p r m b w Confirms legal f e spelled may =
     absurd (omega (arith, size, none))
 after-note l s o i n t p r m b w Plain legal f e spelled may = absurd may.1
 after-note l s o i n t p r m b w (Begins q) legal f e spelled may = absurd may.1
+after-note l s o i n t p r m b w (Renews q kept) legal f e spelled may = absurd may.1
 after-note l s o i n t p r m b w (Joins q) legal f e spelled may = absurd may.1
 after-note l s o i n t p r m b w (Serves js) legal f e spelled may = absurd may.1
 after-note l s o i n t p r m b w (Says k to notice) legal f e spelled may = absurd may.1

@@ -18,7 +18,7 @@ use Rattle.blockwise.specs.Joins.{AreFollowing, AreWhole, DownloadsJoin}
 use Rattle.blockwise.specs.Representations.{representation_of, tag_by}
 use Rattle.blockwise.specs.declared.representation.EntityTag.{EntityTag}
 use Rattle.blockwise.specs.declared.representation.Representation.{Representation}
-use Rattle.ask_model.specs.Requests.{CoapRequest, asking, block_option, block_value, request_options, uint_bytes}
+use Rattle.ask_model.specs.Requests.{CoapRequest, Manner, Plainly, Observing, Validating, asking, block_option, block_value, request_options, uint_bytes}
 use Rattle.journal_book.specs.Entries.{Written}
 use Rattle.history_laws.specs.Justified.{Stands}
 use Rattle.history_laws.specs.Progress.{Point, block_for, first_point, point_after}
@@ -52,10 +52,11 @@ values-both n (x ∷ xs) ys = by (eqb x.number n) (values-both n xs ys)
     by true e = ap (λ (vs : List (List ℕ)). x.value ∷ vs) e
     by false e = e
 
-path-of : (f : Bool) (q : CoapRequest) (b : Option Block) (mid : ℕ) (token : List ℕ)
+path-of : (f : Manner) (q : CoapRequest) (b : Option Block) (mid : ℕ) (token : List ℕ)
     → values 11 (asking f q b mid token).options ≡ values 11 (request_options q)
-path-of true q None mid token = values-both 11 (host_options q.target.host) _ ∙ sym (values-both 11 (host_options q.target.host) _)
-path-of false q None mid token = refl
+path-of Plainly q None mid token = refl
+path-of Observing q None mid token = values-both 11 (host_options q.target.host) _ ∙ sym (values-both 11 (host_options q.target.host) _)
+path-of (Validating tag) q None mid token = values-both 11 (host_options q.target.host) _ ∙ sym (values-both 11 (host_options q.target.host) _)
 path-of f q (Some b) mid token =
     values-both 11 (request_options q) _
     ∙ (ap (λ (vs : List (List ℕ)). values 11 (request_options q) ++ vs) (by (eqb q.method 1)) ∙ append-nil (values 11 (request_options q)))

@@ -8,15 +8,17 @@ use Rattle.coap_codec.specs.Values.{values}
 use Rattle.coap_codec.specs.declared.block.Block.{Block}
 use Rattle.media_map.specs.declared.form.Form.{Form}
 use Rattle.uri_map.specs.declared.peer.Peer.{Peer}
-use Rattle.ask_model.specs.Requests.{CoapRequest}
+use Rattle.ask_model.specs.Requests.{CoapRequest, Plainly}
 use Rattle.ask_model.specs.Views.{Rules}
 use Rattle.journal_book.specs.Entries.{Live, Fault, Answers, Written}
 use Rattle.ask_model.specs.declared.cause.Cause.TheVariants as C
+use Rattle.resp_cache.specs.Stored.{Stored}
 use Rattle.history_laws.specs.Readings.{carries}
 use Rattle.history_laws.specs.Justified.{Stands}
 use Rattle.history_laws.specs.Progress.{Point, block_for, first_point}
 use Rattle.history_laws.proofs.CallerLemmas.{none-some, some-is}
-use Rattle.history_claims.specs.Headline.{AreHeardFor, IsEntry, IsHeardFor, IsSentFor, IsServed, IsWriteAnswer, RestsOn}
+use Rattle.history_claims.specs.Headline.{AreHeardFor, IsEntry, IsHeardFor, IsJoined, IsSentFor, IsWriteAnswer, RestsOn}
+use Rattle.history_claims.specs.Stored.{RestsOnRenewed, WasStored, WasWhole}
 use Rattle.demo_origin.specs.Calls.{Call}
 use Rattle.demo_origin.specs.Done.{left_with, told_by, told_in}
 use Rattle.demo_origin.specs.Once.{Event, heard}
@@ -31,7 +33,7 @@ use Rattle.story_laws.specs.Reads.{ShowsHeld as ShowsSo}
 use Rattle.story_laws.proofs.Quiet.{NoneObserved, none-notified, sent-quietly}
 use Rattle.gateway_model.specs.Emissions.{Emission}
 use Rattle.three_parties.specs.Flights.{Going, device_at, proxy_at}
-use Rattle.three_parties.specs.Reads.{AreDone, GetsShow, GetsShowInTime, IsHeldAt, KeptShow, NoneCarried, ObservesNothing, ShowsHeld}
+use Rattle.three_parties.specs.Reads.{AreDone, GetsShow, GetsShowInTime, IsHeldAt, KeptShow, NoneCarried, ObservesNothing, RenewedShow, ShowsHeld}
 use Rattle.three_parties.specs.Scenes.{Scene}
 use Rattle.three_parties.specs.Stories.{IsStory}
 use Rattle.three_parties.specs.declared.story.Execution.{Execution}
@@ -288,47 +290,82 @@ live-back R block resources s known stands punctual n c k js r m t d w is answer
           omega (arith, before)
     ]
 
--- So was what a kept one rests on.
-pub kept-back : (R : Relation) (block : ℕ) (resources : List Held) (s : Scene) (known : Known R (fresh block resources) s)
-    (stands : Stands s.world.core.state.entries) (punctual : ArePunctual stands.reading) (t c k : ℕ) (js : List ℕ)
-    → (r : IsServed s.world.core.state.entries t c k js) → GoBack R block resources s known stands punctual k r.opening r.request
-kept-back R block resources s known stands punctual t c k js r n u d w is answered y changes peer path lt =
-    let before = r.current n (write-answer s.world.core.state.entries r.request n u d w is answered y changes peer path) lt in
+-- So was what was stored before such a one was asked for,
+pub stored-back : (R : Relation) (block : ℕ) (resources : List Held) (s : Scene) (known : Known R (fresh block resources) s)
+    (stands : Stands s.world.core.state.entries) (punctual : ArePunctual stands.reading) (k : ℕ) (q : CoapRequest) (v : Stored)
+    → (w : WasStored s.world.core.state.entries k q v) → GoBack R block resources s known stands punctual k w.first.opening q
+stored-back R block resources s known stands punctual k q v w n u d i is answered y changes peer path lt =
+    let before = w.current n (write-answer s.world.core.state.entries q n u d i is answered y changes peer path) lt in
     omega (arith, before)
 
--- It was heard as a reply, where nothing is notified.
-pub heard-kept : (h : List Written) → NoneObserved h → (t c k : ℕ) (js : List ℕ) → (r : IsServed h t c k js)
-    → AreHeardFor h r.opening r.other (first_point r.other) js r.messages
-heard-kept h none t c k js r =
-    elim r.heard [ inl x ↦ x | inr x ↦ absurd (none-notified h none r.opening r.other js r.messages x) ]
+-- and what was stored before that was asked for which an answer shares.
+pub renewed-back : (R : Relation) (block : ℕ) (resources : List Held) (s : Scene) (known : Known R (fresh block resources) s)
+    (stands : Stands s.world.core.state.entries) (punctual : ArePunctual stands.reading) (n c k : ℕ) (js : List ℕ)
+    → (r : RestsOnRenewed s.world.core.state.entries n c k js)
+    → GoBack R block resources s known stands punctual k r.was.first.opening r.request
+renewed-back R block resources s known stands punctual n c k js r m t d w is answered y changes peer path lt =
+    let write = write-answer s.world.core.state.entries r.request m t d w is answered y changes peer path in
+    let before = r.was.current m write (early (r.shared.shares) write) in
+    omega (arith, before)
+  where
+    early : ((r.opening ≡ k) × (r.since ≡ r.shared.moment))
+        ⊎ ((j : IsJoined s.world.core.state.entries k r.request r.opening) × (r.since ≡ j.pending.moment))
+        → IsWriteAnswer s.world.core.state.entries r.request m → m < r.opening
+    early (inl own) write = let same = own.0 in omega (arith, same, lt)
+    early (inr joined) write = joined.0.fresh m write lt
+
+-- It was heard as a reply, where nothing is notified or carried.
+pub heard-kept : (h : List Written) → NoneObserved h → NoneCarried h → (q : CoapRequest) (first : Stored) → (w : WasWhole h q first)
+    → AreHeardFor h first.opening w.other (first_point w.other) first.list w.messages
+heard-kept h none own q first w =
+    elim w.heard [
+      | inl here ↦ elim here.heard [ inl x ↦ x | inr x ↦ absurd (none-notified h none first.opening w.other first.list w.messages x) ]
+      | inr x ↦ absurd (own first.opening w.other first.list w.messages first.heard x)
+    ]
 
 -- What it was heard for is a GET too.
-pub other-gets : (h : List Written) (t c k : ℕ) (js : List ℕ) → (r : IsServed h t c k js) → r.other.method ≡ 1
-other-gets h t c k js r = sym (ap (λ (m : Content). m.code) (r.same.2 false 0 [])) ∙ r.same.0
+pub other-gets : (h : List Written) (q : CoapRequest) (first : Stored) → (w : WasWhole h q first) → w.other.method ≡ 1
+other-gets h q first w = sym (ap (λ (m : Content). m.code) (w.same.2 Plainly 0 [])) ∙ w.same.0
+
+-- The journal has no copies.
+pub none-carried : (R : Relation) (block : ℕ) (resources : List Held) (s : Scene) → Known R (fresh block resources) s
+    → NoneCarried s.world.core.state.entries
+none-carried R block resources s known o q js ms since x =
+    false≢true (sym (all-at (λ (w : Written). carries w.deed ≡ false) s.world.core.state.entries known.own o _ x.asked.stands))
 
 module _ (R : Relation) (law : Law R) (block : ℕ) (resources : List Held) (s : Scene) (known : Known R (fresh block resources) s)
     (stands : Stands s.world.core.state.entries) (punctual : ArePunctual stands.reading) (none : NoneObserved s.world.core.state.entries) where
-  gets-show : GetsShow resources s.world.core.state.entries s.flights s.taken
+  abbrev es : List Written
+  es = s.world.core.state.entries
+
+  gets-show : GetsShow resources es s.flights s.taken
   gets-show n t c k js m answered r one get to content whole =
-      let h = s.world.core.state.entries in
-      let x = one-heard h r.opening r.request (first_point r.request) js r.messages m one r.heard in
+      let x = one-heard es r.opening r.request (first_point r.request) js r.messages m one r.heard in
       shows R block resources s known stands punctual law none k r.opening r.request r.request (block_for (first_point r.request)) x.0 m x.1 get to to content whole
       (live-back R block resources s known stands punctual n c k js r)
 
-  kept-show : KeptShow resources s.world.core.state.entries s.flights s.taken
+  -- what was heard first of what is stored
+  first-shows : (k : ℕ) (q : CoapRequest) (first : Stored) (w : WasWhole es q first) (m : Content) → w.messages ≡ m ∷ [] → q.peer ≡ device_at
+      → m.code ≡ 69 → values 23 m.options ≡ [] → GoBack R block resources s known stands punctual k first.opening q
+      → ShowsHeld es k first.opening q w.other resources s.flights s.taken m.payload
+  first-shows k q first w m one to content whole back =
+      let heard = heard-kept es none (none-carried R block resources s known) q first w in
+      let x = one-heard es first.opening w.other (first_point w.other) first.list w.messages m one heard in
+      shows R block resources s known stands punctual law none k first.opening q w.other (block_for (first_point w.other)) x.0 m x.1
+      (other-gets es q first w) (sym w.same.1 ∙ to) to content whole back
+
+  renewed-show : RenewedShow resources es s.flights s.taken
+  renewed-show n t c k js m answered r one to content whole =
+      first-shows k r.request r.was.first r.was.whole m one to content whole (renewed-back R block resources s known stands punctual n c k js r)
+
+  kept-show : KeptShow resources es s.flights s.taken
   kept-show n t c k js m answered r one to content whole =
-      let h = s.world.core.state.entries in
-      let x = one-heard h r.opening r.other (first_point r.other) js r.messages m one (heard-kept h none t c k js r) in
-      shows R block resources s known stands punctual law none k r.opening r.request r.other (block_for (first_point r.other)) x.0 m x.1
-      (other-gets h t c k js r) (sym r.same.1 ∙ to) to content whole (kept-back R block resources s known stands punctual t c k js r)
+      first-shows k r.request r.is.first r.is.whole m one to content whole
+      (stored-back R block resources s known stands punctual k r.request r.stored r.is)
 
-  -- The journal has no copies.
-  none-carried : NoneCarried s.world.core.state.entries
-  none-carried t c k js r = false≢true (sym (all-at (λ (w : Written). carries w.deed ≡ false) s.world.core.state.entries known.own r.opening _ r.copied_asked.stands))
-
-  pub all-show : GetsShow resources s.world.core.state.entries s.flights s.taken × KeptShow resources s.world.core.state.entries s.flights s.taken
-      × NoneCarried s.world.core.state.entries
-  all-show = (gets-show, kept-show, none-carried)
+  pub all-show : GetsShow resources es s.flights s.taken × RenewedShow resources es s.flights s.taken × KeptShow resources es s.flights s.taken
+      × NoneCarried es
+  all-show = (gets-show, renewed-show, kept-show, none-carried R block resources s known)
 
 -- a story of a device that is a new one
 pub reads-of : (R : Relation) → Law R → (holds : Form → Form → List ℕ → List ℕ → Type 0) (takes : Form → Form → List ℕ → Type 0)
@@ -337,15 +374,16 @@ pub reads-of : (R : Relation) → Law R → (holds : Form → Form → List ℕ 
     → (block : ℕ) (resources : List Held) → first ≡ fresh block resources → ObservesNothing rules
     → GetsShowInTime turns resources h flights taken
 reads-of R law holds takes rules first turns out flights h last taken story stands block resources e nothing keeps looks =
-    subst (λ (w : List Written). Stands w → GetsShow resources w flights taken × KeptShow resources w flights taken × NoneCarried w)
+    subst (λ (w : List Written). Stands w → GetsShow resources w flights taken × RenewedShow resources w flights taken
+    × KeptShow resources w flights taken × NoneCarried w)
     (sym new.journal) shown stands
   where
     new : IsStory holds takes R rules (fresh block resources) turns out flights h last taken
     new = subst (λ (d : Device). IsStory holds takes R rules d turns out flights h last taken) e story
 
     shown : Stands new.world.core.state.entries
-        → GetsShow resources new.world.core.state.entries flights taken × KeptShow resources new.world.core.state.entries flights taken
-        × NoneCarried new.world.core.state.entries
+        → GetsShow resources new.world.core.state.entries flights taken × RenewedShow resources new.world.core.state.entries flights taken
+        × KeptShow resources new.world.core.state.entries flights taken × NoneCarried new.world.core.state.entries
     shown stands =
         all-show R law block resources (at_end holds takes R rules block resources turns out flights h last taken new keeps)
         (known-then holds takes R rules block resources turns out flights h last taken new keeps) stands

@@ -7,8 +7,8 @@ use Rattle.coap_codec.specs.declared.block.Block.{Block}
 use Rattle.ask_model.specs.Requests.{CoapRequest}
 use Rattle.ask_model.specs.Views.{Rules}
 use Rattle.journal_book.specs.Entries.{Live, Kept, Answers, Written}
-use Rattle.history_claims.specs.Headline.{IsEntry, IsSentFor, IsServed, RestsOn}
-use Rattle.history_claims.specs.Carried.{IsServedCarried}
+use Rattle.history_claims.specs.Headline.{IsEntry, IsSentFor, RestsOn}
+use Rattle.history_claims.specs.Stored.{IsServed, RestsOnRenewed, WasCarried}
 use Rattle.demo_origin.specs.Done.{left_with}
 use Rattle.demo_origin.specs.Requests.{IsAt}
 use Rattle.demo_origin.specs.declared.state.Held.{Held}
@@ -61,17 +61,29 @@ GetsShow resources h flights taken =
     → r.request.method ≡ 1 → r.request.peer ≡ device_at → m.code ≡ 69 → values 23 m.options ≡ []
     → ShowsHeld h k r.opening r.request r.request resources flights taken m.payload
 
+-- one of what was stored, which a 2.03 renewed for it: it was heard so first,
+abbrev pub RenewedShow : List Held → List Written → List Going → List Execution → Type 0
+RenewedShow resources h flights taken =
+    (n t c k : ℕ) (js : List ℕ) (m : Content) → IsEntry h n t (Answers c k (Live js))
+    → (r : RestsOnRenewed h n c k js) → r.was.whole.messages ≡ m ∷ []
+    → r.request.peer ≡ device_at → m.code ≡ 69 → values 23 m.options ≡ []
+    → ShowsHeld h k r.was.first.opening r.request r.was.whole.other resources flights taken
+    m.payload
+
 -- and one of a response that was stored.
 abbrev pub KeptShow : List Held → List Written → List Going → List Execution → Type 0
 KeptShow resources h flights taken =
     (n t c k : ℕ) (js : List ℕ) (m : Content) → IsEntry h n t (Answers c k (Kept js))
-    → (s : IsServed h t c k js) → s.messages ≡ m ∷ []
+    → (s : IsServed h t c k js) → s.is.whole.messages ≡ m ∷ []
     → s.request.peer ≡ device_at → m.code ≡ 69 → values 23 m.options ≡ []
-    → ShowsHeld h k s.opening s.request s.other resources flights taken m.payload
+    → ShowsHeld h k s.is.first.opening s.request s.is.whole.other resources flights taken
+    m.payload
 
--- No other answer is kept: none rests on what a journal begins with.
+-- None rests on what a journal begins with.
 abbrev pub NoneCarried : List Written → Type 0
-NoneCarried h = (t c k : ℕ) (js : List ℕ) → IsServedCarried h t c k js → ⊥
+NoneCarried h =
+    (o : ℕ) (q : CoapRequest) (js : List ℕ) (ms : List Content) (since : ℕ)
+    → WasCarried h o q js ms since → ⊥
 
 -- The rules name no host whose resources may be observed (RFC 7641 section 1.2).
 abbrev pub ObservesNothing : Rules → Type 0
@@ -82,7 +94,8 @@ abbrev pub GetsShowInTime
     : List Turn → List Held → List Written → List Going → List Execution → Type 0
 GetsShowInTime turns resources h flights taken =
     AllByRecursion KeepsJournal turns → LooksInTime turns
-    → GetsShow resources h flights taken × KeptShow resources h flights taken × NoneCarried h
+    → GetsShow resources h flights taken × RenewedShow resources h flights taken
+    × KeptShow resources h flights taken × NoneCarried h
 
 -- ---- a state in one piece or in several (RFC 7959)
 
@@ -94,16 +107,26 @@ GetsShowWhole resources h flights taken =
     → r.request.method ≡ 1 → r.request.peer ≡ device_at → r.response.code ≡ 69
     → ShowsHeld h k r.opening r.request r.request resources flights taken r.response.body
 
+-- one of what was stored, which a 2.03 renewed for it,
+abbrev pub RenewedShowWhole : List Held → List Written → List Going → List Execution → Type 0
+RenewedShowWhole resources h flights taken =
+    (n t c k : ℕ) (js : List ℕ) → IsEntry h n t (Answers c k (Live js))
+    → (r : RestsOnRenewed h n c k js) → r.request.peer ≡ device_at
+    → ShowsHeld h k r.was.first.opening r.request r.was.whole.other resources flights taken
+    r.stored.response.body
+
 -- and one of a response that was stored.
 abbrev pub KeptShowWhole : List Held → List Written → List Going → List Execution → Type 0
 KeptShowWhole resources h flights taken =
     (n t c k : ℕ) (js : List ℕ) → IsEntry h n t (Answers c k (Kept js)) → (s : IsServed h t c k js)
     → s.request.peer ≡ device_at
-    → ShowsHeld h k s.opening s.request s.other resources flights taken s.response.body
+    → ShowsHeld h k s.is.first.opening s.request s.is.whole.other resources flights taken
+    s.stored.response.body
 
 -- So it is where one journal has all entries, and the proxy looks at its timers each second.
 abbrev pub WholesShowInTime
     : List Turn → List Held → List Written → List Going → List Execution → Type 0
 WholesShowInTime turns resources h flights taken =
     AllByRecursion KeepsJournal turns → LooksInTime turns
-    → GetsShowWhole resources h flights taken × KeptShowWhole resources h flights taken
+    → GetsShowWhole resources h flights taken × RenewedShowWhole resources h flights taken
+    × KeptShowWhole resources h flights taken
