@@ -56,6 +56,7 @@ PHRASES |= {503: "Service Unavailable", 504: "Gateway Timeout"}
 WAYS = ["live", "kept", "bad-http", "no-map", "method", "media", "not-understood", "reset", "timeout", "joined", "apart", "outrun"]
 WAYS += ["waits", "never sent", "sent again", "all copies", "repeat", "stale", "written", "pushed out", "changed", "fourth change"]
 WAYS += ["download", "download kept", "upload", "smaller blocks"]
+WAYS += ["asked by its tag", "renewed", "renewed kept", "renewed again", "not confirmed", "renewed and outrun"]
 WAYS += ["watched", "watched anew", "no more watches", "update", "update kept", "update not fetched", "older", "out of date"]
 WAYS += ["told no state", "told and rejected", "watch outrun", "idle"] + ["update fetched", "fetched and joined"] * FETCHES
 
@@ -484,9 +485,10 @@ class Link:
 
 
 # How an exchange ends: a cause with the number of the entry that shows it, or None for the latest first sending, or a response, with
-# the numbers of its replies, and of what they came to: the ask that opened the exchange, and messages. A notification came to none.
+# the numbers of its replies, and of what they came to: the ask that opened the exchange, and messages. A notification came to none,
+# and what a 2.03 has renewed isn't copied. The last of its numbers is that of the 2.03 then.
 Fault = collections.namedtuple("Fault", "kind status number")
-Response = collections.namedtuple("Response", "code form tag age location query payload numbers since asked")
+Response = collections.namedtuple("Response", "code form tag age location query payload numbers since asked is_renewed", defaults=[False])
 
 
 class Exchange:
@@ -495,6 +497,8 @@ class Exchange:
         self.readers, self.sending, self.awaits, self.is_over = [], None, False, False
         # whether equal GETs still join it, and what it comes to is stored; whether it asks to be told of changes
         self.current, self.observes = True, False
+        # the stored response of which its first message asks whether it is valid still, until a reply comes
+        self.kept = None
         # of a GET: its pieces, each the number of its entry, what it says and the message, since when, and how often it began anew
         self.pieces, self.begun, self.changes = [], 0, 0
         # of a write: how much of the body was answered, in which size it goes, and the answers
@@ -502,6 +506,11 @@ class Exchange:
 
     def is_new(self):
         return self.sending is None
+
+    def is_confirmed(self, reply):
+        """Whether a reply says that what it asks about is valid still (RFC 7252, section 5.9.1.3)."""
+        is_taken = not reply.rejected and not reply.unsafe
+        return self.kept is not None and is_taken and reply.code == VALID and reply.tag() == self.kept.tag
 
     # Each of the next two says how it goes on: the Block option of the next message, None for none; or it is a Fault or a Response.
 
@@ -535,7 +544,7 @@ class Exchange:
     def whole(self, numbers, last, first):
         text = b"".join(it.payload for _, it, _ in self.pieces) if self.meaning.code == GET else last.payload
         location, query = last.values[LOCATION_PATH], last.values[LOCATION_QUERY]
-        age, asked = first.number(MAX_AGE), [] if self.is_new() else [self.opening, *(it.number for _, _, it in self.pieces)]
+        age, asked = first.number(MAX_AGE), [] if self.sending is None else [self.opening, *(it.number for _, _, it in self.pieces)]
         return Response(last.code, last.number(FORMAT), last.tag(), age, location, query, text, numbers, self.begun, asked)
 
     def piece(self):
@@ -704,7 +713,7 @@ class Gateway:
         self.put_out(f"rotated {len(copies)}")
 
     def goes_on(self, pair):
-        """Whether a stored response goes on: it is fresh, wasn't told by a notification, and no open write may have changed it."""
+        """Whether a stored response goes on: it is fresh, is as replies told it, and no open write may have changed it."""
         written = [place_of(it.meaning) for it in self.exchanges if it.meaning.code != GET]
         return self.is_fresh(pair) and pair.response.asked and pair.place not in written
 
@@ -794,6 +803,8 @@ class Gateway:
         self.pending[ask.conn] = ask
         self.exchanges.append(exchange)
         exchange.observes = meaning.code == GET and self.is_to_be_watched(meaning)
+        exchange.kept = None if meaning.code != GET or exchange.observes else self.stale(key_of(meaning))
+        self.ways |= {"asked by its tag"} if exchange.kept else set()
         self.submit(exchange, exchange.piece()[1])
         return None
 
@@ -828,6 +839,7 @@ class Gateway:
         it = exchange.meaning
         options = uri_options(it.host, it.path, it.query)
         options += [(OBSERVE, b"")] if exchange.observes and exchange.is_new() else []
+        options += [(ETAG, exchange.kept.tag)] if exchange.kept else []
         options += [(FORMAT, uint(it.format))] if it.format is not None else []
         options += [(ACCEPT, uint(it.accept))] if it.accept is not None else []
         options += [(BLOCK2 if it.code == GET else BLOCK1, block_value(block))] if block else []
@@ -966,7 +978,12 @@ class Gateway:
             link.outstanding = None
         take = exchange.fetched if exchange.meaning.code == GET else exchange.given_on
         before, changes = exchange.szx, exchange.changes
-        next_ = Fault("not-understood", 502, number) if reply.rejected else take(number, reply, self.moment)
+        if exchange.is_confirmed(reply):
+            next_ = self.renewed(exchange.kept, number, reply)
+        else:
+            self.ways |= {"not confirmed"} if exchange.kept else set()
+            next_ = Fault("not-understood", 502, number) if reply.rejected else take(number, reply, self.moment)
+        exchange.kept = None
         if tells_state(reply) and not isinstance(next_, Fault) and self.may_watch(exchange):
             self.ways.add("watched")
             watch = Watch(exchange.meaning, exchange.sending.token, reply.number(OBSERVE), self.moment)
@@ -982,6 +999,14 @@ class Gateway:
             self.end(exchange, Fault("busy", 503, None))
         else:
             self.submit(exchange, next_)
+
+    def renewed(self, kept, number, reply):
+        """The response as a 2.03 renews it. What it says of itself counts, and a 2.03 before it no more."""
+        pieces = kept.numbers[:-1] if kept.is_renewed else kept.numbers
+        self.ways |= {"renewed again"} if kept.is_renewed else set()
+        form = kept.form if reply.number(FORMAT) is None else reply.number(FORMAT)
+        numbers, age = [*pieces, number], reply.number(MAX_AGE)
+        return kept._replace(form=form, age=age, numbers=numbers, since=self.moment, asked=[], is_renewed=True)
 
     def may_watch(self, exchange):
         """Whether a reply that tells a state makes a watch (RFC 7641, section 4.1), where the message has asked for that."""
@@ -1032,7 +1057,7 @@ class Gateway:
         if exchange.meaning.code != GET:
             self.written(place_of(exchange.meaning))
         elif not exchange.current:
-            self.ways.add("outrun")
+            self.ways.add("renewed and outrun" if isinstance(outcome, Response) and outcome.is_renewed else "outrun")
         elif isinstance(outcome, Response) and outcome.code == CONTENT:
             self.keep_newest(exchange.meaning, outcome)
 
@@ -1081,6 +1106,11 @@ class Gateway:
         self.store = [pair, *(it for it in self.store if it is not pair)]
         return pair
 
+    def stale(self, key):
+        """What is stored under the key with a tag, and isn't fresh any more."""
+        found = (it.response for it in self.store if it.key == key and it.response.tag and not self.is_fresh(it))
+        return next(found, None)
+
     def is_fresh(self, pair):
         return self.moment < pair.response.since + pair.lifetime
 
@@ -1088,7 +1118,9 @@ class Gateway:
 
     def answer(self, ask, outcome, grounds="live"):
         self.ways.add(outcome.kind if isinstance(outcome, Fault) else grounds)
-        if isinstance(outcome, Response) and len(outcome.numbers) > 1:
+        if isinstance(outcome, Response) and outcome.is_renewed:
+            self.ways.add("renewed" if grounds == "live" else "renewed kept")
+        elif isinstance(outcome, Response) and len(outcome.numbers) > 1:
             is_upload = ask.request.method in ("PUT", "POST")
             self.ways.add("upload" if is_upload else "download" if grounds == "live" else "download kept")
         self.told.append((ask, outcome, grounds))
