@@ -1,10 +1,11 @@
 -- Rows that are changed in their places, one after another, by the marks of one digest.
-use Rattle.std.proofs.Common.{◌≡◌, ℕ, zero, suc, ◌+◌, ◌<◌, ◌≤◌, Bool, true, false, not, cond, ◌&&◌, ◌||◌, eqb, List, [], ◌∷◌, ◌++◌, length, map, take, get_or, Option, Some, None, refl, sym, ap, subst, ◌∙◌, arith}
+use Rattle.std.proofs.Common.{◌≡◌, ℕ, zero, suc, ◌+◌, ◌%◌, ◌<◌, ◌≤◌, inl, inr, Bool, true, false, not, cond, ◌&&◌, ◌||◌, eqb, List, [], ◌∷◌, ◌++◌, length, map, take, get_or, Option, Some, None, refl, sym, ap, subst, ◌∙◌, arith}
 use Rattle.std.specs.Prelude.{filter}
 use Rattle.std.proofs.Math.ListN.{set}
 use Rattle.std.specs.List.{AllByRecursion, list_any}
 use Rattle.std.specs.Option.{option_map_or}
 use Rattle.std.proofs.lemmas.Bool.{false≢true}
+use Rattle.std.proofs.lemmas.Bool.Decides.{eqb_tells}
 use Rattle.history_laws.proofs.CallerLemmas.{all-more}
 use Rattle.cache_key.specs.declared.digest.Digests.{Digests}
 use Rattle.cache_key.specs.declared.place.Place.{Place}
@@ -17,7 +18,7 @@ use Rattle.journal_book.specs.Entries.{Written}
 use Rattle.exchange_model.specs.declared.kept.Exchange.{Exchange}
 use Rattle.exchange_model.specs.Steps.{IsDigested, asked_in, outdated_by, reads_key, request_in}
 use Rattle.exchange_table.specs.declared.marks.Mark.{Mark}
-use Rattle.exchange_table.specs.Marks.{AreMarked, has_digest, mark_by}
+use Rattle.exchange_table.specs.Marks.{AreMarked, has_digest, key_in, mark_by, place_in}
 use Rattle.exchange_table.specs.Outrunning.{only_at, outdates, outrun_with}
 use Rattle.exchange_table.specs.Places.{IsNowhere, IsOnlyAt, RiseBy}
 use Rattle.exchange_table.specs.Tables.{is_opened_at, opening_of}
@@ -150,6 +151,13 @@ and-false false = refl
 apart : (a b : ℕ) → eqb a b ≡ false → a ≡ b → ⊥
 apart a b is e = false≢true (sym is ∙ same-as a b e)
 
+-- Where their halves differ, so do two digests.
+halves-apart : (a b : ℕ) → eqb (a % 4294967296) (b % 4294967296) ≡ false → eqb a b ≡ false
+halves-apart a b is = elim (eqb_tells a b) [
+  | inl w ↦ absurd (apart (a % 4294967296) (b % 4294967296) is (ap (λ (k : ℕ). k % 4294967296) w.1))
+  | inr w ↦ w.0
+]
+
 -- what a write outruns
 
 pub outrun-settles : (w : Option CoapRequest) (ws : List Written) → Settles (outrun_with w ws)
@@ -168,23 +176,24 @@ outrun-settles w ws = record {
     opening e false = refl
 
 pub outrun-others : (ws : List Written) (sense : Sense) (k : CacheKey) (es : List Exchange) → Some k.place ≡ place_written sense → AllByRecursion (IsDigested ws) es
-    → AllByRecursion (λ (e : Exchange). eqb e.digests.place (digests_of k).place ≡ false → outrun_with (request_in sense) ws e ≡ e) es
+    → AllByRecursion (λ (e : Exchange). eqb (place_in e.digests) (place_in (digests_of k)) ≡ false → outrun_with (request_in sense) ws e ≡ e) es
 outrun-others ws sense k es at digested =
-    all-more (IsDigested ws) (λ (e : Exchange). eqb e.digests.place (digests_of k).place ≡ false → outrun_with (request_in sense) ws e ≡ e)
+    all-more (IsDigested ws) (λ (e : Exchange). eqb (place_in e.digests) (place_in (digests_of k)) ≡ false → outrun_with (request_in sense) ws e ≡ e)
     (λ e h is. ap (λ (b : Bool). cond b (record e { current = false }) e) (no sense at e h is (asked_in ws e.opening) refl)) es digested
   where
     written : (r : CoapRequest) (b : Bool) → Some k.place ≡ cond b None (Some (asked_place r)) → k.place ≡ asked_place r
     written r true e = absurd (none-some k.place (sym e))
     written r false e = some-is k.place (asked_place r) e
 
-    no : (s : Sense) → Some k.place ≡ place_written s → (e : Exchange) → IsDigested ws e → eqb e.digests.place (digests_of k).place ≡ false
+    no : (s : Sense) → Some k.place ≡ place_written s → (e : Exchange) → IsDigested ws e → eqb (place_in e.digests) (place_in (digests_of k)) ≡ false
         → (v : Option CoapRequest) → asked_in ws e.opening ≡ v → outdates (request_in s) v ≡ false
     no (Refuses cause status) so e h is None asks = refl
     no (Refuses cause status) so e h is (Some q) asks = refl
     no (Requests r) so e h is None asks = refl
     no (Requests r) so e h is (Some q) asks =
+        let whole : eqb e.digests.place (digests_of k).place ≡ false = halves-apart e.digests.place (digests_of k).place is in
         let other : same_place (asked_place q) k.place ≡ false =
-        sym (places_told_by (asked_key q) k e.digests (digests_of k) (sym (h q asks)) refl (apart e.digests.place (digests_of k).place is)) ∙ is in
+        sym (places_told_by (asked_key q) k e.digests (digests_of k) (sym (h q asks)) refl (apart e.digests.place (digests_of k).place whole)) ∙ whole in
         let none : same_place (asked_place q) (asked_place r) ≡ false = subst (λ (p : Place). same_place (asked_place q) p ≡ false) (written r (eqb r.method 1) so) other in
         ap (λ (b : Bool). (not (eqb r.method 1)) && b) none ∙ and-false (not (eqb r.method 1))
 
@@ -206,15 +215,16 @@ outdated-settles ws key = record {
     opening e false = refl
 
 pub outdated-others : (ws : List Written) (key : CacheKey) (es : List Exchange) → AllByRecursion (IsDigested ws) es
-    → AllByRecursion (λ (e : Exchange). eqb e.digests.key (digests_of key).key ≡ false → outdated_by ws key e ≡ e) es
+    → AllByRecursion (λ (e : Exchange). eqb (key_in e.digests) (key_in (digests_of key)) ≡ false → outdated_by ws key e ≡ e) es
 outdated-others ws key es digested =
-    all-more (IsDigested ws) (λ (e : Exchange). eqb e.digests.key (digests_of key).key ≡ false → outdated_by ws key e ≡ e)
+    all-more (IsDigested ws) (λ (e : Exchange). eqb (key_in e.digests) (key_in (digests_of key)) ≡ false → outdated_by ws key e ≡ e)
     (λ e h is. ap (λ (b : Bool). cond b (record e { newest = false }) e) (no e h is (asked_in ws e.opening) refl)) es digested
   where
-    no : (e : Exchange) → IsDigested ws e → eqb e.digests.key (digests_of key).key ≡ false
+    no : (e : Exchange) → IsDigested ws e → eqb (key_in e.digests) (key_in (digests_of key)) ≡ false
         → (v : Option CoapRequest) → asked_in ws e.opening ≡ v → option_map_or (reads_key key) v false ≡ false
     no e h is None asks = refl
     no e h is (Some q) asks =
+        let whole : eqb e.digests.key (digests_of key).key ≡ false = halves-apart e.digests.key (digests_of key).key is in
         let other : same_key (asked_key q) key ≡ false =
-        sym (keys_told_by (asked_key q) key e.digests (digests_of key) (sym (h q asks)) refl (apart e.digests.key (digests_of key).key is)) ∙ is in
+        sym (keys_told_by (asked_key q) key e.digests (digests_of key) (sym (h q asks)) refl (apart e.digests.key (digests_of key).key whole)) ∙ whole in
         ap (λ (b : Bool). is_get q && b) other ∙ and-false (is_get q)

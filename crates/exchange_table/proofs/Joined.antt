@@ -5,7 +5,6 @@ use Rattle.std.specs.List.{AllByRecursion, find}
 use Rattle.std.specs.Option.{option_map_or}
 use Rattle.std.proofs.lemmas.Bool.{cases_Bool, false≢true}
 use Rattle.history_laws.proofs.CallerLemmas.{all-filter, all-more}
-use Rattle.cache_key.specs.declared.digest.Digests.{Digests}
 use Rattle.cache_key.specs.Digests.{digests_of}
 use Rattle.cache_key.specs.Keys.{CacheKey}
 use Rattle.ask_model.specs.Requests.{CoapRequest, Sense, Requests, Refuses}
@@ -68,15 +67,15 @@ module _ (ws : List Written) (s : Sense) (es : List Exchange) where
 
   -- Only those of the digest are joined.
   abbrev IsOf : ℕ → Exchange → Type 0
-  IsOf d e = p e ≡ true → eqb e.digests.key d ≡ true
+  IsOf d e = p e ≡ true → eqb (key_in e.digests) d ≡ true
 
   pub joined-marked : (d : ℕ) (marks : List Mark) → RiseBy opening_of es → AreMarked key_in es marks → AllByRecursion (IsOf d) es
       → find p es ≡ option_and_then at (find (is_joined_marked ws s es) (filter (has_digest d) marks))
   joined-marked d marks rise grouped of =
-      find-among p (λ (e : Exchange). eqb e.digests.key d) es of
-      ∙ by-marks (filter (λ (e : Exchange). eqb e.digests.key d) es) (all-filter Stands (λ (e : Exchange). eqb e.digests.key d) es (opened-found es rise))
+      find-among p (λ (e : Exchange). eqb (key_in e.digests) d) es of
+      ∙ by-marks (filter (λ (e : Exchange). eqb (key_in e.digests) d) es) (all-filter Stands (λ (e : Exchange). eqb (key_in e.digests) d) es (opened-found es rise))
       ∙ ap (λ (ms : List Mark). option_and_then at (find (is_joined_marked ws s es) ms))
-      (sym (filter-mapped (has_digest d) (λ (e : Exchange). eqb e.digests.key d) (mark_by key_in) es (all-of {P = λ (e : Exchange). has_digest d (mark_by key_in e) ≡ eqb e.digests.key d} es (λ e. refl))) ∙ sym (grouped.same d))
+      (sym (filter-mapped (has_digest d) (λ (e : Exchange). eqb (key_in e.digests) d) (mark_by key_in) es (all-of {P = λ (e : Exchange). has_digest d (mark_by key_in e) ≡ eqb (key_in e.digests) d} es (λ e. refl))) ∙ sym (grouped.same d))
 
 -- what a GET joins was opened for its key
 and-second : (b c : Bool) → (b && c) ≡ true → c ≡ true
@@ -97,26 +96,26 @@ get-read q key true is = some-is (asked_key q) key is
 get-read q key false is = absurd (none-some key is)
 
 pub of-digest : (ws : List Written) (s : Sense) (key : CacheKey) (es : List Exchange) → key_read s ≡ Some key → AllByRecursion (IsDigested ws) es
-    → AllByRecursion (λ (e : Exchange). is_joined_by ws s e ≡ true → eqb e.digests.key (digests_of key).key ≡ true) es
+    → AllByRecursion (λ (e : Exchange). is_joined_by ws s e ≡ true → eqb (key_in e.digests) (key_in (digests_of key)) ≡ true) es
 of-digest ws (Refuses cause status) key es is a = absurd (none-some key is)
 of-digest ws (Requests q) key es is a =
-    all-more (IsDigested ws) (λ (e : Exchange). is_joined ws q e ≡ true → eqb e.digests.key (digests_of key).key ≡ true) one es a
+    all-more (IsDigested ws) (λ (e : Exchange). is_joined ws q e ≡ true → eqb (key_in e.digests) (key_in (digests_of key)) ≡ true) one es a
   where
-    one : (e : Exchange) → IsDigested ws e → is_joined ws q e ≡ true → eqb e.digests.key (digests_of key).key ≡ true
+    one : (e : Exchange) → IsDigested ws e → is_joined ws q e ≡ true → eqb (key_in e.digests) (key_in (digests_of key)) ≡ true
     one e digested h =
         let r = same-of ws q e h (asked_in ws e.opening) refl in
         let same : asked_key r.0 ≡ key = sym (same-key q r.0 r.2) ∙ get-read q key (is_get q) is in
-        same-as e.digests.key (digests_of key).key
-        (ap (λ (x : Digests). x.key) (sym (digested r.0 r.1)) ∙ ap (λ (k : CacheKey). (digests_of k).key) same)
+        same-as (key_in e.digests) (key_in (digests_of key))
+        (ap key_in (sym (digested r.0 r.1)) ∙ ap (λ (k : CacheKey). key_in (digests_of k)) same)
 
 -- all of it
 pub joined-by : (ws : List Written) (s : Sense) (es : List Exchange) (key : CacheKey) (d : ℕ) (marks alike : List Mark) (v : Option Mark)
     → RiseBy opening_of es → AreMarked key_in es marks → AllByRecursion (IsDigested ws) es
-    → key_read s ≡ Some key → d ≡ (digests_of key).key → alike ≡ filter (has_digest d) marks → v ≡ find (is_joined_marked ws s es) alike
+    → key_read s ≡ Some key → d ≡ (key_in (digests_of key)) → alike ≡ filter (has_digest d) marks → v ≡ find (is_joined_marked ws s es) alike
     → find (is_joined_by ws s) es ≡ option_and_then (λ (m : Mark). find (is_opened_at m.opening) es) v
 joined-by ws s es key d marks alike v rise grouped digested is same are found =
     joined-marked ws s es d marks rise grouped
-    (subst (λ (k : ℕ). AllByRecursion (λ (e : Exchange). is_joined_by ws s e ≡ true → eqb e.digests.key k ≡ true) es) (sym same) (of-digest ws s key es is digested))
+    (subst (λ (k : ℕ). AllByRecursion (λ (e : Exchange). is_joined_by ws s e ≡ true → eqb (key_in e.digests) k ≡ true) es) (sym same) (of-digest ws s key es is digested))
     ∙ sym (ap (option_and_then (λ (m : Mark). find (is_opened_at m.opening) es)) (found ∙ ap (find (is_joined_marked ws s es)) are))
 
 -- what reads nothing joins nothing

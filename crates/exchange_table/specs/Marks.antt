@@ -1,6 +1,6 @@
 -- The marks of exchanges: digests of what they were opened for, by which those of one key, and
 -- those of one place, are found.
-use Rattle.std.specs.Prelude.{ℕ, Bool, ◌==◌, List, map}
+use Rattle.std.specs.Prelude.{ℕ, ◌%◌, Bool, ◌==◌, List, map}
 use Rattle.std.specs.List.{list_any}
 use Rattle.cache_key.specs.declared.digest.Digests.{Digests}
 use Rattle.exchange_model.specs.declared.kept.Exchange.{Exchange}
@@ -21,11 +21,12 @@ has_digest d m = m.digest == d
 abbrev pub is_mark_of : ℕ → Mark → Bool
 is_mark_of o m = m.opening == o
 
+-- the lower halves of those of keys, and of places
 abbrev pub key_in : Digests → ℕ
-key_in d = d.key
+key_in d = d.key % 4294967296
 
 abbrev pub place_in : Digests → ℕ
-place_in d = d.place
+place_in d = d.place % 4294967296
 
 -- the mark of an exchange by that of its digests
 abbrev pub mark_by : (Digests → ℕ) → Exchange → Mark

@@ -115,8 +115,8 @@ impl Exchanges {
             opening: exchange.opening,
         });
         let Digests { key, place } = exchange.digests;
-        marks::put_mark(&mut self.keys, key, exchange.opening);
-        marks::put_mark(&mut self.places, place, exchange.opening);
+        marks::put_mark(&mut self.keys, marks::half_of(key), exchange.opening);
+        marks::put_mark(&mut self.places, marks::half_of(place), exchange.opening);
         self.rows.push_reserved(exchange);
     }
 

@@ -11,7 +11,7 @@ ghost use Rattle.exchange_table.specs.Marks.{AreMarked, key_in};
 ghost use Rattle.exchange_table.specs.Places.{RiseBy};
 ghost use Rattle.exchange_table.specs.Tables.{is_opened_at, opening_of};
 
-use crate::marks::{Mark, marked};
+use crate::marks::{Mark, half_of, marked};
 use crate::outrunning::asked;
 use crate::places::opening_place;
 use ask_model::Mapped;
@@ -77,11 +77,11 @@ fn find_marked<R: Relation>(
 }
 
 /// The digest of the key that is read.
-fn digest_of(reading: &Reading<'_>) -> u64
+fn digest_of(reading: &Reading<'_>) -> u32
     ensures { let key = key_of reading.now.peer reading.now.target.now reading.now.accept in
-        result ≡ (digests_of key).key }
+        result ≡ key_in (digests_of key) }
 {
-    Digests::of(&reading.peer, reading.target, reading.accept).key
+    half_of(Digests::of(&reading.peer, reading.target, reading.accept).key)
 }
 
 /// The row that the request joins, where each has the digests of what it was opened for.

@@ -1,7 +1,7 @@
 //! The marks of exchanges: so those that may have been opened for the same key, or the same place,
 //! are found without going through all.
 
-ghost use Rattle.std.specs.Prelude.{◌≡◌, ◌<◌, ◌∷◌, ◌++◌, [], List, None, true, IfOk, IfSome, filter, length, nat_lt, not, vec_capacity, vec_len};
+ghost use Rattle.std.specs.Prelude.{◌≡◌, ◌<◌, ◌%◌, ◌∷◌, ◌++◌, [], List, None, true, IfOk, IfSome, filter, length, nat_lt, not, vec_capacity, vec_len};
 ghost use Rattle.std.specs.List.{AllByRecursion};
 ghost use Rattle.exchange_table.specs.declared.marks.Mark.{Mark as Row};
 ghost use Rattle.exchange_table.specs.Groups.{AreGrouped, Ascend, IsFirstFrom};
@@ -13,46 +13,55 @@ use crate::places::is_opened;
 use exchange_model::Exchange;
 use std::alloc::{AllocError, Global};
 
-/// A digest of what an exchange was opened for, with its opening.
+/// A digest of what an exchange was opened for, with its opening. It has eight bytes: where one
+/// comes or goes, what stands after it is moved.
 #[derive(Clone, Copy)]
 pub struct Mark {
-    pub digest: u64,
+    /// the lower half of the digest
+    pub digest: u32,
     /// the number of the entry that opened the exchange
     pub opening: u32,
 }
 
+/// The half of a digest that marks have.
+pub fn half_of(digest: u64) -> u32
+    ensures { result ≡ digest % 4294967296 }
+{
+    (digest % 4294967296) as u32
+}
+
 /// The first place of those with this digest, or a higher one.
-fn first_from(marks: &[Mark], digest: u128) -> usize
+fn first_from(marks: &[Mark], digest: u64) -> usize
     requires { Ascend digest_in marks.now }
     ensures { IsFirstFrom digest_in digest marks.now result }
 {
     marks.partition_point(
         |mark: &Mark| -> bool
             ensures { result ≡ nat_lt mark.now.digest digest }
-        { u128::from(mark.digest) < digest },
+        { u64::from(mark.digest) < digest },
     )
 }
 
 /// Those with this digest, in the order of their openings.
-pub fn marked(marks: &[Mark], digest: u64) -> &[Mark]
+pub fn marked(marks: &[Mark], digest: u32) -> &[Mark]
     requires { Ascend digest_in marks.now }
     ensures { result.now ≡ filter (has_digest digest) marks.now }
 {
-    let first = first_from(marks, u128::from(digest));
-    let end = first_from(marks, u128::from(digest) + 1);
+    let first = first_from(marks, u64::from(digest));
+    let end = first_from(marks, u64::from(digest) + 1);
     &marks[first..end]
 }
 
 /// Puts the mark of what has this digest and this opening after those with the same digest. There
 /// is a place for it.
-pub fn put_mark(marks: &mut Vec<Mark>, digest: u64, opening: u32)
+pub fn put_mark(marks: &mut Vec<Mark>, digest: u32, opening: u32)
     requires order { Ascend digest_in marks.old.items }
     requires place { vec_len marks.old < vec_capacity marks.old }
     ensures { (ms : List Row) → AreGrouped digest_in ms marks.old.items
         → AreGrouped digest_in (ms ++ record { digest = digest; opening = opening } ∷ [])
         marks.new.items }
 {
-    let place = first_from(marks.as_slice(), u128::from(digest) + 1);
+    let place = first_from(marks.as_slice(), u64::from(digest) + 1);
     if marks.insert(place, Mark { digest, opening }).is_err() {
         unreachable!()
     }
@@ -79,14 +88,14 @@ fn mark_place(marks: &[Mark], opening: u32) -> Option<usize>
 }
 
 /// Takes out the mark with this opening, which has this digest.
-pub fn take_mark(marks: &mut Vec<Mark>, digest: u64, opening: u32)
+pub fn take_mark(marks: &mut Vec<Mark>, digest: u32, opening: u32)
     requires order { Ascend digest_in marks.old.items }
     requires openings { RiseBy opening_marked (filter (has_digest digest) marks.old.items) }
     requires there { AllByRecursion (λ (m : Row). is_mark_of opening m ≡ true → m.digest ≡ digest)
         marks.old.items }
     ensures { marks.new.items ≡ filter (λ m. not (is_mark_of opening m)) marks.old.items }
 {
-    let first = first_from(marks.as_slice(), u128::from(digest));
+    let first = first_from(marks.as_slice(), u64::from(digest));
     if let Some(place) = mark_place(marked(marks.as_slice(), digest), opening) {
         marks.remove(first + place);
     }

@@ -10,7 +10,7 @@ ghost use Rattle.exchange_table.specs.Outrunning.{only_at, outrun_with};
 ghost use Rattle.exchange_table.specs.Places.{RiseBy};
 ghost use Rattle.exchange_table.specs.Tables.{opening_of};
 
-use crate::marks::{Mark, marked};
+use crate::marks::{Mark, half_of, marked};
 use crate::places::opening_place;
 use ask_model::Mapped;
 use cache_key::{Digests, Key, Reading};
@@ -57,11 +57,11 @@ fn outrun_at<R: Relation>(
 }
 
 /// The digest of the place that is read or changed.
-fn place_digest(reading: &Reading<'_>) -> u64
+fn place_digest(reading: &Reading<'_>) -> u32
     ensures { let key = key_of reading.now.peer reading.now.target.now reading.now.accept in
-        result ≡ (digests_of key).place }
+        result ≡ place_in (digests_of key) }
 {
-    Digests::of(&reading.peer, reading.target, reading.accept).place
+    half_of(Digests::of(&reading.peer, reading.target, reading.accept).place)
 }
 
 /// An exchange has ended: where it was a write, GETs join the exchanges of its place no more.
@@ -120,7 +120,7 @@ pub fn outdate<R: Relation>(rows: &mut [Exchange], keys: &[Mark], journal: &Jour
     requires digested { AllByRecursion (IsDigested journal.now.entries) rows.old }
     ensures { rows.new ≡ map (outdated_by journal.now.entries key.now) rows.old }
 {
-    let alike = marked(keys, key.digests().key);
+    let alike = marked(keys, half_of(key.digests().key));
     'each: for mark in alike {
         outdate_at(rows, mark.opening, journal, key);
     }

@@ -9,7 +9,7 @@ ghost use Rattle.exchange_table.specs.Places.{RiseBy};
 ghost use Rattle.exchange_table.specs.Tables.{IsIndexed, IsNewest, carried_on, opening_of, went_on};
 
 use crate::index::{Named, drop_name, name_anew, number_of};
-use crate::marks::{Mark, take_mark};
+use crate::marks::{Mark, half_of, take_mark};
 use crate::places::{opening_place, place_under};
 use coap_codec::Token;
 use exchange_model::{Exchange, Reader, Work};
@@ -116,7 +116,7 @@ pub fn remove(
     if let Some(place) = place_under(rows.as_slice(), names.as_slice(), token) {
         let gone = rows.remove(place);
         drop_name(names, number_of(token));
-        take_mark(keys, gone.digests.key, gone.opening);
-        take_mark(places, gone.digests.place, gone.opening);
+        take_mark(keys, half_of(gone.digests.key), gone.opening);
+        take_mark(places, half_of(gone.digests.place), gone.opening);
     }
 }

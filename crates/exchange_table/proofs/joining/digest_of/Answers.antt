@@ -1,6 +1,6 @@
-use Rattle.std.proofs.Common.{ap}
-use Rattle.cache_key.specs.declared.digest.Digests.{Digests}
+use Rattle.std.proofs.Common.{ap, ◌∙◌}
+use Rattle.exchange_table.specs.Marks.{key_in}
 use Rattle.exchange_table.proofs.joining.digest_of.Goals as goal
 
 pub returns : goal.returns
-returns c = ap (λ (d : Digests). d.key) c.of.ensures
+returns c = c.half_of.ensures ∙ ap key_in c.of.ensures

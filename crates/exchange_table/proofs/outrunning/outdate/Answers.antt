@@ -1,6 +1,5 @@
-use Rattle.std.proofs.Common.{List, map, sym, ap, subst, ◌∙◌, arith}
+use Rattle.std.proofs.Common.{ℕ, List, map, sym, ap, subst, ◌∙◌, arith}
 use Rattle.std.specs.Prelude.{filter}
-use Rattle.cache_key.specs.declared.digest.Digests.{Digests}
 use Rattle.cache_key.specs.Digests.{digests_of}
 use Rattle.exchange_model.specs.Steps.{outdated_by}
 use Rattle.exchange_table.specs.declared.marks.Mark.{Mark}
@@ -36,5 +35,5 @@ returns g c =
     let old = c.args.rows.now in
     let test = c.each-test.false in
     among-done f c.marked-alike.result.now c.each.mark-index old c.each.rows (omega (arith, test)) c.each.invariant
-    ∙ ap (λ (ms : List Mark). map (among ms f) old) (c.marked-alike.ensures ∙ ap (λ (x : Digests). filter (has_digest x.key) c.args.keys.now) c.digests.ensures)
-    ∙ among-all key_in (digests_of key).key f old c.args.keys.now c.requires.keyed (outdated-others ws key old c.requires.digested)
+    ∙ ap (λ (ms : List Mark). map (among ms f) old) (c.marked-alike.ensures ∙ ap (λ (d : ℕ). filter (has_digest d) c.args.keys.now) (c.half_of.ensures ∙ ap key_in c.digests.ensures))
+    ∙ among-all key_in (key_in (digests_of key)) f old c.args.keys.now c.requires.keyed (outdated-others ws key old c.requires.digested)

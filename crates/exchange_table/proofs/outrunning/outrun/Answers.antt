@@ -45,7 +45,7 @@ returns g c =
     let test = c.each-test.false in
     among-done f c.marked-alike.result.now c.each.mark-index old c.each.rows (omega (arith, test)) c.each.invariant
     ∙ ap (λ (ms : List Mark). map (among ms f) old) (c.marked-alike.ensures ∙ ap (λ (d : ℕ). filter (has_digest d) c.args.places.now) c.place_digest.ensures)
-    ∙ among-all place_in (digests_of key).place f old c.args.places.now c.requires.placed
+    ∙ among-all place_in (place_in (digests_of key)) f old c.args.places.now c.requires.placed
     (outrun-others ws sense key old (sym (ap (option_map _) c.in-Some-writing.is) ∙ c.writing.ensures) c.requires.digested)
     ∙ ap (λ (w : Option CoapRequest). map (outrun_with w ws) old) (sym (ap (option_and_then _) c.in-Some.is) ∙ c.asked.ensures)
     ∙ sym (left-one ws c.args.ended.now old)

@@ -31,7 +31,7 @@ take_mark-requires-clause-order c = c.requires.keyed.order
 
 pub take_mark-requires-clause-openings : goal.take_mark-requires-clause-openings
 take_mark-requires-clause-openings c =
-    rise-in-group key_in c.remove-gone.result.digests.key c.args.rows.now.items c.args.keys.now.items c.requires.indexed.openings c.requires.keyed
+    rw (c.half_of.ensures) (rise-in-group key_in (key_in c.remove-gone.result.digests) c.args.rows.now.items c.args.keys.now.items c.requires.indexed.openings c.requires.keyed)
 
 pub take_mark-requires-clause-there : goal.take_mark-requires-clause-there
 take_mark-requires-clause-there c =
@@ -40,15 +40,15 @@ take_mark-requires-clause-there c =
     let at : IsOnlyAt (is_under c.args.token.now) rows c.in-Some.place = rw (c.as_slice.ensures.value) at c.in-Some.ensures.some in
     let below = c.in-Some.ensures.below in
     let len = c.as_slice.ensures.len in
-    subst (λ (e : Exchange). AllByRecursion (λ (m : Mark). is_mark_of e.opening m ≡ true → m.digest ≡ e.digests.key) marks) (sym c.remove-gone.ensures.value)
-    (mark-there (is_under c.args.token.now) rows c.in-Some.place c.remove-gone.result c.requires.indexed.openings at (omega (arith, below, len)) key_in marks c.requires.keyed)
+    rw (c.half_of.ensures) (subst (λ (e : Exchange). AllByRecursion (λ (m : Mark). is_mark_of e.opening m ≡ true → m.digest ≡ key_in e.digests) marks) (sym c.remove-gone.ensures.value)
+    (mark-there (is_under c.args.token.now) rows c.in-Some.place c.remove-gone.result c.requires.indexed.openings at (omega (arith, below, len)) key_in marks c.requires.keyed))
 
 pub take_mark-requires-in-Some-clause-order : goal.take_mark-requires-in-Some-clause-order
 take_mark-requires-in-Some-clause-order c = c.requires.placed.order
 
 pub take_mark-requires-in-Some-clause-openings : goal.take_mark-requires-in-Some-clause-openings
 take_mark-requires-in-Some-clause-openings c =
-    rise-in-group place_in c.remove-gone.result.digests.place c.args.rows.now.items c.args.places.now.items c.requires.indexed.openings c.requires.placed
+    rw (c.half_of-in-Some.ensures) (rise-in-group place_in (place_in c.remove-gone.result.digests) c.args.rows.now.items c.args.places.now.items c.requires.indexed.openings c.requires.placed)
 
 pub take_mark-requires-in-Some-clause-there : goal.take_mark-requires-in-Some-clause-there
 take_mark-requires-in-Some-clause-there c =
@@ -57,8 +57,8 @@ take_mark-requires-in-Some-clause-there c =
     let at : IsOnlyAt (is_under c.args.token.now) rows c.in-Some.place = rw (c.as_slice.ensures.value) at c.in-Some.ensures.some in
     let below = c.in-Some.ensures.below in
     let len = c.as_slice.ensures.len in
-    subst (λ (e : Exchange). AllByRecursion (λ (m : Mark). is_mark_of e.opening m ≡ true → m.digest ≡ e.digests.place) marks) (sym c.remove-gone.ensures.value)
-    (mark-there (is_under c.args.token.now) rows c.in-Some.place c.remove-gone.result c.requires.indexed.openings at (omega (arith, below, len)) place_in marks c.requires.placed)
+    rw (c.half_of-in-Some.ensures) (subst (λ (e : Exchange). AllByRecursion (λ (m : Mark). is_mark_of e.opening m ≡ true → m.digest ≡ place_in e.digests) marks) (sym c.remove-gone.ensures.value)
+    (mark-there (is_under c.args.token.now) rows c.in-Some.place c.remove-gone.result c.requires.indexed.openings at (omega (arith, below, len)) place_in marks c.requires.placed))
 
 pub returns-in-Some-clause-rows : goal.returns-in-Some-clause-rows
 returns-in-Some-clause-rows c =
