@@ -1,8 +1,10 @@
 -- Exchanges stand in the order in which they were opened, so the first is late first.
 use Rattle.history_links.specs.Agrees.{Start}
-use Rattle.std.proofs.Common.{◌≡◌, ℕ, ◌+◌, ◌<◌, ◌≤◌, inl, inr, List, [], ◌∷◌, length, get_or, map, min, Option, Some, refl, sym, ap, ◌∙◌, subst, arith}
+use Rattle.std.proofs.Common.{◌≡◌, ℕ, zero, suc, ◌+◌, ◌<◌, ◌≤◌, inl, inr, true, false, List, [], ◌∷◌, ◌++◌, append-nil, drop, length, get_or, map, min, Option, Some, refl, sym, ap, ◌∙◌, subst, arith}
+use Rattle.std.specs.Prelude.{filter}
 use Rattle.std.specs.List.{AllByRecursion}
-use Rattle.std.proofs.lemmas.Bool.Decides.{eqb_tells}
+use Rattle.std.proofs.lemmas.Bool.{false≢true, le-leb}
+use Rattle.std.proofs.lemmas.Bool.Decides.{eqb_tells, leb_tells}
 use Rattle.limits.specs.declared.TheConstants.{MAX_TRANSMIT_WAIT}
 use Rattle.history_laws.specs.Readings.{Noted, at, newest}
 use Rattle.history_laws.specs.Exchanges.{openings, is_going}
@@ -13,6 +15,7 @@ use Rattle.exchange_model.specs.State.{State}
 use Rattle.exchange_model.specs.Reads.{ExchangeIn, opening_of}
 use Rattle.exchange_model.specs.Due.{earlier, earliest, deadline}
 use Rattle.exchange_model.specs.Keeping.{Kept}
+use Rattle.exchange_model.specs.Steps.{is_past}
 use Rattle.exchange_core.specs.Places.{OpenLater}
 use Rattle.exchange_core.proofs.TickDue.{earlier-assoc}
 
@@ -72,3 +75,27 @@ first-due e es h = first-before e.since es h.0
 pub first-late : (es : List Exchange) (d : Exchange) → 1 ≤ length es → OpenLater es → Some ((get_or es 0 d).since + MAX_TRANSMIT_WAIT) ≡ earliest deadline es
 first-late [] d le h = absurd (omega (arith, le))
 first-late (e ∷ es) d le h = sym (first-due e es h)
+
+-- Behind one that isn't late none is.
+
+not-past : (t : ℕ) (e f : Exchange) → e.since ≤ f.since → is_past t e ≡ false → is_past t f ≡ false
+not-past t e f le young = elim (leb_tells (f.since + MAX_TRANSMIT_WAIT) t) [
+  | inl w ↦ absurd (let late = w.1 in false≢true (sym young ∙ le-leb (e.since + MAX_TRANSMIT_WAIT) t (omega (arith, late, le))))
+  | inr w ↦ w.0
+]
+
+none-later : (t : ℕ) (e : Exchange) (es : List Exchange) → AllByRecursion (λ (f : Exchange). e.since ≤ f.since) es → is_past t e ≡ false → filter (is_past t) es ≡ []
+none-later t e [] later young = refl
+none-later t e (f ∷ fs) later young = rw (not-past t e f later.0 young) (none-later t e fs later.1 young)
+
+none-past : (t : ℕ) (es : List Exchange) (i : ℕ) (e : Exchange) → OpenLater es → i < length es → e ≡ get_or es i e → is_past t e ≡ false → filter (is_past t) (drop i es) ≡ []
+none-past t [] i e opened lt is young = absurd (omega (arith, lt))
+none-past t (x ∷ xs) zero e opened lt is young =
+    let here : is_past t x ≡ false = subst (λ (y : Exchange). is_past t y ≡ false) is young in
+    rw (here) (none-later t x xs opened.0 here)
+none-past t (x ∷ xs) (suc i) e opened lt is young = none-past t xs i e opened.1 (omega (arith, lt)) is young
+
+pub past-front : (t : ℕ) (es : List Exchange) (i : ℕ) (e : Exchange) (past : List Exchange) → OpenLater es → i < length es → e ≡ get_or es i e → is_past t e ≡ false
+    → past ++ filter (is_past t) (drop i es) ≡ filter (is_past t) es → past ≡ filter (is_past t) es
+past-front t es i e past opened lt is young all =
+    sym (append-nil past) ∙ ap (λ (fs : List Exchange). past ++ fs) (sym (none-past t es i e opened lt is young)) ∙ all

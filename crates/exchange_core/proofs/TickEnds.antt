@@ -1,5 +1,5 @@
 -- The exchanges that end at a tick are those that the step ends.
-use Rattle.std.proofs.Common.{◌≡◌, ℕ, inl, inr, Bool, true, false, not, List, Option, Some, None, refl, ap, arith}
+use Rattle.std.proofs.Common.{◌≡◌, ℕ, inl, inr, Bool, true, false, List, Option, Some, None, refl, ap, arith}
 use Rattle.std.specs.Prelude.{filter, ◌&&◌, ◌||◌}
 use Rattle.std.specs.Str.{bytes_eq}
 use Rattle.std.proofs.lemmas.Bool.{lt-ltb, le-ltb}
@@ -11,11 +11,11 @@ use Rattle.message_layer.specs.declared.state.Outstanding.{Outstanding}
 use Rattle.history_links.specs.Steps.{is_over as runs_out}
 use Rattle.exchange_model.specs.declared.kept.Exchange.{Exchange}
 use Rattle.exchange_model.specs.State.{State, link_of}
-use Rattle.exchange_model.specs.Steps.{is_past, expires, timed_out, goes_on}
+use Rattle.exchange_model.specs.Steps.{is_past, expires, timed_out}
 use Rattle.exchange_model.specs.Keeping.{Kept}
 use Rattle.exchange_model.proofs.CallerLemmas.{below, Few, few-copies}
 use Rattle.endpoint_table.specs.GivenUps.{given_up_by}
-use Rattle.exchange_core.specs.Expiring.{is_that, is_over, is_still}
+use Rattle.exchange_core.specs.Expiring.{is_that, is_over}
 
 and-true : (b : Bool) → b ≡ (b && true)
 and-true true = refl
@@ -62,8 +62,3 @@ over-all t S k = λ i e. over-one t S k e i
 pub over-same : (t : ℕ) (S : State) → Kept S
     → filter (is_over t S.links) S.exchanges ≡ timed_out t S
 over-same t S k = ap (λ (q : Exchange → Bool). filter q S.exchanges) (over-all t S k)
-
-pub still-same : (t : ℕ) (S : State) → Kept S
-    → filter (is_still t S.links) S.exchanges ≡ filter (goes_on t S) S.exchanges
-still-same t S k =
-    ap (λ (q : Exchange → Bool). filter (λ (e : Exchange). not (q e)) S.exchanges) (over-all t S k)

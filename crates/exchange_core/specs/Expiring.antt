@@ -1,5 +1,5 @@
 -- Exchanges that end at a tick, by the messages that are given up.
-use Rattle.std.specs.Prelude.{ℕ, Bool, false, not, ◌&&◌, ◌||◌, List, Option, Some, None}
+use Rattle.std.specs.Prelude.{ℕ, Bool, false, ◌&&◌, ◌||◌, List, Option, Some, None}
 use Rattle.std.specs.Str.{bytes_eq}
 use Rattle.exchange_model.specs.declared.kept.Exchange.{Exchange}
 use Rattle.exchange_model.specs.State.{PeerLink, link_of}
@@ -17,13 +17,7 @@ abbrev pub is_over : ℕ → List PeerLink → Exchange → Bool
 is_over t links e =
     is_past t e || (e.awaits && is_that (given_up t (link_of links e.peer)) e.token)
 
-abbrev pub is_still : ℕ → List PeerLink → Exchange → Bool
-is_still t links e = not (is_over t links e)
-
 -- ... by the messages that are listed as given up
 abbrev pub is_over_by : ℕ → List GivenUp → Exchange → Bool
 is_over_by t gs e =
     is_past t e || (e.awaits && is_that (given_at gs e.peer) e.token)
-
-abbrev pub is_still_by : ℕ → List GivenUp → Exchange → Bool
-is_still_by t gs e = not (is_over_by t gs e)

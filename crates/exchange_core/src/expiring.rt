@@ -1,11 +1,13 @@
 //! Exchanges that end at a tick.
 
-ghost use Rattle.std.specs.Prelude.{◌≡◌, ◌≤◌, ◌^◌, filter, map, IfOk};
+ghost use Rattle.std.specs.Prelude.{◌≡◌, ◌≤◌, ◌^◌, Bool, filter, map, not, IfOk};
 ghost use Rattle.std.specs.List.{AllByRecursion};
 ghost use Rattle.limits.specs.declared.TheConstants.{LAST_MOMENT};
+ghost use Rattle.exchange_model.specs.declared.kept.Exchange.{Exchange as Row};
 ghost use Rattle.exchange_model.specs.Entering.{token_of};
-ghost use Rattle.exchange_model.specs.Steps.{IsDigested, left_by};
-ghost use Rattle.exchange_core.specs.Expiring.{is_over, is_over_by, is_still, is_still_by, is_that};
+ghost use Rattle.exchange_model.specs.Steps.{IsDigested, is_past, left_by};
+ghost use Rattle.exchange_core.specs.Expiring.{is_over, is_over_by, is_that};
+ghost use Rattle.exchange_core.specs.Places.{OpenLater};
 
 use crate::due::is_past;
 use coap_codec::Token;
@@ -35,60 +37,69 @@ fn is_that(given_up: &Option<Token>, token: &Token) -> bool
     }
 }
 
-/// Exchanges, by what a tick does to them.
-pub struct Sorted {
-    /// those that end
-    pub over: Vec<Exchange>,
-    /// those that go on
-    pub still: Exchanges,
+/// The exchanges that have been open for as long as they may. What was opened first is late first,
+/// so they stand in front, and of the others one at most is looked at.
+pub fn past_exchanges(
+    alloc: Global,
+    exchanges: &[Exchange],
+    moment: u64,
+) -> Result<Vec<Exchange>, AllocError>
+    requires { OpenLater exchanges.now }
+    ensures { IfOk result (λ v. v.items ≡ filter (is_past moment) exchanges.now) }
+{
+    let mut past = Vec::new(alloc);
+    'each: for e in exchanges {
+        if !is_past(e, moment) {
+            return Ok(past);
+        }
+        past.push(*e)?;
+    }
+    Ok(past)
 }
 
-/// The exchanges that end, and those that go on.
-fn sort_rows(
+/// The exchanges that end, where these messages are given up. Where there are such, all are gone
+/// through.
+fn over_by(
     alloc: Global,
     exchanges: &[Exchange],
     given: &[GivenUp],
     moment: u64,
-) -> Result<(Vec<Exchange>, Vec<Exchange>), AllocError>
-    ensures over { IfOk result
-        (λ x. x.0.items ≡ filter (is_over_by moment given.now) exchanges.now) }
-    ensures still { IfOk result
-        (λ x. x.1.items ≡ filter (is_still_by moment given.now) exchanges.now) }
+) -> Result<Vec<Exchange>, AllocError>
+    requires { OpenLater exchanges.now }
+    ensures { IfOk result
+        (λ v. v.items ≡ filter (is_over_by moment given.now) exchanges.now) }
 {
+    if given.is_empty() {
+        return past_exchanges(alloc, exchanges, moment);
+    }
     let mut over = Vec::new(alloc);
-    let mut still = Vec::new(alloc);
     'each: for e in exchanges {
         if is_over(e, given, moment) {
             over.push(*e)?;
-        } else {
-            still.push(*e)?;
         }
     }
-    Ok((over, still))
+    Ok(over)
 }
 
-/// The exchanges that end at this moment, and those that go on.
-pub fn sort_by_end(
+/// The exchanges that end at this moment.
+pub fn over_at(
     alloc: Global,
     exchanges: &Exchanges,
     endpoints: &mut Endpoints,
     moment: u64,
-) -> Result<Sorted, AllocError>
-    requires { moment ≤ LAST_MOMENT }
+) -> Result<Vec<Exchange>, AllocError>
+    requires early { moment ≤ LAST_MOMENT }
+    requires ordered { OpenLater exchanges.now.exchanges }
     ensures same { endpoints.new.links ≡ endpoints.old.links }
-    ensures over { IfOk result (λ x. x.over.items
+    ensures over { IfOk result (λ v. v.items
         ≡ filter (is_over moment endpoints.old.links) exchanges.now.exchanges) }
-    ensures still { IfOk result (λ x. x.still.exchanges
-        ≡ filter (is_still moment endpoints.old.links) exchanges.now.exchanges) }
 {
     let given = endpoints.given_up(moment)?;
-    let (over, still) = sort_rows(alloc, exchanges.as_slice(), &given, moment)?;
-    let still = exchanges.part(alloc, still)?;
-    Ok(Sorted { over, still })
+    over_by(alloc, exchanges.as_slice(), &given, moment)
 }
 
 /// These exchanges have ended: where they were writes, GETs join those of their places no more.
-pub fn outrun_all<R: Relation>(still: &mut Exchanges, journal: &Journal<R>, over: &[Exchange])
+fn outrun_all<R: Relation>(still: &mut Exchanges, journal: &Journal<R>, over: &[Exchange])
     requires { AllByRecursion (IsDigested journal.now.entries) still.old.exchanges }
     ensures { still.new.exchanges
         ≡ left_by journal.now.entries over.now still.old.exchanges }
@@ -96,6 +107,18 @@ pub fn outrun_all<R: Relation>(still: &mut Exchanges, journal: &Journal<R>, over
     'each: for e in over {
         still.outrun(journal, e);
     }
+}
+
+/// These exchanges end: they leave the table, and where they were writes, GETs join those of their
+/// places no more. It takes no memory.
+pub fn end_all<R: Relation>(exchanges: &mut Exchanges, journal: &Journal<R>, over: &[Exchange])
+    requires { AllByRecursion (IsDigested journal.now.entries) exchanges.old.exchanges }
+    ensures { (ends : Row → Bool) → over.now ≡ filter ends exchanges.old.exchanges
+        → exchanges.new.exchanges ≡ left_by journal.now.entries over.now
+        (filter (λ e. not (ends e)) exchanges.old.exchanges) }
+{
+    exchanges.remove_all(over);
+    outrun_all(exchanges, journal, over);
 }
 
 /// The tokens of exchanges.

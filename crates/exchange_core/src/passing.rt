@@ -2,12 +2,13 @@
 
 ghost use Rattle.std.specs.Prelude.{ℕ, ◌≡◌, ◌≤◌, ◌^◌, ◌+◌, ◌++◌, true, false, filter, length, sum_by, IfOk, OnOk};
 ghost use Rattle.limits.specs.declared.TheConstants.{LAST_MOMENT, MAX_ENTRIES};
+ghost use Rattle.std.specs.List.{AllByRecursion};
 ghost use Rattle.ask_model.specs.Sizes.{capped};
 ghost use Rattle.journal_book.specs.Entries.{entry_size};
 ghost use Rattle.message_layer.specs.Calls.{is_among};
 ghost use Rattle.exchange_model.specs.Calls.{something_due};
 ghost use Rattle.exchange_model.specs.Entering.{all_deeds, all_going, gone_tokens, sent_as, tick_deeds};
-ghost use Rattle.exchange_model.specs.Steps.{is_gone, left_by, timed_out, goes_on};
+ghost use Rattle.exchange_model.specs.Steps.{IsDigested, is_gone, left_by, timed_out, goes_on};
 ghost use Rattle.endpoint_table.specs.Turns.{AreTurns, turns_deeds, turns_going};
 ghost use Rattle.exchange_table.specs.Places.{RiseBy};
 ghost use Rattle.exchange_table.specs.Tables.{opening_of};
@@ -20,47 +21,25 @@ ghost use Rattle.exchange_core.specs.Turns.{AreTimed};
 
 use crate::draft::Draft;
 use crate::due::next_due;
-use crate::expiring::{Sorted, outrun_all, sort_by_end, tokens_of};
+use crate::expiring::{end_all, over_at, tokens_of};
 use crate::state::{self, State, start};
 use crate::storing::retire_all;
 use crate::timeouts::draft_timeouts;
-use crate::turns::draft_turns;
+use crate::turns::{draft_turns, note_turns};
 use crate::watching::{add_unwatched, drop_unwatched};
 use coap_codec::Token;
 use endpoint_table::Turn;
 use exchange_model::Exchange;
-use exchange_table::Exchanges;
 use journal_book::{Entry, Event};
 use std::alloc::{AllocError, Global};
 use std::collections::VecDeque;
 use transformers::Relation;
 
-/// The exchanges that end at this moment, and those that go on, some of which they outrun.
-pub fn sort_at<R: Relation>(
-    alloc: Global,
-    s: &mut State<R>,
-    moment: u64,
-) -> Result<Sorted, AllocError>
-    requires sound { IsSound s.old }
-    requires early { moment ≤ LAST_MOMENT }
-    ensures same { SeesSame s.old s.new }
-    ensures over { IfOk result (λ x. x.over.items ≡ timed_out moment (state_of s.old)) }
-    ensures still { IfOk result
-        (λ x. x.still.exchanges ≡ left_by s.old.journal.entries (timed_out moment (state_of s.old))
-        (filter (goes_on moment (state_of s.old)) s.old.exchanges.exchanges)) }
-{
-    let Sorted { over, mut still } = sort_by_end(alloc, &s.exchanges, &mut s.endpoints, moment)?;
-    outrun_all(&mut still, &s.journal, &over);
-    Ok(Sorted { over, still })
-}
-
-/// Drafts what a tick does that has something to do, and notes the first sendings at the
-/// exchanges that go on.
+/// Drafts what a tick does that has something to do.
 fn draft_tick<R: Relation>(
     alloc: Global,
     s: &State<R>,
     over: &[Exchange],
-    still: &mut Exchanges,
     turns: &VecDeque<Turn>,
     moment: u64,
 ) -> Result<Draft<R>, AllocError>
@@ -72,22 +51,31 @@ fn draft_tick<R: Relation>(
     requires timed { AreTimed turns.now.items }
     requires deeds { turns_deeds turns.now.items
         ≡ all_deeds moment (is_gone moment (state_of s.now)) (state_of s.now).links }
-    requires going { (n : ℕ) → turns_going n turns.now.items
-        ≡ all_going moment (is_gone moment (state_of s.now)) n (state_of s.now).links }
-    ensures drafted { IfOk result (λ d. IsDrafted moment (state_of s.now)
+    ensures { IfOk result (λ d. IsDrafted moment (state_of s.now)
         (tick_deeds moment (state_of s.now)) d) }
-    ensures going { OnOk result (still.new.exchanges ≡ sent_as (all_going moment
-        (is_gone moment (state_of s.now)) (length s.now.journal.entries + 1)
-        (state_of s.now).links) still.old.exchanges) }
 {
     let mut draft = start(alloc, s);
     draft.enter(Entry {
         moment,
         event: Event::Passed,
     })?;
-    draft_turns(&mut draft, still, turns, moment)?;
+    draft_turns(&mut draft, turns, moment)?;
     draft_timeouts(alloc, &mut draft, s, over, moment)?;
     Ok(draft)
+}
+
+/// The exchanges that end at this moment.
+fn find_over<R: Relation>(
+    alloc: Global,
+    s: &mut State<R>,
+    moment: u64,
+) -> Result<Vec<Exchange>, AllocError>
+    requires sound { IsSound s.old }
+    requires early { moment ≤ LAST_MOMENT }
+    ensures same { SeesSame s.old s.new }
+    ensures over { IfOk result (λ v. v.items ≡ timed_out moment (state_of s.old)) }
+{
+    over_at(alloc, &s.exchanges, &mut s.endpoints, moment)
 }
 
 /// Prepares the tick of the links.
@@ -130,8 +118,6 @@ pub struct Passing<R: Relation> {
     /// their tokens, and those of what is observed no more
     pub gone: Vec<Token>,
     pub turns: VecDeque<Turn>,
-    /// the exchanges that go on
-    pub still: Exchanges,
     pub draft: Draft<R>,
 }
 
@@ -152,24 +138,22 @@ pub fn prepare<R: Relation>(
     ensures ready { IfOk result
         (λ x. AreTurns moment x.gone.items s.new.endpoints.links s.new.endpoints.rooms
         x.turns.items) }
-    ensures still { IfOk result (λ x. x.still.exchanges ≡ sent_as (all_going moment
-        (is_gone moment (state_of s.old)) (length s.old.journal.entries + 1)
-        (state_of s.old).links)
-        (left_by s.old.journal.entries (timed_out moment (state_of s.old))
-        (filter (goes_on moment (state_of s.old)) s.old.exchanges.exchanges))) }
+    ensures deeds { IfOk result (λ x. turns_deeds x.turns.items
+        ≡ all_deeds moment (is_gone moment (state_of s.old)) (state_of s.old).links) }
+    ensures going { IfOk result (λ x. (n : ℕ) → turns_going n x.turns.items
+        ≡ all_going moment (is_gone moment (state_of s.old)) n (state_of s.old).links) }
     ensures drafted { IfOk result (λ x. IsDrafted moment (state_of s.old)
         (tick_deeds moment (state_of s.old)) x.draft) }
 {
-    let Sorted { over, mut still } = sort_at(alloc, s, moment)?;
+    let over = find_over(alloc, s, moment)?;
     let mut gone = tokens_of(alloc, &over)?;
     add_unwatched(&mut gone, s.watches.as_slice(), &s.journal, &over, moment)?;
     let turns = prepare_links(s, moment, &gone)?;
-    let draft = draft_tick(alloc, s, &over, &mut still, &turns, moment)?;
+    let draft = draft_tick(alloc, s, &over, &turns, moment)?;
     Ok(Passing {
         over,
         gone,
         turns,
-        still,
         draft,
     })
 }
@@ -177,14 +161,23 @@ pub fn prepare<R: Relation>(
 /// Does a tick as it was prepared.
 pub fn pass<R: Relation>(s: &mut State<R>, passing: Passing<R>, moment: u64)
     requires early { moment ≤ LAST_MOMENT }
+    requires digested { AllByRecursion (IsDigested s.old.journal.entries)
+        s.old.exchanges.exchanges }
+    requires over { passing.over.items ≡ timed_out moment (state_of s.old) }
     requires rising { RiseBy opening_of passing.over.items }
+    requires numbers { length s.old.journal.entries + 1
+        + length (turns_deeds passing.turns.items) ≤ 4294967295 }
     requires ready { AreTurns moment passing.gone.items
         s.old.endpoints.links s.old.endpoints.rooms passing.turns.items }
     requires places { HasPlaces s.old passing.draft }
     requires few { length s.old.journal.entries + length passing.draft.entries ≤ MAX_ENTRIES }
     requires ordered { IsOrdered (state_of s.old) }
     ensures state { state_of s.new ≡ moved_on moment (is_among passing.gone.items)
-        passing.over.items passing.still.exchanges passing.draft (state_of s.old) }
+        passing.over.items (sent_as
+        (turns_going (length s.old.journal.entries + 1) passing.turns.items)
+        (left_by s.old.journal.entries passing.over.items
+        (filter (goes_on moment (state_of s.old)) s.old.exchanges.exchanges)))
+        passing.draft (state_of s.old) }
     ensures bytes { s.new.bytes
         ≡ capped (s.old.bytes + capped (sum_by entry_size passing.draft.entries)) }
     ensures held { length s.old.conns.items + 1 ≤ s.new.journal.room }
@@ -195,13 +188,13 @@ pub fn pass<R: Relation>(s: &mut State<R>, passing: Passing<R>, moment: u64)
         over,
         gone,
         turns,
-        still,
         draft,
     } = passing;
     drop_unwatched(&mut s.watches, &s.journal, &over, moment);
     retire_all(&mut s.store, &s.journal, &over);
+    end_all(&mut s.exchanges, &s.journal, &over);
+    note_turns(&mut s.exchanges, &turns, s.journal.len() as u32 + 1);
     s.endpoints.tick(turns, moment, &gone);
-    s.exchanges = still;
     s.fetched.drop_all(&over);
     s.stales.drop_all(&over);
     state::commit(s, draft, moment);

@@ -1,9 +1,8 @@
 //! Asks whose exchanges took too long.
 
-ghost use Rattle.std.specs.Prelude.{◌≡◌, ◌≤◌, ◌+◌, ◌∷◌, ◌++◌, List, filter, length, map, IfOk, OnOk};
+ghost use Rattle.std.specs.Prelude.{◌≡◌, ◌≤◌, ◌+◌, ◌∷◌, ◌++◌, List, length, map, IfOk, OnOk};
 ghost use Rattle.std.specs.List.{AllByRecursion};
 ghost use Rattle.journal_book.specs.Entries.{Deed, Seals};
-ghost use Rattle.exchange_model.specs.Steps.{is_past};
 ghost use Rattle.exchange_model.specs.Calls.{told_late};
 ghost use Rattle.exchange_model.specs.Entering.{answer_of};
 ghost use Rattle.exchange_table.specs.Places.{RiseBy};
@@ -15,8 +14,8 @@ ghost use Rattle.exchange_core.specs.Sound.{IsSound};
 ghost use Rattle.exchange_core.specs.States.{state_of};
 
 use crate::draft::Draft;
-use crate::due::is_past;
 use crate::ending::{Telling, draft_tellings};
+use crate::expiring::past_exchanges;
 use crate::state::{State, start};
 use ask_model::Cause;
 use exchange_model::{Exchange, Reader};
@@ -51,6 +50,9 @@ fn out_of_time(
     ensures { IfOk result (λ v. v.items ≡ out_of_time exchanges.now readers.now) }
 {
     let mut told = VecDeque::new(alloc);
+    if exchanges.is_empty() {
+        return Ok(told);
+    }
     'each: for reader in readers {
         if let Some(telling) = late_to(exchanges, reader) {
             told.push_back(telling)?;
@@ -76,23 +78,6 @@ pub fn draft_timeouts<R: Relation>(
 {
     let told = out_of_time(alloc, exchanges, s.readers.as_slice())?;
     draft_tellings(draft, &s.journal, told, moment)
-}
-
-/// The exchanges that have been open for as long as they may.
-fn past_exchanges(
-    alloc: Global,
-    exchanges: &[Exchange],
-    moment: u64,
-) -> Result<Vec<Exchange>, AllocError>
-    ensures { IfOk result (λ v. v.items ≡ filter (is_past moment) exchanges.now) }
-{
-    let mut past = Vec::new(alloc);
-    'each: for e in exchanges {
-        if is_past(e, moment) {
-            past.push(*e)?;
-        }
-    }
-    Ok(past)
 }
 
 /// Drafts the answers to all who wait for exchanges that have been open for as long as they may.

@@ -4,7 +4,7 @@ ghost use Rattle.std.specs.Prelude.{◌≡◌, ◌≤◌, ◌+◌, ◌++◌, Lis
 ghost use Rattle.journal_book.specs.Entries.{Deed};
 ghost use Rattle.exchange_model.specs.State.{State as CoreState};
 ghost use Rattle.exchange_model.specs.Entering.{sent_as};
-ghost use Rattle.endpoint_table.specs.Turns.{going_first, deeds_of, going_of, turns_deeds, turns_going};
+ghost use Rattle.endpoint_table.specs.Turns.{deeds_of, going_of, turns_deeds, turns_going};
 ghost use Rattle.exchange_core.specs.Drafts.{Drafts};
 ghost use Rattle.exchange_core.specs.Turns.{AreTimed, IsTimedTurn};
 ghost use Rattle.exchange_core.specs.Sending.{IsTimed, sent_first};
@@ -18,10 +18,9 @@ use std::collections::VecDeque;
 use transformers::Relation;
 use uri_map::Peer;
 
-/// Drafts a first sending, and notes it.
+/// Drafts a first sending.
 fn draft_first<R: Relation>(
     draft: &mut Draft<R>,
-    going: &mut Exchanges,
     peer: Peer,
     next: &Option<FirstSending>,
     moment: u64,
@@ -33,22 +32,17 @@ fn draft_first<R: Relation>(
     ensures answers { OnOk result (draft.new.answers ≡ draft.old.answers) }
     ensures next { OnOk result
         (draft.new.next ≡ draft.old.next + length (sent_first peer next.now)) }
-    ensures going { OnOk result
-        (going.new.exchanges ≡ sent_as (going_first draft.old.next next.now) going.old.exchanges) }
 {
     if let Some(first) = next {
-        let number = draft.next();
         let timeout = first.message.timeout as u32;
         draft.send(moment, peer, first.datagram.as_slice(), Some(timeout))?;
-        going.note_sending(&first.message.token, number);
     }
     Ok(())
 }
 
-/// Drafts what a turn sends, and notes a first sending.
+/// Drafts what a turn sends.
 fn draft_turn<R: Relation>(
     draft: &mut Draft<R>,
-    going: &mut Exchanges,
     peer: Peer,
     turn: &Ticking,
     moment: u64,
@@ -60,21 +54,18 @@ fn draft_turn<R: Relation>(
     ensures answers { OnOk result (draft.new.answers ≡ draft.old.answers) }
     ensures next { OnOk result
         (draft.new.next ≡ draft.old.next + length (deeds_of peer turn.now)) }
-    ensures going { OnOk result
-        (going.new.exchanges ≡ sent_as (going_of draft.old.next turn.now) going.old.exchanges) }
 {
     match turn {
         Ticking::Rests => {}
         Ticking::Copies(bytes) => draft.send(moment, peer, bytes.as_slice(), None)?,
-        Ticking::GivesUp(_, next) => draft_first(draft, going, peer, next, moment)?,
+        Ticking::GivesUp(_, next) => draft_first(draft, peer, next, moment)?,
     }
     Ok(())
 }
 
-/// Drafts what the turns send, in order, and notes the first sendings.
+/// Drafts what the turns send, in order.
 pub fn draft_turns<R: Relation>(
     draft: &mut Draft<R>,
-    going: &mut Exchanges,
     turns: &VecDeque<Turn>,
     moment: u64,
 ) -> Result<(), AllocError>
@@ -83,12 +74,42 @@ pub fn draft_turns<R: Relation>(
     ensures drafts { (S : CoreState) (ds : List Deed) → Drafts moment S ds draft.old
         → OnOk result (Drafts moment S (ds ++ turns_deeds turns.now.items) draft.new) }
     ensures answers { OnOk result (draft.new.answers ≡ draft.old.answers) }
-    ensures going { OnOk result (going.new.exchanges
-        ≡ sent_as (turns_going draft.old.next turns.now.items) going.old.exchanges) }
 {
     'each: for place in 0..turns.len() {
         let turn = &turns[place];
-        draft_turn(draft, going, turn.peer, &turn.ticking, moment)?;
+        draft_turn(draft, turn.peer, &turn.ticking, moment)?;
     }
     Ok(())
+}
+
+/// Notes what a turn sends first, where its first entry has this number; how many stand before what
+/// is after it.
+fn note_turn(exchanges: &mut Exchanges, peer: Peer, turn: &Ticking, number: u32) -> u32
+    requires room { number + length (deeds_of peer turn.now) ≤ 4294967295 }
+    ensures next { result ≡ number + length (deeds_of peer turn.now) }
+    ensures going { exchanges.new.exchanges
+        ≡ sent_as (going_of number turn.now) exchanges.old.exchanges }
+{
+    match turn {
+        Ticking::Rests | Ticking::GivesUp(_, None) => number,
+        Ticking::Copies(_) => number + 1,
+        Ticking::GivesUp(_, Some(first)) => {
+            exchanges.note_sending(&first.message.token, number);
+            number + 1
+        }
+    }
+}
+
+/// Notes what the turns send first, where the first of their entries has this number. It takes no
+/// memory.
+pub fn note_turns(exchanges: &mut Exchanges, turns: &VecDeque<Turn>, number: u32)
+    requires { number + length (turns_deeds turns.now.items) ≤ 4294967295 }
+    ensures { exchanges.new.exchanges
+        ≡ sent_as (turns_going number turns.now.items) exchanges.old.exchanges }
+{
+    let mut next = number;
+    'each: for place in 0..turns.len() {
+        let turn = &turns[place];
+        next = note_turn(exchanges, turn.peer, &turn.ticking, next);
+    }
 }

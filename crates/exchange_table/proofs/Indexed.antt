@@ -15,12 +15,12 @@ use Rattle.exchange_model.specs.declared.kept.Work.{Work}
 use Rattle.exchange_model.specs.Steps.{continued, goes_so, got_by, is_other, is_under, newest_by, went_out, work_by}
 use Rattle.exchange_table.specs.declared.index.Named.{Named}
 use Rattle.exchange_table.specs.Places.{RiseBy, IsNowhere, IsOnlyAt}
-use Rattle.exchange_table.specs.Tables.{IsIndexed, IsLatest, IsNewest, has_number, is_named, is_opened_at, is_opened_in, name_of, named_anew, opening_in, opening_under, number_in, number_of, opening_of, carried_on, went_on}
+use Rattle.exchange_table.specs.Tables.{IsIndexed, IsLatest, IsNewest, has_number, is_named, is_opened_at, name_of, named_anew, opening_in, opening_under, number_in, number_of, opening_of, carried_on, went_on}
 use Rattle.exchange_table.proofs.Standing.{all-at, map-none, map-only, any-none, any-only, only-is, rise-filter, rise-map}
 use Rattle.exchange_table.proofs.Searching.{some-is, none-some, each-so, both-hold, filter-if, map-all, find-filter, or-first, or-second, any-if, any-filter, any-map, any-mapped, any-there, any-push, any-last, find-push, find-last, rise-push, same-as, unequal, eqb-not, all-of}
 
 -- Under a token stands what bears its number.
-under-number : (token : List ℕ) (e : Exchange) → is_under token e ≡ true → number_of e ≡ token_number token
+pub under-number : (token : List ℕ) (e : Exchange) → is_under token e ≡ true → number_of e ≡ token_number token
 under-number token e h = ap token_number ((bytes_eq-Decides e.token token).0 h)
 
 named-number : (x : Named) (e : Exchange) → is_named x e ≡ true → number_of e ≡ x.number
@@ -175,7 +175,7 @@ row-found es names token i d indexed only lt =
     ap (λ m. find (has_number m) names) (sym (under-number token (get_or es i d) (only-is (is_under token) es i d only)))
     ∙ all-at (λ (e : Exchange). find (has_number (number_of e)) names ≡ Some (name_of e)) es i d indexed.each lt
 
-one-opening : (names : List Named) (n : ℕ) (r e : Exchange) → find (has_number n) names ≡ Some (name_of r) → Found names e → number_of e ≡ n → e.opening ≡ r.opening
+pub one-opening : (names : List Named) (n : ℕ) (r e : Exchange) → find (has_number n) names ≡ Some (name_of r) → Found names e → number_of e ≡ n → e.opening ≡ r.opening
 one-opening names n r e found at same =
     ap (λ (x : Named). x.opening) (some-is (name_of e) (name_of r) (sym at ∙ ap (λ m. find (has_number m) names) same ∙ found))
 
@@ -342,67 +342,6 @@ went-so e next work first how same new (x ∷ es) = by (is_under e.token x) (wen
         → (cond b (carried_on next work first x) x ∷ map (went_on e.token next work first) es) ≡ (cond b (continued next how x) x ∷ map (goes_so e next how) es)
     by true ih = rw (ih) (ap (λ (y : Exchange). y ∷ map (goes_so e next how) es) here)
     by false ih = ap (λ (ys : List Exchange). x ∷ ys) ih
-
--- some of them
-
-opened-among : (q : Exchange → Bool) (es : List Exchange) (o n : ℕ) → list_any q es ≡ true → AllByRecursion (λ (e : Exchange). n < e.opening) es
-    → ((e : Exchange) → q e ≡ true → e.opening ≡ o) → n < o
-opened-among q [] o n h above tells = absurd (false≢true h)
-opened-among q (e ∷ es) o n h above tells = by (q e) refl h (λ k. opened-among q es o n k above.1 tells)
-  where
-    by : (b : Bool) → q e ≡ b → (b || list_any q es) ≡ true → (list_any q es ≡ true → n < o) → n < o
-    by true is k f = let same = tells e is in let lt = above.0 in omega (arith, same, lt)
-    by false is k f = f k
-
--- Of what was opened in one entry there is one.
-one-opened : (x : Named) (es : List Exchange) → RiseBy opening_of es → list_any (is_named x) es ≡ true
-    → AllByRecursion (λ (e : Exchange). is_opened_at x.opening e ≡ true → is_named x e ≡ true) es
-one-opened x [] rise h = tt
-one-opened x (e ∷ es) rise h = by (is_named x e) refl h (one-opened x es rise.1)
-  where
-    Ones : List Exchange → Type 0
-    Ones fs = AllByRecursion (λ (f : Exchange). is_opened_at x.opening f ≡ true → is_named x f ≡ true) fs
-
-    by : (b : Bool) → is_named x e ≡ b → (b || list_any (is_named x) es) ≡ true → (list_any (is_named x) es ≡ true → Ones es) → Ones (e ∷ es)
-    by true is k g = (
-      λ at. is,
-      all-more (λ (f : Exchange). e.opening < f.opening) (λ (f : Exchange). is_opened_at x.opening f ≡ true → is_named x f ≡ true) (λ (f : Exchange) less at. absurd (let here = named-opening x e is in let there = eqb-true f.opening x.opening at in omega (arith, less, here, there))) es rise.0,
-    )
-    by false is k g = (
-      λ at. absurd (let here = eqb-true e.opening x.opening at in let lt : e.opening < x.opening = opened-among (is_named x) es x.opening e.opening k rise.0 (named-opening x) in omega (arith, here, lt)),
-      g k,
-    )
-
-each-opened : (es : List Exchange) → AllByRecursion (λ (e : Exchange). is_opened_in es (name_of e) ≡ true) es
-each-opened [] = tt
-each-opened (e ∷ es) = (
-  or-first (is_opened_at e.opening e) (list_any (is_opened_at e.opening) es) (same-as e.opening e.opening refl),
-  all-more _ _ (λ (f : Exchange) h. or-second (is_opened_at f.opening e) (list_any (is_opened_at f.opening) es) h) es (each-opened es),
-)
-
-pub index-part : (keeps : Exchange → Bool) (es : List Exchange) (names : List Named) → IsIndexed es names
-    → IsIndexed (filter keeps es) (filter (is_opened_in (filter keeps es)) names)
-index-part keeps es names indexed = record {
-  openings = rise-filter opening_of keeps es indexed.openings;
-  numbers = rise-filter number_in (is_opened_in some) names indexed.numbers;
-  each = all-more (λ (e : Exchange). (find (has_number (number_of e)) names ≡ Some (name_of e)) × (is_opened_in some (name_of e) ≡ true))
-      (λ (e : Exchange). find (has_number (number_of e)) (filter (is_opened_in some) names) ≡ Some (name_of e))
-      (λ (e : Exchange) both. find-filter (has_number (number_of e)) (is_opened_in some) names (name_of e) both.0 both.1)
-      some (both-hold (λ (e : Exchange). find (has_number (number_of e)) names ≡ Some (name_of e)) (λ (e : Exchange). is_opened_in some (name_of e) ≡ true) some
-      (all-filter (λ (e : Exchange). find (has_number (number_of e)) names ≡ Some (name_of e)) keeps es indexed.each) (each-opened some));
-  none_beside = filter-if (λ (x : Named). list_any (is_named x) some ≡ true) (is_opened_in some) names
-      (each-so (λ (x : Named). is_opened_in some x ≡ true → list_any (is_named x) some ≡ true) names indexed.none_beside
-      (λ (x : Named) (named : list_any (is_named x) es ≡ true) (opened : is_opened_in some x ≡ true).
-      any-if (is_opened_at x.opening) (is_named x) some
-      (all-filter (λ (e : Exchange). is_opened_at x.opening e ≡ true → is_named x e ≡ true) keeps es (one-opened x es indexed.openings named)) opened));
-}
-  where
-    some : List Exchange
-    some = filter keeps es
-
-pub rows-part : (keeps : Exchange → Bool) (es : List Exchange) (names : List Named) (rows : List Exchange) (named : List Named) → IsIndexed es names
-    → rows ≡ filter keeps es → named ≡ filter (is_opened_in rows) names → IsIndexed rows named
-rows-part keeps es names rows named indexed is are = rw (are, is) (index-part keeps es names indexed)
 
 pub index-none : IsIndexed [] []
 index-none = record { openings = tt; numbers = tt; each = tt; none_beside = tt }

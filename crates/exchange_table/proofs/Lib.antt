@@ -9,3 +9,4 @@ mod Owning
 mod Marking
 mod Joined
 mod Among
+mod Leaving

@@ -16,7 +16,7 @@ use Rattle.exchange_model.specs.Steps.{asked_in, is_under, outdated_by, outrun_b
 use Rattle.exchange_table.specs.declared.index.Named.{Named}
 use Rattle.exchange_table.specs.declared.marks.Mark.{Mark}
 use Rattle.exchange_table.specs.Groups.{AreGrouped}
-use Rattle.exchange_table.specs.Marks.{AreMarked, IsTable, digest_in, has_digest, is_mark_of, is_marked_in, key_in, mark_by, opening_marked, place_in}
+use Rattle.exchange_table.specs.Marks.{AreMarked, IsTable, digest_in, has_digest, is_mark_of, key_in, mark_by, opening_marked, place_in}
 use Rattle.exchange_table.specs.Places.{RiseBy, IsOnlyAt}
 use Rattle.exchange_table.specs.Tables.{IsIndexed, carried_on, is_opened_at, opening_of, went_on}
 use Rattle.exchange_table.proofs.Grouping.{grouped-filter, only-there, through-groups}
@@ -162,61 +162,6 @@ pub rise-in-group : (n : Digests → ℕ) (d : ℕ) (es : List Exchange) (marks 
     → RiseBy opening_marked (filter (has_digest d) marks)
 rise-in-group n d es marks rise are =
     subst (λ (ms : List Mark). RiseBy opening_marked ms) (sym (are.same d)) (rise-filter opening_marked (has_digest d) (map (mark_by n) es) (rise-marks n es rise))
-
--- some of them
-
-any-of-kept : (keeps : Exchange → Bool) (es : List Exchange) (n : ℕ) → AllByRecursion (λ (e : Exchange). n < e.opening) es → list_any (is_opened_at n) (filter keeps es) ≡ false
-any-of-kept keeps [] n a = refl
-any-of-kept keeps (e ∷ es) n a = by (keeps e) (any-of-kept keeps es n a.1)
-  where
-    other : is_opened_at n e ≡ false
-    other = elim (eqb_tells e.opening n) [ inl w ↦ absurd (let above = a.0 in let same = w.1 in omega (arith, above, same)) | inr w ↦ w.0 ]
-
-    by : (b : Bool) → list_any (is_opened_at n) (filter keeps es) ≡ false → list_any (is_opened_at n) (cond b (e ∷ filter keeps es) (filter keeps es)) ≡ false
-    by true h = rw (other) h
-    by false h = h
-
-kept-in : (keeps : Exchange → Bool) (es : List Exchange) → RiseBy opening_of es → AllByRecursion (λ (e : Exchange). list_any (is_opened_at e.opening) (filter keeps es) ≡ keeps e) es
-kept-in keeps [] r = tt
-kept-in keeps (e ∷ es) r = by (keeps e) refl (kept-in keeps es r.1)
-  where
-    rest : (b : Bool) (f : Exchange) → e.opening < f.opening → list_any (is_opened_at f.opening) (filter keeps es) ≡ keeps f
-        → list_any (is_opened_at f.opening) (cond b (e ∷ filter keeps es) (filter keeps es)) ≡ keeps f
-    rest true f lt h = rw (below-other e.opening f.opening lt) h
-    rest false f lt h = h
-
-    tails : (b : Bool) → AllByRecursion (λ (f : Exchange). list_any (is_opened_at f.opening) (filter keeps es) ≡ keeps f) es
-        → AllByRecursion (λ (f : Exchange). list_any (is_opened_at f.opening) (cond b (e ∷ filter keeps es) (filter keeps es)) ≡ keeps f) es
-    tails b left =
-        all-more (λ (f : Exchange). (e.opening < f.opening) × (list_any (is_opened_at f.opening) (filter keeps es) ≡ keeps f))
-        (λ (f : Exchange). list_any (is_opened_at f.opening) (cond b (e ∷ filter keeps es) (filter keeps es)) ≡ keeps f) (λ f h. rest b f h.0 h.1) es
-        (both-hold (λ (f : Exchange). e.opening < f.opening) (λ (f : Exchange). list_any (is_opened_at f.opening) (filter keeps es) ≡ keeps f) es r.0 left)
-
-    by : (b : Bool) → keeps e ≡ b → AllByRecursion (λ (f : Exchange). list_any (is_opened_at f.opening) (filter keeps es) ≡ keeps f) es
-        → AllByRecursion (λ (f : Exchange). list_any (is_opened_at f.opening) (cond b (e ∷ filter keeps es) (filter keeps es)) ≡ keeps f) (e ∷ es)
-    by true is left = (or-first (is_opened_at e.opening e) (list_any (is_opened_at e.opening) (filter keeps es)) (same-as e.opening e.opening refl) ∙ sym is, tails true left)
-    by false is left = (any-of-kept keeps es e.opening r.0 ∙ sym is, tails false left)
-
-marked-part : (n : Digests → ℕ) (keeps : Exchange → Bool) (es : List Exchange) (marks : List Mark) (rows : List Exchange) (left : List Mark)
-    → RiseBy opening_of es → AreMarked n es marks → rows ≡ filter keeps es → left ≡ filter (is_marked_in rows) marks → AreMarked n rows left
-marked-part n keeps es marks rows left rise marked is are =
-    subst (λ (ms : List Mark). AreGrouped digest_in (map (mark_by n) rows) ms) (sym are)
-    (subst (λ (ms : List Mark). AreGrouped digest_in ms (filter (is_marked_in rows) marks)) kept
-    (grouped-filter digest_in (is_marked_in rows) (map (mark_by n) es) marks marked))
-  where
-    kept : filter (is_marked_in rows) (map (mark_by n) es) ≡ map (mark_by n) rows
-    kept = filter-mapped (is_marked_in rows) keeps (mark_by n) es
-        (subst (λ (fs : List Exchange). AllByRecursion (λ (e : Exchange). is_marked_in fs (mark_by n e) ≡ keeps e) es) (sym is) (kept-in keeps es rise))
-        ∙ ap (map (mark_by n)) (sym is)
-
-pub table-part : (keeps : Exchange → Bool) (es : List Exchange) (names : List Named) (keys places : List Mark) (rows : List Exchange) (named : List Named) (left lefts : List Mark)
-    → IsTable es names keys places → rows ≡ filter keeps es → IsIndexed rows named → left ≡ filter (is_marked_in rows) keys → lefts ≡ filter (is_marked_in rows) places
-    → IsTable rows named left lefts
-table-part keeps es names keys places rows named left lefts table is indexed are ares = record {
-  indexed = indexed;
-  keyed = marked-part key_in keeps es keys rows left table.indexed.openings table.keyed is are;
-  placed = marked-part place_in keeps es places rows lefts table.indexed.openings table.placed is ares;
-}
 
 pub table-none : IsIndexed [] [] → IsTable [] [] [] []
 table-none indexed = record {

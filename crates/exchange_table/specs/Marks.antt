@@ -1,13 +1,12 @@
 -- The marks of exchanges: digests of what they were opened for, by which those of one key, and
 -- those of one place, are found.
 use Rattle.std.specs.Prelude.{ℕ, ◌%◌, Bool, ◌==◌, List, map}
-use Rattle.std.specs.List.{list_any}
 use Rattle.cache_key.specs.declared.digest.Digests.{Digests}
 use Rattle.exchange_model.specs.declared.kept.Exchange.{Exchange}
 use Rattle.exchange_table.specs.declared.index.Named.{Named}
 use Rattle.exchange_table.specs.declared.marks.Mark.{Mark}
 use Rattle.exchange_table.specs.Groups.{AreGrouped}
-use Rattle.exchange_table.specs.Tables.{IsIndexed, is_opened_at}
+use Rattle.exchange_table.specs.Tables.{IsIndexed}
 
 abbrev pub digest_in : Mark → ℕ
 digest_in m = m.digest
@@ -31,9 +30,6 @@ place_in d = d.place % 4294967296
 -- the mark of an exchange by that of its digests
 abbrev pub mark_by : (Digests → ℕ) → Exchange → Mark
 mark_by n e = record { digest = n e.digests; opening = e.opening }
-
-abbrev pub is_marked_in : List Exchange → Mark → Bool
-is_marked_in es m = list_any (is_opened_at m.opening) es
 
 -- The marks are those of the exchanges, and those of one digest stand together.
 abbrev pub AreMarked : (Digests → ℕ) → List Exchange → List Mark → Type 0

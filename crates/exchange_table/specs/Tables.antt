@@ -38,9 +38,6 @@ opening_under n names = option_map opening_in (find (has_number n) names)
 abbrev pub is_named : Named → Exchange → Bool
 is_named x e = is_opened_at x.opening e && (number_of e == x.number)
 
-abbrev pub is_opened_in : List Exchange → Named → Bool
-is_opened_in es x = list_any (is_opened_at x.opening) es
-
 -- The name with this number is taken out, and one more of its exchange put last.
 abbrev pub named_anew : ℕ → ℕ → Option ℕ → List Named → List Named
 named_anew n next None names = names
@@ -58,6 +55,10 @@ pub record IsIndexed (es : List Exchange) (names : List Named) : Type 0 where
 -- The token was issued after those of all of these.
 abbrev pub IsNewest : List ℕ → List Exchange → Type 0
 IsNewest token es = AllByRecursion (λ (f : Exchange). number_of f < token_number token) es
+
+-- Its latest message goes under none of the tokens of these.
+abbrev pub is_under_none : List Exchange → Exchange → Bool
+is_under_none over e = not (list_any (λ (f : Exchange). is_under f.token e) over)
 
 -- It was opened after all of these, and its token issued after theirs.
 pub record IsLatest (e : Exchange) (es : List Exchange) : Type 0 where

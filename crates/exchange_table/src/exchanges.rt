@@ -1,12 +1,12 @@
 //! The table of open exchanges.
 
-ghost use Rattle.std.specs.Prelude.{◌≡◌, ◌∷◌, ◌++◌, [], Bool, true, false, filter, find, length, map, IfOk, OnErr, OnOk};
+ghost use Rattle.std.specs.Prelude.{◌≡◌, ◌∷◌, ◌++◌, [], Bool, true, false, filter, find, length, map, not, IfOk, OnErr, OnOk};
 ghost use Rattle.std.specs.Option.{option_copied};
 ghost use Rattle.exchange_model.specs.declared.kept.Exchange.{Exchange as Row};
 ghost use Rattle.std.specs.List.{AllByRecursion};
 ghost use Rattle.exchange_model.specs.Steps.{IsDigested, is_other, is_under, left_by, outdated_by, read_at, went_out};
 ghost use Rattle.exchange_table.specs.Joining.{is_joined_by};
-ghost use Rattle.exchange_table.specs.Tables.{IsLatest, IsNewest, went_on};
+ghost use Rattle.exchange_table.specs.Tables.{IsLatest, IsNewest, is_under_none, went_on};
 
 use crate::index::{self, Named};
 use crate::marks::{self, Mark};
@@ -184,20 +184,19 @@ impl Exchanges {
         );
     }
 
-    /// The table of those of its exchanges that are given, in order.
-    pub fn part(&self, alloc: Global, rows: Vec<Exchange>) -> Result<Exchanges, AllocError>
-        requires { (keeps : Row → Bool) × (rows.items ≡ filter keeps self.now.exchanges) }
-        ensures { IfOk result (λ t. t.exchanges ≡ rows.items) }
+    /// Takes out those of its exchanges that are given, each from its place. It takes no memory.
+    pub fn remove_all(&mut self, over: &[Exchange])
+        ensures others { self.new.exchanges ≡ filter (is_under_none over.now) self.old.exchanges }
+        ensures those { (ends : Row → Bool) → over.now ≡ filter ends self.old.exchanges
+            → self.new.exchanges ≡ filter (λ e. not (ends e)) self.old.exchanges }
     {
-        let names = index::names_of_rows(alloc, &self.names, &rows)?;
-        let keys = marks::marks_of_rows(alloc, &self.keys, &rows)?;
-        let places = marks::marks_of_rows(alloc, &self.places, &rows)?;
-        Ok(Exchanges {
-            rows,
-            names,
-            keys,
-            places,
-        })
+        rows::remove_all(
+            &mut self.rows,
+            &mut self.names,
+            &mut self.keys,
+            &mut self.places,
+            over,
+        );
     }
 
     /// The same exchanges.

@@ -1,14 +1,11 @@
 //! The index of the tokens of latest messages.
 
-ghost use Rattle.std.specs.Prelude.{◌≡◌, ◌<◌, None, IfSome, IfOk, filter, length, nat_lt, not, vec_capacity, vec_len};
+ghost use Rattle.std.specs.Prelude.{◌≡◌, ◌<◌, None, IfSome, filter, length, nat_lt, not, vec_capacity, vec_len};
 ghost use Rattle.history_laws.specs.Numbering.{token_number};
 ghost use Rattle.exchange_table.specs.Places.{RiseBy, IsOnlyAt, IsNowhere};
-ghost use Rattle.exchange_table.specs.Tables.{has_number, is_opened_in, named_anew, number_in, opening_of, opening_under};
+ghost use Rattle.exchange_table.specs.Tables.{has_number, named_anew, number_in, opening_under};
 
-use crate::places::is_opened;
 use coap_codec::Token;
-use exchange_model::Exchange;
-use std::alloc::{AllocError, Global};
 
 /// Which of the tokens that were issued an exchange's latest message goes under.
 #[derive(Clone, Copy)]
@@ -84,22 +81,4 @@ pub fn name_anew(names: &mut Vec<Named>, number: u32, next: u32)
             opening: name.opening,
         });
     }
-}
-
-/// The names of those exchanges that are among the rows.
-pub fn names_of_rows(
-    alloc: Global,
-    names: &[Named],
-    rows: &[Exchange],
-) -> Result<Vec<Named>, AllocError>
-    requires { RiseBy opening_of rows.now }
-    ensures { IfOk result (λ v. v.items ≡ filter (is_opened_in rows.now) names.now) }
-{
-    let mut some = Vec::new(alloc);
-    'each: for name in names {
-        if is_opened(rows, name.opening) {
-            some.push(*name)?;
-        }
-    }
-    Ok(some)
 }

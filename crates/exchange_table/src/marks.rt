@@ -1,17 +1,12 @@
 //! The marks of exchanges: so those that may have been opened for the same key, or the same place,
 //! are found without going through all.
 
-ghost use Rattle.std.specs.Prelude.{◌≡◌, ◌<◌, ◌%◌, ◌∷◌, ◌++◌, [], List, None, true, IfOk, IfSome, filter, length, nat_lt, not, vec_capacity, vec_len};
+ghost use Rattle.std.specs.Prelude.{◌≡◌, ◌<◌, ◌%◌, ◌∷◌, ◌++◌, [], List, None, true, IfSome, filter, length, nat_lt, not, vec_capacity, vec_len};
 ghost use Rattle.std.specs.List.{AllByRecursion};
 ghost use Rattle.exchange_table.specs.declared.marks.Mark.{Mark as Row};
 ghost use Rattle.exchange_table.specs.Groups.{AreGrouped, Ascend, IsFirstFrom};
-ghost use Rattle.exchange_table.specs.Marks.{digest_in, has_digest, is_mark_of, is_marked_in, opening_marked};
+ghost use Rattle.exchange_table.specs.Marks.{digest_in, has_digest, is_mark_of, opening_marked};
 ghost use Rattle.exchange_table.specs.Places.{RiseBy, IsOnlyAt, IsNowhere};
-ghost use Rattle.exchange_table.specs.Tables.{opening_of};
-
-use crate::places::is_opened;
-use exchange_model::Exchange;
-use std::alloc::{AllocError, Global};
 
 /// A digest of what an exchange was opened for, with its opening. It has eight bytes: where one
 /// comes or goes, what stands after it is moved.
@@ -99,22 +94,4 @@ pub fn take_mark(marks: &mut Vec<Mark>, digest: u32, opening: u32)
     if let Some(place) = mark_place(marked(marks.as_slice(), digest), opening) {
         marks.remove(first + place);
     }
-}
-
-/// The marks of those exchanges that are among the rows.
-pub fn marks_of_rows(
-    alloc: Global,
-    marks: &[Mark],
-    rows: &[Exchange],
-) -> Result<Vec<Mark>, AllocError>
-    requires { RiseBy opening_of rows.now }
-    ensures { IfOk result (λ v. v.items ≡ filter (is_marked_in rows.now) marks.now) }
-{
-    let mut some = Vec::new(alloc);
-    'each: for mark in marks {
-        if is_opened(rows, mark.opening) {
-            some.push(*mark)?;
-        }
-    }
-    Ok(some)
 }

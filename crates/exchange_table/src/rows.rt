@@ -6,7 +6,7 @@ ghost use Rattle.exchange_model.specs.Calls.{read_by};
 ghost use Rattle.exchange_model.specs.Steps.{is_other, is_under, read_at, went_out};
 ghost use Rattle.exchange_table.specs.Marks.{IsTable};
 ghost use Rattle.exchange_table.specs.Places.{RiseBy};
-ghost use Rattle.exchange_table.specs.Tables.{IsIndexed, IsNewest, carried_on, opening_of, went_on};
+ghost use Rattle.exchange_table.specs.Tables.{IsIndexed, IsNewest, carried_on, is_under_none, opening_of, went_on};
 
 use crate::index::{Named, drop_name, name_anew, number_of};
 use crate::marks::{Mark, half_of, take_mark};
@@ -118,5 +118,22 @@ pub fn remove(
         drop_name(names, number_of(token));
         take_mark(keys, half_of(gone.digests.key), gone.opening);
         take_mark(places, half_of(gone.digests.place), gone.opening);
+    }
+}
+
+/// Takes out the rows whose latest messages go under the tokens of these.
+pub fn remove_all(
+    rows: &mut Vec<Exchange>,
+    names: &mut Vec<Named>,
+    keys: &mut Vec<Mark>,
+    places: &mut Vec<Mark>,
+    over: &[Exchange],
+)
+    requires { IsTable rows.old.items names.old.items keys.old.items places.old.items }
+    ensures rows { rows.new.items ≡ filter (is_under_none over.now) rows.old.items }
+    ensures table { IsTable rows.new.items names.new.items keys.new.items places.new.items }
+{
+    'each: for exchange in over {
+        remove(rows, names, keys, places, &exchange.token);
     }
 }

@@ -4,9 +4,9 @@ use Rattle.exchange_model.specs.declared.kept.Exchange.{Exchange}
 use Rattle.exchange_model.specs.State.{State}
 use Rattle.exchange_model.specs.Steps.{expires, is_gone}
 use Rattle.exchange_model.specs.Calls.{told_late}
-use Rattle.exchange_model.specs.Entering.{Going, all_deeds, answer_of, sent_as}
+use Rattle.exchange_model.specs.Entering.{all_deeds, answer_of}
 use Rattle.exchange_model.specs.Keeping.{MayStep}
-use Rattle.endpoint_table.specs.Turns.{turns_deeds, turns_going}
+use Rattle.endpoint_table.specs.Turns.{turns_deeds}
 use Rattle.exchange_table.specs.Places.{RiseBy}
 use Rattle.exchange_table.specs.Tables.{opening_of}
 use Rattle.exchange_table.proofs.CallerLemmas.{rise-filter}
@@ -72,8 +72,8 @@ draft_timeouts-requires-clause-room g c =
     ≡ length (all_deeds t (is_gone t S) S.links) = ap length q.deeds in
     omega (arith, next, few, most, readers, count)
 
-pub returns-clause-drafted : goal.returns-clause-drafted
-returns-clause-drafted g c =
+pub returns : goal.returns
+returns g c =
     let t = c.args.moment in
     let S : State = state_of c.args.s.now in
     let passed : Drafts t S (Passes ∷ []) c.enter.new.self =
@@ -87,15 +87,3 @@ returns-clause-drafted g c =
     subst (λ (es : List Exchange). IsDrafted t S
     (Passes ∷ (ds ++ map answer_of (told_late es S.readers))) c.draft_timeouts.new.draft) c.requires.over
     (c.in_ok-draft_timeouts.ensures (Passes ∷ ds) (answers-none t S (Passes ∷ ds) _ whole none))
-
-pub returns-clause-going : goal.returns-clause-going
-returns-clause-going g c =
-    let t = c.args.moment in
-    let S : State = state_of c.args.s.now in
-    let passed : Drafts t S (Passes ∷ []) c.enter.new.self =
-    c.in_ok-enter.ensures.drafts S [] tt (c.start-draft.ensures.drafts t) in
-    c.in_ok-draft_turns.ensures.going
-    ∙ (ap (λ (n : ℕ). sent_as (turns_going n c.args.turns.now.items) c.args.still.now.exchanges)
-    passed.next
-    ∙ ap (λ (gs : List Going). sent_as gs c.args.still.now.exchanges)
-    (c.requires.going (length S.entries + 1)))

@@ -2,8 +2,9 @@ use Rattle.std.proofs.Common.{◌≡◌, ℕ, List, ◌++◌, map, sym, ap, subs
 use Rattle.observe_share.specs.declared.registration.Registration.{Registration}
 use Rattle.exchange_model.specs.declared.kept.Exchange.{Exchange}
 use Rattle.exchange_model.specs.State.{State}
-use Rattle.exchange_model.specs.Entering.{gone_tokens, tick_deeds, token_of}
-use Rattle.exchange_model.specs.Steps.{timed_out}
+use Rattle.exchange_model.specs.Entering.{all_deeds, all_going, gone_tokens, tick_deeds, token_of}
+use Rattle.exchange_model.specs.Steps.{is_gone, timed_out}
+use Rattle.endpoint_table.specs.Turns.{turns_deeds, turns_going}
 use Rattle.exchange_model.specs.Watching.{tokens_of}
 use Rattle.exchange_core.specs.Drafts.{IsDrafted}
 use Rattle.exchange_core.specs.States.{state_of}
@@ -13,14 +14,14 @@ use Rattle.exchange_core.proofs.passing.prepare.Goals as goal
 pub returns-clause-drafted : goal.returns-clause-drafted
 returns-clause-drafted g c =
     subst (λ (S : State). IsDrafted c.args.moment S (tick_deeds c.args.moment S) c.in_ok-draft.draft)
-    (c.in_ok-turns.ensures.same.state ∙ c.in_ok-over.ensures.same.state) c.in_ok-draft.ensures.drafted
+    (c.in_ok-turns.ensures.same.state ∙ c.in_ok-over.ensures.same.state) c.in_ok-draft.ensures
 
 -- The tokens of the exchanges that end come first, and then those of what is observed no more.
 pub returns-clause-gone : goal.returns-clause-gone
 returns-clause-gone g c =
     let t = c.args.moment in
     let S : State = state_of c.args.s.now in
-    let U : State = state_of c.sort_at.new.s in
+    let U : State = state_of c.find_over.new.s in
     let same : U ≡ S = c.in_ok-over.ensures.same.state in
     let over : c.deref.result.now ≡ timed_out t S = c.deref.ensures.value ∙ c.in_ok-over.ensures.over in
     let again : c.deref-2.result.now ≡ timed_out t S = c.deref-2.ensures.value ∙ c.in_ok-over.ensures.over in
@@ -36,7 +37,7 @@ pub prepare_links-requires-clause-gone : goal.prepare_links-requires-clause-gone
 prepare_links-requires-clause-gone g c =
     let t = c.args.moment in
     let S : State = state_of c.args.s.now in
-    let U : State = state_of c.sort_at.new.s in
+    let U : State = state_of c.find_over.new.s in
     let same : U ≡ S = c.in_ok-over.ensures.same.state in
     let over : c.deref.result.now ≡ timed_out t S = c.deref.ensures.value ∙ c.in_ok-over.ensures.over in
     let again : c.deref-2.result.now ≡ timed_out t S = c.deref-2.ensures.value ∙ c.in_ok-over.ensures.over in
@@ -48,3 +49,15 @@ prepare_links-requires-clause-gone g c =
     ∙ ap (λ (rs : List Registration). map token_of (timed_out t S) ++ tokens_of (is_unwatched_by t U.entries (timed_out t S)) rs) c.as_slice.ensures.all
     ∙ ap (λ (V : State). map token_of (timed_out t S) ++ tokens_of (is_unwatched_by t V.entries (timed_out t S)) V.watches) same
     ∙ ap (gone_tokens t) (sym same))
+
+pub returns-clause-deeds : goal.returns-clause-deeds
+returns-clause-deeds g c =
+    let t = c.args.moment in
+    subst (λ (S : State). turns_deeds c.in_ok-turns.turns.items ≡ all_deeds t (is_gone t S) S.links)
+    c.in_ok-over.ensures.same.state c.in_ok-turns.ensures.deeds
+
+pub returns-clause-going : goal.returns-clause-going
+returns-clause-going g c =
+    let t = c.args.moment in
+    subst (λ (S : State). (n : ℕ) → turns_going n c.in_ok-turns.turns.items ≡ all_going t (is_gone t S) n S.links)
+    c.in_ok-over.ensures.same.state c.in_ok-turns.ensures.going

@@ -12,6 +12,7 @@ use Rattle.exchange_core.specs.Drafts.{IsDrafted}
 use Rattle.exchange_core.specs.States.{state_of}
 use Rattle.exchange_core.proofs.Ordered.{exchanges-ordered}
 use Rattle.exchange_core.proofs.Readers.{all-asked, few-readers}
+use Rattle.exchange_core.proofs.Sinces.{open-later}
 use Rattle.exchange_core.proofs.Sounding.{place-left}
 use Rattle.exchange_core.proofs.timeouts.draft_past.Goals as goal
 
@@ -42,3 +43,6 @@ returns g c = λ ds h.
     subst (λ (es : List Exchange). OnOk c.draft_timeouts.result
     (IsDrafted t S (ds ++ map answer_of (told_late es S.readers)) c.draft_timeouts.new.draft)) past
     (c.draft_timeouts.ensures ds h)
+
+pub past_exchanges-requires : goal.past_exchanges-requires
+past_exchanges-requires g c = rw (c.as_slice.ensures.all) (open-later (state_of c.args.s.now) c.requires.sound.kept.kept)

@@ -5,7 +5,7 @@ use Rattle.endpoint_table.specs.Turns.{deeds_of, turns_deeds}
 use Rattle.exchange_core.specs.Drafts.{Drafts}
 use Rattle.exchange_core.specs.Turns.{AreTimed}
 use Rattle.exchange_core.proofs.TickDue.{drop-at}
-use Rattle.exchange_core.proofs.TickTurns.{room-step, going-step, turns-take}
+use Rattle.exchange_core.proofs.TickTurns.{room-step, turns-take}
 use Rattle.exchange_core.proofs.turns.draft_turns.Goals as goal
 
 pub each-preserved : goal.each-preserved
@@ -31,7 +31,4 @@ each-preserved g c =
           ∙ ap (λ (es : List Deed). ds ++ es) (sym (turns-take ks i k lt c.index-turn.ensures)))
           (e.drafts S (ds ++ turns_deeds (take i ks)) (c.each.invariant.drafts S ds h));
       answers = e.answers ∙ c.each.invariant.answers;
-      going = going-step c.each.draft.next c.draft_turn.new.draft.next k (drop (i + 1) ks)
-          (drop i ks) left e.next c.each.going.exchanges c.draft_turn.new.going.exchanges _ e.going
-          c.each.invariant.going;
     }

@@ -1,8 +1,7 @@
 use Rattle.std.proofs.Common.{◌≡◌, ◌+◌, ◌≤◌, ◌++◌, List, length, take, drop}
 use Rattle.journal_book.specs.Entries.{Deed}
 use Rattle.exchange_model.specs.State.{State}
-use Rattle.exchange_model.specs.Entering.{sent_as}
-use Rattle.endpoint_table.specs.Turns.{turns_deeds, turns_going}
+use Rattle.endpoint_table.specs.Turns.{turns_deeds}
 use Rattle.exchange_core.specs.Drafts.{Drafts}
 use Rattle.exchange_core.specs.Turns.{AreTimed}
 use Rattle.exchange_core.proofs.turns.draft_turns.Given as goal
@@ -14,6 +13,4 @@ invariant-each g l = record {
   drafts : (S : State) (ds : List Deed) → Drafts l.moment S ds l.initial.draft
       → Drafts l.moment S (ds ++ turns_deeds (take l.place l.turns.items)) l.draft;
   answers : l.draft.answers ≡ l.initial.draft.answers;
-  going : sent_as (turns_going l.draft.next (drop l.place l.turns.items)) l.going.exchanges
-      ≡ sent_as (turns_going l.initial.draft.next l.turns.items) l.initial.going.exchanges;
 }
