@@ -1,5 +1,5 @@
 -- A message is executed at most once.
-use Rattle.std.proofs.Common.{◌≡◌, ℕ, ◌+◌, ◌<◌, ◌≤◌, List, Option, Some, refl, subst, arith}
+use Rattle.std.proofs.Common.{◌≡◌, ℕ, ◌+◌, ◌<◌, ◌≤◌, inl, inr, List, Option, Some, refl, subst, arith}
 use Rattle.std.specs.Prelude.{slice_get}
 use Rattle.limits.specs.declared.TheConstants.{EXCHANGE_LIFETIME}
 use Rattle.coap_codec.specs.Spelling.{Content, Spells}
@@ -29,15 +29,18 @@ pub arrives : (R : Relation) (l : List Noted) (device proxy p : Peer) (s : Devic
     → c.event ≡ heard u proxy d k → Spells m d → (t ≤ u) × (u ≤ t + LONGEST_SENDING + LONGEST_WAY)
 arrives R l device proxy p s cs t o i a u m c d k n f e comes spelled =
     let brought = all-at (λ (c : Call). IsBrought l device proxy c.event) cs a c n.brought e in
-    let by = (subst (λ (v : Event). IsBrought l device proxy v) comes brought) refl in
-    let sends : SendsMessage l by.number by.moment device m =
-    record { bytes = d; timeout = by.timeout; note = by.note; stands = by.stands; spelled = spelled } in
-    let within = sent-within l t o i by.number by.moment p device m n.legal n.punctual f sends in
-    let low = within.0 in
-    let high = within.1 in
-    let after = by.after in
-    let way = by.within in
-    (omega (arith, low, after), omega (arith, high, way))
+    elim ((subst (λ (v : Event). IsBrought l device proxy v) comes brought) refl) [
+      | inl by ↦
+          let sends : SendsMessage l by.number by.moment device m =
+          record { bytes = d; timeout = by.timeout; note = by.note; stands = by.stands; spelled = spelled } in
+          let within = sent-within l t o i by.number by.moment p device m n.legal n.punctual f sends in
+          let low = within.0 in
+          let high = within.1 in
+          let after = by.after in
+          let way = by.within in
+          (omega (arith, low, after), omega (arith, high, way))
+      | inr other ↦ absurd (other t o i p m m f (message_again m d spelled) refl)
+    ]
 
 executed-of : (R : Relation) (proxy : Peer) (m : Content) (c : Call) → (x : Executes proxy m c) → Steps R c.event c.before c.after
     → Executed R x.moment proxy m.mid c.before c.after

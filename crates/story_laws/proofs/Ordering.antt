@@ -1,9 +1,10 @@
 -- A reply to a GET shows what the writes did that were answered before its message was sent.
-use Rattle.std.proofs.Common.{◌≡◌, ◌≢◌, ℕ, ◌/◌, ◌<◌, ◌≤◌, List, [], Option, Some, arith}
+use Rattle.std.proofs.Common.{◌≡◌, ◌≢◌, ℕ, ◌/◌, ◌<◌, ◌≤◌, inl, inr, List, [], Option, Some, refl, arith}
 use Rattle.uri_map.specs.declared.peer.Peer.{Peer}
 use Rattle.coap_codec.specs.Spelling.{Content}
 use Rattle.coap_codec.specs.Values.{values}
 use Rattle.coap_codec.specs.declared.block.Block.{Block}
+use Rattle.coap_codec.proofs.Again.{message_again}
 use Rattle.blockwise.specs.Joins.{DownloadsJoin}
 use Rattle.ask_model.specs.Requests.{CoapRequest}
 use Rattle.journal_book.specs.Entries.{Live, Answers, Written}
@@ -35,20 +36,23 @@ module _ (R : Relation) (h : List Written) (device proxy : Peer) (block : ℕ) (
   module _ (b : Option Block) (i : ℕ) (m : Content) (state : List ℕ) (x : IsSentFor h k q b i m)
       (shown : ShowsHeld x.moment proxy (fresh block resources) cs m state) where
     -- it was sent before the device heard it
-    sent-first : calls_before i ≤ shown.place
+    pub sent-first : calls_before i ≤ shown.place
     sent-first =
         let first = first-sent s.reading h i x.moment q.peer m s.legal s.entries_are x.first in
-        let came = order.brought shown.place shown.moment shown.datagram shown.taken shown.call shown.stands shown.comes in
-        let after = sent-after s.reading x.moment first.0 i came.0.number came.0.moment q.peer device m s.legal first.1 (record {
-          bytes = shown.datagram;
-          timeout = came.0.timeout;
-          note = came.0.note;
-          stands = came.0.stands;
-          spelled = shown.spelled;
-        }) in
-        let rise = order.rises i came.0.number after in
-        let late = came.1 in
-        omega (arith, rise, late)
+        elim (order.brought shown.place shown.moment shown.datagram shown.taken shown.call shown.stands shown.comes) [
+          | inl came ↦
+              let after = sent-after s.reading x.moment first.0 i came.0.number came.0.moment q.peer device m s.legal first.1 (record {
+                bytes = shown.datagram;
+                timeout = came.0.timeout;
+                note = came.0.note;
+                stands = came.0.stands;
+                spelled = shown.spelled;
+              }) in
+              let rise = order.rises i came.0.number after in
+              let late = came.1 in
+              omega (arith, rise, late)
+          | inr other ↦ absurd (other x.moment first.0 i q.peer m m first.1 (message_again m shown.datagram shown.spelled) refl)
+        ]
 
     done-first : AreDoneBefore h device proxy cs k shown.place
     done-first n t c o js answered r changes to class le =

@@ -158,10 +158,13 @@ pub heard-it : (l : List Noted) (device proxy : Peer) (cs : List Call) (a t o i 
     → (n ≡ m) × Spells m d
 heard-it l device proxy cs a t o i u p m n c d k legal brought f e comes reads asks token =
     let all = all-at (λ (c : Call). IsBrought l device proxy c.event) cs a c brought e in
-    let by : IsDelivered l device u d = (subst (λ (v : Event). IsBrought l device proxy v) comes all) refl in
-    let it = heard-spelled l device u d n legal by reads asks in
-    let same = token-same l t o i p m n d legal f it token in
-    (same, subst (λ (c : Content). Spells c d) same it.spelled)
+    elim ((subst (λ (v : Event). IsBrought l device proxy v) comes all) refl) [
+      | inl by ↦
+          let it = heard-spelled l device u d n legal by reads asks in
+          let same = token-same l t o i p m n d legal f it token in
+          (same, subst (λ (c : Content). Spells c d) same it.spelled)
+      | inr other ↦ absurd (other t o i p m n f reads token)
+    ]
 
 -- what it says of a request but a GET, if that is success and not 2.31, was executed
 said : (R : Relation) (before : Device) (m : Content) (taken : Option Taken) (code : ℕ) (options : List Entry) (payload : List ℕ)

@@ -1,11 +1,13 @@
 -- A network between a proxy and a device, which loses, repeats and delays what they send.
-use Rattle.std.specs.Prelude.{◌≡◌, ℕ, ◌+◌, ◌≤◌, List, [], ◌∷◌, take, slice_get, Option, Some, ⊤}
+use Rattle.std.specs.Prelude.{◌≡◌, ◌≢◌, ◌⊎◌, ℕ, ◌+◌, ◌≤◌, List, [], ◌∷◌, take, slice_get, Option, Some, Ok, ⊤}
 use Rattle.std.specs.List.{AllByRecursion, Contains}
-use Rattle.coap_codec.specs.Spelling.{Content, Spells}
+use Rattle.coap_codec.specs.Reading.{message_at}
+use Rattle.coap_codec.specs.Spelling.{Content}
 use Rattle.uri_map.specs.declared.peer.Peer.{Peer}
 use Rattle.journal_book.specs.Entries.{Sends, Hears}
 use Rattle.history_laws.specs.Readings.{Noted, Note, noted, at}
 use Rattle.history_laws.specs.Justified.{Legal}
+use Rattle.history_laws.specs.Laws.{IsFirst}
 use Rattle.demo_origin.specs.Calls.{Call, Follow, left_by}
 use Rattle.demo_origin.specs.Once.{Event, heard, looked, gave}
 use Rattle.demo_origin.specs.Origins.{fresh}
@@ -27,9 +29,17 @@ pub record IsDelivered (l : List Noted) (device : Peer) (t : ℕ) (datagram : Li
   pub after : moment ≤ t
   pub within : t ≤ moment + LONGEST_WAY
 
--- So did all that the device hears from it.
+-- Or it was sent by the proxy before this history began, or after it ended: under the token of no
+-- message that this history first sent.
+abbrev pub IsForeign : List Noted → List ℕ → Type 0
+IsForeign l datagram =
+    (t o i : ℕ) (p : Peer) (m n : Content)
+    → IsFirst l t o i p m → message_at datagram ≡ Ok n → n.token ≢ m.token
+
+-- So it is of all that the device hears from it.
 abbrev pub IsBrought : List Noted → Peer → Peer → Event → Type 0
-IsBrought l device proxy (heard t p datagram taken) = p ≡ proxy → IsDelivered l device t datagram
+IsBrought l device proxy (heard t p datagram taken) =
+    p ≡ proxy → IsDelivered l device t datagram ⊎ IsForeign l datagram
 IsBrought l device proxy e = ⊤
 
 -- the moment after a call
@@ -44,7 +54,7 @@ AreTimed s [] = ⊤
 AreTimed s (c ∷ cs) = (s ≤ moment_after s c.event) × AreTimed (moment_after s c.event) cs
 
 -- The proxy's history is legal and its copies are punctual; the device's calls follow from one
--- another, and what it hears from the proxy is what that sent.
+-- another, and what it hears from the proxy is what that sent, in this history or in another one.
 pub record Networks (R : Relation) (l : List Noted) (device proxy : Peer) (s : Device)
     (cs : List Call) : Type 0 where
   pub legal : Legal l

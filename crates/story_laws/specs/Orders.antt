@@ -1,6 +1,6 @@
 -- What a reply to a GET shows of writes that were answered before it was asked for, whatever the
 -- network does.
-use Rattle.std.specs.Prelude.{◌≡◌, ◌≢◌, ℕ, ◌/◌, ◌<◌, ◌≤◌, List, [], slice_get, Option, Some}
+use Rattle.std.specs.Prelude.{◌≡◌, ◌≢◌, ◌⊎◌, ℕ, ◌/◌, ◌<◌, ◌≤◌, List, [], slice_get, Option, Some}
 use Rattle.coap_codec.specs.Spelling.{Content}
 use Rattle.coap_codec.specs.Values.{values}
 use Rattle.coap_codec.specs.declared.block.Block.{Block}
@@ -18,7 +18,7 @@ use Rattle.demo_origin.specs.Origins.{fresh}
 use Rattle.demo_origin.specs.Values.{Device, Relation}
 use Rattle.demo_origin.specs.declared.execution.Taken.{Taken}
 use Rattle.demo_origin.specs.declared.state.Held.{Held}
-use Rattle.story_laws.specs.Networks.{IsDelivered, IsGiven, Networks}
+use Rattle.story_laws.specs.Networks.{IsDelivered, IsForeign, IsGiven, Networks}
 use Rattle.story_laws.specs.Posts.{IsDoneOnce}
 use Rattle.story_laws.specs.Reads.{AreNew, AskQuietly, ShowsHeld, ShowsWhole}
 
@@ -30,7 +30,8 @@ pub record IsOrdered (l : List Noted) (device proxy : Peer) (s : Device) (cs : L
   pub rises : (i j : ℕ) → i ≤ j → calls_before i ≤ calls_before j
   pub brought : (a t : ℕ) (datagram : List ℕ) (taken : Option Taken) (c : Call)
       → slice_get cs a ≡ Some c → c.event ≡ heard t proxy datagram taken
-      → (d : IsDelivered l device t datagram) × (calls_before d.number ≤ a)
+      → ((d : IsDelivered l device t datagram) × (calls_before d.number ≤ a))
+      ⊎ IsForeign l datagram
   pub given : (n t : ℕ) (bytes : List ℕ) (note : Note)
       → at l n ≡ Some (noted t (Hears device bytes) note)
       → (g : IsGiven s cs proxy bytes) × (g.count ≤ calls_before n)
