@@ -1,5 +1,5 @@
 -- A POST of a story that was answered by success was executed exactly once.
-use Rattle.std.proofs.Common.{◌≡◌, ℕ, ◌≤◌, List, length, Option, Some, None, refl, sym, ap, subst, ◌∙◌, arith}
+use Rattle.std.proofs.Common.{◌≡◌, ℕ, ◌≤◌, inl, inr, List, [], ◌∷◌, length, map, take, Option, Some, None, refl, sym, ap, subst, ◌∙◌, arith}
 use Rattle.std.specs.Prelude.{slice_get, unwrap_or, Result, Ok, Err, IfOk}
 use Rattle.std.specs.List.{AllByRecursion}
 use Rattle.coap_codec.specs.Spelling.{Content, Spells}
@@ -13,6 +13,7 @@ use Rattle.history_laws.specs.Readings.{Note, noted, at}
 use Rattle.history_laws.proofs.CallerLemmas.{at-entries, none-some, some-is}
 use Rattle.history_claims.specs.Headline.{IsEntry}
 use Rattle.demo_origin.specs.Calls.{Call}
+use Rattle.demo_origin.specs.Done.{told_in}
 use Rattle.demo_origin.specs.Once.{Event, heard, looked, gave}
 use Rattle.demo_origin.specs.Origins.{fresh}
 use Rattle.demo_origin.specs.Values.{Device, Relation}
@@ -20,36 +21,58 @@ use Rattle.demo_origin.specs.declared.execution.Taken.{Taken}
 use Rattle.demo_origin.specs.declared.state.Held.{Held}
 use Rattle.story_laws.specs.Executions.{Executes}
 use Rattle.story_laws.specs.Lateness.{ArePunctual}
-use Rattle.story_laws.specs.Networks.{IsDelivered, IsBrought, Networks, AreGiven}
+use Rattle.story_laws.specs.Networks.{IsDelivered, IsForeign, IsBrought, Networks, AreGiven}
 use Rattle.story_laws.specs.Orders.{IsOrdered}
 use Rattle.story_laws.specs.Posts.{IsDoneOnce, PostsOnce as Law}
 use Rattle.story_laws.proofs.Pacing.{AreTimely}
 use Rattle.story_laws.proofs.Posting.{noted-at}
 use Rattle.gateway_model.specs.Emissions.{Emission}
+use Rattle.gateway_world.specs.Journals.{EachJournal}
 use Rattle.three_parties.specs.Flights.{Going, device_at, proxy_at}
-use Rattle.three_parties.specs.Promises.{KeepsJournal, IsOf, IsExecutedOnce, PostsOnce, PostsOnceInTime}
+use Rattle.three_parties.specs.Promises.{IsOf, IsExecutedOnce, PostsOnce, PostsOnceInTime}
 use Rattle.three_parties.specs.Scenes.{Scene}
 use Rattle.three_parties.specs.Stories.{IsStory, opening}
 use Rattle.three_parties.specs.Ticks.{LooksInTime}
 use Rattle.three_parties.specs.declared.story.Execution.{Execution}
 use Rattle.three_parties.specs.declared.turn.Turn.{Turn}
 use Rattle.three_parties.proofs.Calls.{is-given}
+use Rattle.three_parties.proofs.Foreign.{IsApart, foreign}
+use Rattle.three_parties.proofs.Bearing.{AreIssued}
 use Rattle.three_parties.proofs.Knowing.{Known, known-none}
 use Rattle.three_parties.proofs.Lists.{all-from, got-below, got-in}
-use Rattle.three_parties.proofs.Looking.{in-time, punctual-in}
-use Rattle.three_parties.proofs.Orders.{IsGivenBefore, IsSentBefore, Order}
+use Rattle.three_parties.proofs.Looking.{AreAllTimely, in-time, punctual-in}
+use Rattle.three_parties.proofs.Chapters.{ArePast, Chapter, IsGivenBefore, IsPast, IsSentBefore, taken_of}
+use Rattle.three_parties.proofs.Orders.{given_in, now-past}
+use Rattle.three_parties.proofs.Parts.{each-journal}
 use Rattle.three_parties.proofs.Tales.{IsDone, IsDoneBy, Tale}
 use Rattle.three_parties.proofs.Telling.{turns-told}
 
-module _ (R : Relation) (first : Device) (s : Scene) (known : Known R first s) (stands : Stands s.world.core.state.entries)
-    (punctual : ArePunctual stands.reading) where
-  abbrev h : List Written
-  h = s.world.core.state.entries
+-- One journal of a story: which of the calls went before its entries, and that what the device heard of another one bears none of its tokens.
+pub record Book (R : Relation) (first : Device) (s : Scene) (h : List Written) : Type 0 where
+  pub tale : Tale R first s
+  pub lo : ℕ
+  pub hi : ℕ
+  pub issued : AreIssued lo hi h
+  pub begun : ℕ
+  pub order : Chapter (IsApart lo hi) begun first s.flights tale.calls h
+  pub tells : told_in tale.calls ≡ map taken_of s.taken
+  pub ranks : (e a : ℕ) → slice_get tale.places e ≡ Some a → length (told_in (take a tale.calls)) ≡ e
 
+abbrev pub book-of : (R : Relation) (first : Device) (s : Scene) (known : Known R first s) (top : ℕ) (h : List Written) → IsPast first s.flights known.tale.calls top h
+    → Book R first s h
+book-of R first s known top h p =
+    record { tale = known.tale; lo = p.lo; hi = p.hi; issued = p.issued; begun = p.begun; order = p.chapter; tells = known.order.tells; ranks = known.order.ranks }
+
+pub book-now : (R : Relation) (first : Device) (s : Scene) → Known R first s → Stands s.world.core.state.entries → Book R first s s.world.core.state.entries
+book-now R first s known stands =
+    book-of R first s known s.world.core.state.issued s.world.core.state.entries (now-past first s known.tale.calls known.tale.places known.order stands)
+
+module _ (R : Relation) (first : Device) (s : Scene) (h : List Written) (known : Book R first s h) (stands : Stands h)
+    (punctual : ArePunctual stands.reading) where
   abbrev tale : Tale R first s
   tale = known.tale
 
-  abbrev order : Order first s known.tale.calls known.tale.places
+  abbrev order : Chapter (IsApart known.lo known.hi) known.begun first s.flights known.tale.calls h
   order = known.order
 
   abbrev delivered : (a t : ℕ) (d : List ℕ) → IsSentBefore h order.counts a t d → IsDelivered stands.reading device_at t d
@@ -64,11 +87,15 @@ module _ (R : Relation) (first : Device) (s : Scene) (known : Known R first s) (
         within = b.within;
       }
 
+  other : (d : List ℕ) → IsApart known.lo known.hi d → IsForeign stands.reading d
+  other d = foreign stands.reading known.lo known.hi d stands.legal (subst (AreIssued known.lo known.hi) (sym stands.entries_are) known.issued)
+
   brought : (a : ℕ) (c : Call) → slice_get tale.calls a ≡ Some c → IsBrought stands.reading device_at proxy_at c.event
   brought a c e = by c.event refl
     where
       by : (v : Event) → c.event ≡ v → IsBrought stands.reading device_at proxy_at v
-      by (heard t p d k) is = λ from. delivered a t d (order.sent_first a t p d k c e is)
+      by (heard t p d k) is = λ from.
+          elim (order.sent_first a t p d k c e is) [ inl b ↦ inl (delivered a t d b) | inr b ↦ inr (other d b) ]
       by (looked t) is = tt
       by gave is = tt
 
@@ -97,6 +124,14 @@ module _ (R : Relation) (first : Device) (s : Scene) (known : Known R first s) (
   before-is : (i a : ℕ) → slice_get order.counts i ≡ Some a → calls_before i ≡ a
   before-is i a e = ap (λ (o : Option ℕ). unwrap_or o (length tale.calls)) e
 
+  -- none fewer than there were before the journal
+  pub calls-least : (i : ℕ) → known.begun ≤ calls_before i
+  calls-least i = by (slice_get order.counts i) refl
+    where
+      by : (v : Option ℕ) → slice_get order.counts i ≡ v → known.begun ≤ unwrap_or v (length tale.calls)
+      by (Some a) e = order.least i a e
+      by None e = order.started
+
   rises : (i j : ℕ) → i ≤ j → calls_before i ≤ calls_before j
   rises i j le = by (slice_get order.counts i) (slice_get order.counts j) refl refl
     where
@@ -114,8 +149,10 @@ module _ (R : Relation) (first : Device) (s : Scene) (known : Known R first s) (
   ordered = record {
     rises = rises;
     brought = λ a t d k c e is.
-        let b = order.sent_first a t proxy_at d k c e is in
-        (delivered a t d b, subst (λ (x : ℕ). x ≤ a) (sym (before-is b.number b.count b.counted)) b.before);
+        elim (order.sent_first a t proxy_at d k c e is) [
+          | inl b ↦ inl (delivered a t d b, subst (λ (x : ℕ). x ≤ a) (sym (before-is b.number b.count b.counted)) b.before)
+          | inr b ↦ inr (other d b)
+        ];
     given = λ n t bytes note e.
         let g = heard-entry n t bytes note e in
         (is-given first tale.calls proxy_at bytes g.given, subst (λ (x : ℕ). length g.given.front ≤ x) (sym (before-is n g.count g.counted)) g.before);
@@ -183,29 +220,48 @@ module _ (R : Relation) (first : Device) (s : Scene) (known : Known R first s) (
 -- A story of a device that is a new one.
 module _ (holds : Form → Form → List ℕ → List ℕ → Type 0) (takes : Form → Form → List ℕ → Type 0) (R : Relation)
     (rules : Rules) (block : ℕ) (resources : List Held) (turns : List Turn) (out : List Emission) (flights : List Going) (h : List Written) (last : Device)
-    (taken : List Execution) (story : IsStory holds takes R rules (fresh block resources) turns out flights h last taken)
-    (keeps : AllByRecursion KeepsJournal turns) where
+    (taken : List Execution) (story : IsStory holds takes R rules (fresh block resources) turns out flights h last taken) where
   abbrev pub at_end : Scene
   at_end = record { moment = story.moment; world = story.world; device = last; out = out; flights = flights; taken = taken }
 
   pub known-then : Known R (fresh block resources) at_end
   known-then =
-      turns-told holds takes R (fresh block resources) turns (opening rules (fresh block resources)) at_end keeps story.is (known-none R rules (fresh block resources))
+      turns-told holds takes R (fresh block resources) turns (opening rules (fresh block resources)) at_end story.is (known-none R rules (fresh block resources))
 
-  pub timely-then : LooksInTime turns → AreTimely story.world.core.state.entries
-  timely-then looks = in-time holds takes R (fresh block resources) turns rules at_end keeps story.is looks
+  pub book-then : Stands story.world.core.state.entries → Book R (fresh block resources) at_end story.world.core.state.entries
+  book-then stands = book-now R (fresh block resources) at_end known-then stands
 
-  posts-then : Law R → (stands : Stands story.world.core.state.entries) → LooksInTime turns → PostsOnce story.world.core.state.entries flights taken
-  posts-then law stands looks n t c k js answered rests post to class =
-      let punctual = punctual-in story.world.core.state.entries stands (timely-then looks) in
-      (done-at R (fresh block resources) at_end known-then stands punctual rests.opening rests.request
-      (law story.world.core.state.entries device_at proxy_at block resources known-then.tale.calls n t c k js stands
-      (networks R (fresh block resources) at_end known-then stands punctual) (given R (fresh block resources) at_end known-then stands punctual) answered rests post to
+  pub timely-then : LooksInTime turns → AreAllTimely at_end
+  timely-then looks = in-time holds takes R (fresh block resources) turns rules at_end story.is looks
+
+  -- of one journal
+  posts-in : Law R → (w : List Written) → Book R (fresh block resources) at_end w → (stands : Stands w) → AreTimely w → PostsOnce w flights taken
+  posts-in law w book stands timely n t c k js answered rests post to class =
+      let punctual = punctual-in w stands timely in
+      (done-at R (fresh block resources) at_end w book stands punctual rests.opening rests.request
+      (law w device_at proxy_at block resources book.tale.calls n t c k js stands
+      (networks R (fresh block resources) at_end w book stands punctual) (given R (fresh block resources) at_end w book stands punctual) answered rests post to
       class)).0
 
-  pub posts-once : Law R → Stands h → LooksInTime turns → PostsOnce h flights taken
+  past-posts : Law R → (top from to : ℕ) (ws : List (List Written)) → ArePast (fresh block resources) flights known-then.tale.calls top from ws to
+      → AllByRecursion AreTimely ws → AllByRecursion (λ (w : List Written). PostsOnce w flights taken) ws
+  past-posts law top from to [] past timely = tt
+  past-posts law top from to (w ∷ ws) past timely = (
+    posts-in law w (book-of R (fresh block resources) at_end known-then top w past.0) past.0.stands timely.0,
+    past-posts law top past.0.ended to ws past.2 timely.1,
+  )
+
+  posts-then : Law R → Stands story.world.core.state.entries → LooksInTime turns
+      → EachJournal (λ (w : List Written). PostsOnce w flights taken) out story.world.core.state.entries
+  posts-then law stands looks =
+      let timely = timely-then looks in
+      each-journal (λ (w : List Written). PostsOnce w flights taken) out story.world.core.state.entries
+      (past-posts law known-then.order.lo 0 known-then.order.begun (given_in out) known-then.order.past timely.0)
+      (posts-in law story.world.core.state.entries (book-then stands) stands timely.1)
+
+  pub posts-once : Law R → Stands h → LooksInTime turns → EachJournal (λ (w : List Written). PostsOnce w flights taken) out h
   posts-once law =
-      subst (λ (w : List Written). Stands w → LooksInTime turns → PostsOnce w flights taken) (sym story.journal) (posts-then law)
+      subst (λ (w : List Written). Stands w → LooksInTime turns → EachJournal (λ (w : List Written). PostsOnce w flights taken) out w) (sym story.journal) (posts-then law)
 
 -- what follows of what is answered
 pub if-ok : {S E : Type 0} (P U Q : S → Type 0) → ((s : S) → P s → U s → Q s) → (r : Result S E) → IfOk r P → IfOk r U → IfOk r Q
@@ -215,7 +271,7 @@ if-ok P U Q f (Err e) h k = h
 pub posts-of : (R : Relation) → Law R → (holds : Form → Form → List ℕ → List ℕ → Type 0) (takes : Form → Form → List ℕ → Type 0)
     (rules : Rules) (first : Device) (turns : List Turn) (out : List Emission) (flights : List Going) (h : List Written) (last : Device)
     (taken : List Execution) → IsStory holds takes R rules first turns out flights h last taken → Stands h
-    → (block : ℕ) (resources : List Held) → first ≡ fresh block resources → PostsOnceInTime turns h flights taken
-posts-of R law holds takes rules first turns out flights h last taken story stands block resources e keeps looks =
+    → (block : ℕ) (resources : List Held) → first ≡ fresh block resources → PostsOnceInTime turns out h flights taken
+posts-of R law holds takes rules first turns out flights h last taken story stands block resources e looks =
     posts-once holds takes R rules block resources turns out flights h last taken
-    (subst (λ (d : Device). IsStory holds takes R rules d turns out flights h last taken) e story) keeps law stands looks
+    (subst (λ (d : Device). IsStory holds takes R rules d turns out flights h last taken) e story) law stands looks

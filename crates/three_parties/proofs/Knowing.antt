@@ -1,37 +1,49 @@
--- What is known after some turns: their tale, its order, that no moment is ahead, and that the journal has no copies.
-use Rattle.std.proofs.Common.{◌≡◌, inl, inr, ℕ, ◌≤◌, List, [], ◌∷◌, ◌++◌, length, Option, Some, subst, sym, ◌∙◌, arith}
+-- What is known after some turns: their tale, its order, that no moment is ahead, and that a first journal has no copies.
+use Rattle.std.proofs.Common.{◌≡◌, inl, inr, ℕ, ◌≤◌, List, [], ◌∷◌, ◌++◌, append-nil, length, map, Option, Some, refl, subst, sym, ap, ◌∙◌, arith}
 use Rattle.std.specs.Prelude.{slice_get}
+use Rattle.std.proofs.lemmas.List.{append_cancel_left}
 use Rattle.limits.specs.declared.TheConstants.{LAST_MOMENT}
 use Rattle.media_map.specs.declared.form.Form.{Form}
 use Rattle.ask_model.specs.Views.{Rules}
+use Rattle.journal_book.specs.Entries.{Written}
+use Rattle.history_laws.proofs.CallerLemmas.{none-some}
 use Rattle.demo_origin.specs.Once.{Event}
 use Rattle.demo_origin.specs.Values.{Device, Relation}
 use Rattle.demo_origin.specs.declared.execution.Taken.{Taken}
 use Rattle.exchange_core.specs.Calls.{now}
-use Rattle.exchange_core.specs.Values.{Outgoing}
+use Rattle.exchange_core.specs.Values.{CoreValue, Outgoing}
+use Rattle.exchange_model.specs.Rotating.{turned}
 use Rattle.exchange_model.specs.State.{State}
+use Rattle.gateway_model.specs.Acts.{at}
 use Rattle.gateway_model.specs.Emissions.{Emission}
 use Rattle.gateway_model.specs.Going.{goes_in}
+use Rattle.gateway_model.specs.Rotating.{IsRotated, IsUnrotated}
 use Rattle.gateway_model.specs.Tellings.{terms_of}
+use Rattle.gateway_model.proofs.CallerLemmas.{AreCopies, AreNoJournals, begins-copied, rotation-is}
 use Rattle.gateway_model.specs.declared.input.Input.{Input}
-use Rattle.gateway_world.specs.Inputs.{TakesActs}
+use Rattle.gateway_world.specs.Inputs.{TakesActs, TakesRotation}
 use Rattle.gateway_world.specs.Worlds.{WorldValue, counted, served_in, when_in}
+use Rattle.gateway_world.proofs.Parted.{handled-none}
+use Rattle.three_parties.specs.Flights.{by_proxy}
 use Rattle.three_parties.specs.Scenes.{Scene, answered, executed, gave as gave_out, later}
 use Rattle.three_parties.specs.Stories.{opening}
 use Rattle.three_parties.proofs.Calling.{IsCalled, a_call, tale-called, tale-called-is, told-places}
 use Rattle.three_parties.proofs.Calls.{gives}
 use Rattle.three_parties.proofs.Giving.{AllHeard, tale-gave, tale-gave-is}
+use Rattle.three_parties.proofs.Bearing.{Issued}
 use Rattle.three_parties.proofs.Moments.{Counts}
 use Rattle.three_parties.proofs.Ordering.{order-called}
-use Rattle.three_parties.proofs.Orders.{IsTimely, Order, no-order, order-as, order-gave, order-later}
+use Rattle.three_parties.proofs.Orders.{IsTimely, Order, given-both, given-more, given_in, no-order, order-as, order-gave, order-later, order-turned}
 use Rattle.three_parties.proofs.Stamping.{AreOwn, IsSentIn, Stamps, all-stamp, goes-stand, own-both}
 use Rattle.three_parties.proofs.Tales.{Tale, no-tale, no-tale-is, tale-later, tale-later-is}
+use Rattle.three_parties.proofs.Tokens.{all-issue, turned-issued}
+use Rattle.three_parties.proofs.Turning.{tale-turned, tale-turned-is}
 
 pub record Known (R : Relation) (first : Device) (s : Scene) : Type 0 where
   pub tale : Tale R first s
   pub order : Order first s tale.calls tale.places
   pub timely : IsTimely s
-  pub own : AreOwn s.world.core.state.entries
+  pub own : given_in s.out ≡ [] → AreOwn s.world.core.state.entries
 
 pub known-none : (R : Relation) (rules : Rules) (first : Device) → Known R first (opening rules first)
 known-none R rules first = record {
@@ -40,7 +52,7 @@ known-none R rules first = record {
       let is = no-tale-is R rules first in
       order-as first (opening rules first) (no-tale R rules first).calls [] (no-tale R rules first).places [] is.0 is.1 (no-order rules first);
   timely = record { entries = omega arith; world = omega arith; last = omega arith };
-  own = tt;
+  own = λ none. tt;
 }
 
 pub known-later : (R : Relation) (first : Device) (s : Scene) (t : ℕ) → s.moment ≤ t → t ≤ LAST_MOMENT → Known R first s → Known R first (later t s)
@@ -84,36 +96,110 @@ counts-below : (t : ℕ) (S S1 : State) → S.moment ≤ t → Counts t S S1 →
 counts-below t S S1 le (inl e) = omega (arith, le, e)
 counts-below t S S1 le (inr e) = omega (arith, e)
 
+-- The proxy gives something out, and adds to its journal.
+pub known-gave : (R : Relation) (first : Device) (t : ℕ) (s : Scene) (given : List Emission) (w : WorldValue) (more : List Written) → s.moment ≤ t → t ≤ LAST_MOMENT
+    → (k : Known R first s) → w.core.state.entries ≡ s.world.core.state.entries ++ more → AllHeard first k.tale.calls more
+    → ((n : ℕ) (d : Outgoing) → slice_get (goes_in given) n ≡ Some d → IsSentIn t more d) → AreNoJournals given
+    → ((lo : ℕ) → Issued lo s.world.core.state → Issued lo w.core.state) → AreOwn more → w.core.state.moment ≤ t → w.moment ≤ t
+    → Known R first (gave_out t w given s)
+known-gave R first t s given w more le top k added all sends silent issues own entries world = record {
+  tale = tale-gave R first s t w given more le k.tale added all;
+  order =
+      let tale = tale-gave R first s t w given more le k.tale added all in
+      let is = tale-gave-is R first s t w given more le k.tale added all in
+      order-as first (gave_out t w given s) tale.calls k.tale.calls tale.places k.tale.places is.0 is.1
+      (order-gave first s t w given more k.tale.calls k.tale.places k.order added all sends silent issues);
+  timely = record { entries = entries; world = world; last = top };
+  own = λ none.
+      subst AreOwn (sym added) (own-both s.world.core.state.entries more (k.own (sym (given-more s.out given silent) ∙ none)) own);
+}
+
 module _ (holds : Form → Form → List ℕ → List ℕ → Type 0) (takes : Form → Form → List ℕ → Type 0) (R : Relation) (first : Device) where
-  pub known-acted : (t : ℕ) (i : Input) (s : Scene) (given : List Emission) (w : WorldValue) → s.moment ≤ t → t ≤ LAST_MOMENT
-      → (a : TakesActs holds takes (record i { moment = t }) s.world given w) → (k : Known R first s) → AllHeard first k.tale.calls a.shows.more
-      → Known R first (gave_out t w given s)
-  known-acted t i s given w le top a k all = record {
-    tale = tale-gave R first s t w given a.shows.more le k.tale a.shows.added all;
-    order =
-        let tale = tale-gave R first s t w given a.shows.more le k.tale a.shows.added all in
-        let is = tale-gave-is R first s t w given a.shows.more le k.tale a.shows.added all in
-        order-as first (gave_out t w given s) tale.calls k.tale.calls tale.places k.tale.places is.0 is.1
-        (order-gave first s t w given a.shows.more k.tale.calls k.tale.places k.order a.shows.added all sends);
-    timely = record {
-      entries = counts-below t s.world.core.state w.core.state early stamps.counts;
-      world = let m = a.handles.moment ∙ counted-is s.world.moment t below top in omega (arith, m);
-      last = top;
-    };
-    own = subst AreOwn (sym stamps.added) (own-both s.world.core.state.entries stamps.more k.own stamps.own);
-  }
-    where
-      early : s.world.core.state.moment ≤ t
-      early = let x = k.timely.entries in omega (arith, x, le)
+  module _ (t : ℕ) (s : Scene) (le : s.moment ≤ t) (top : t ≤ LAST_MOMENT) (k : Known R first s) where
+    early : s.world.core.state.moment ≤ t
+    early = let x = k.timely.entries in omega (arith, x, le)
 
-      below : s.world.moment ≤ t
-      below = let x = k.timely.world in omega (arith, x, le)
+    below : s.world.moment ≤ t
+    below = let x = k.timely.world in omega (arith, x, le)
 
-      stamps : Stamps t s.world.core.state w.core.state
-      stamps =
-          subst (λ (t : ℕ). Stamps t s.world.core.state w.core.state) (now-is s.world.core.state.moment s.world.moment t early below top)
-          (all-stamp (terms_of holds takes s.world.rules) (when_in s.world (record i { moment = t })) a.handles.acts.acts (served_in s.world) a.handles.acts.given (served_in w)
-          a.handles.acts.done)
+    -- acts
+    pub known-acted : (i : Input) (given : List Emission) (w : WorldValue) → (a : TakesActs holds takes (record i { moment = t }) s.world given w)
+        → AllHeard first k.tale.calls a.shows.more → Known R first (gave_out t w given s)
+    known-acted i given w a all =
+        known-gave R first t s given w a.shows.more le top k a.shows.added all sends
+        (handled-none (terms_of holds takes s.world.rules) (record i { moment = t }) s.world w given a.handles)
+        (λ lo. all-issue lo (terms_of holds takes s.world.rules) (when_in s.world (record i { moment = t })) a.handles.acts.acts (served_in s.world) a.handles.acts.given
+        (served_in w) a.handles.acts.done)
+        (subst AreOwn (append_cancel_left s.world.core.state.entries stamps.more a.shows.more (sym stamps.added ∙ a.shows.added)) stamps.own)
+        (counts-below t s.world.core.state w.core.state early stamps.counts)
+        (let m = a.handles.moment ∙ counted-is s.world.moment t below top in omega (arith, m))
+      where
+        stamps : Stamps t s.world.core.state w.core.state
+        stamps =
+            subst (λ (t : ℕ). Stamps t s.world.core.state w.core.state) (now-is s.world.core.state.moment s.world.moment t early below top)
+            (all-stamp (terms_of holds takes s.world.rules) (when_in s.world (record i { moment = t })) a.handles.acts.acts (served_in s.world) a.handles.acts.given (served_in w)
+            a.handles.acts.done)
 
-      sends : (n : ℕ) (d : Outgoing) → slice_get (goes_in given) n ≡ Some d → IsSentIn t a.shows.more d
-      sends n d e = goes-stand t s.world.core w.core given a.shows.more a.shows.added stamps a.sends n d e
+        sends : (n : ℕ) (d : Outgoing) → slice_get (goes_in given) n ≡ Some d → IsSentIn t a.shows.more d
+        sends n d e = goes-stand t s.world.core w.core given a.shows.more a.shows.added stamps a.sends n d e
+
+    -- The journal isn't given out.
+    pub known-refused : (i : Input) (given : List Emission) (w : WorldValue) → (r : TakesRotation holds takes (record i { moment = t }) s.world given w)
+        → IsUnrotated (at (when_in s.world (record i { moment = t })) (served_in s.world)) s.world.core given w.core → Known R first (gave_out t w given s)
+    known-refused i given w r u =
+        known-gave R first t s given w [] le top k (ap (λ (S : State). S.entries) same ∙ sym (append-nil s.world.core.state.entries)) (λ k u b e. absurd (none-some _ e))
+        (λ n d e. absurd (none-some d (subst (λ (es : List Emission). slice_get (goes_in es) n ≡ Some d) u.given e)))
+        (subst AreNoJournals (sym u.given) (tt, tt)) (λ lo h. subst (Issued lo) (sym same) h) tt
+        (let m = ap (λ (S : State). S.moment) same in let e = early in omega (arith, m, e))
+        (let m = r.moment ∙ counted-is s.world.moment t below top in omega (arith, m))
+      where
+        same : w.core.state ≡ s.world.core.state
+        same = ap (λ (v : CoreValue). v.state) u.same
+
+    -- It is.
+    pub known-rotated : (i : Input) (given : List Emission) (w : WorldValue) → (r : TakesRotation holds takes (record i { moment = t }) s.world given w)
+        → IsRotated (at (when_in s.world (record i { moment = t })) (served_in s.world)) s.world.core given w.core → Known R first (gave_out t w given s)
+    known-rotated i given w r x = record {
+      tale = tale;
+      order =
+          let same = tale-turned-is R first s t w given le k.tale flights copies in
+          order-as first new tale.calls k.tale.calls tale.places k.tale.places same.0 same.1
+          (order-turned first s new k.tale.calls k.tale.places k.order r.stands copies issued flights out refl k.tale.brought);
+      timely = record {
+        entries = let m : w.core.state.moment ≡ u = ap (λ (S : State). S.moment) is in omega (arith, m, turn_at);
+        world = let m = r.moment ∙ counted-is s.world.moment t below top in omega (arith, m);
+        last = top;
+      };
+      own = λ none. absurd (not-none (given_in s.out) s.world.core.state.entries (sym out ∙ none));
+    }
+      where
+        u : ℕ
+        u = at (when_in s.world (record i { moment = t })) (served_in s.world)
+
+        turn_at : u ≡ t
+        turn_at = now-is s.world.core.state.moment s.world.moment t early below top
+
+        new : Scene
+        new = gave_out t w given s
+
+        is : w.core.state ≡ turned u s.world.core.state
+        is = (rotation-is u s.world.core.state s.world.core.state.entries w.core.state x.turned.is).is
+
+        copies : AreCopies w.core.state.entries
+        copies = subst (λ (S : State). AreCopies S.entries) (sym is) (begins-copied u s.world.core.state)
+
+        issued : Issued s.world.core.state.issued w.core.state
+        issued = subst (Issued s.world.core.state.issued) (sym is) (turned-issued u s.world.core.state)
+
+        flights : new.flights ≡ s.flights
+        flights = ap (λ (es : List Emission). s.flights ++ map (by_proxy t) (goes_in es)) x.given ∙ append-nil s.flights
+
+        out : given_in new.out ≡ given_in s.out ++ s.world.core.state.entries ∷ []
+        out = given-both s.out given ∙ ap (λ (es : List Emission). given_in s.out ++ given_in es) x.given
+
+        not-none : (hs : List (List Written)) (h : List Written) → hs ++ h ∷ [] ≡ [] → ⊥
+        not-none [] h e = cc
+        not-none (g ∷ hs) h e = cc
+
+        tale : Tale R first new
+        tale = tale-turned R first s t w given le k.tale flights copies

@@ -84,3 +84,16 @@ pub got-from : {X Y : Type 0} (f : X → Y) (xs : List X) (n : ℕ) (y : Y) → 
 got-from f [] n y e = absurd (none-some y e)
 got-from f (x ∷ xs) zero y e = (x, refl, some-is (f x) y e)
 got-from f (x ∷ xs) (suc n) y e = got-from f xs n y e
+
+pub all-got : {X : Type 0} (P : X → Type 0) (xs : List X) → AllByRecursion P xs → (n : ℕ) (x : X) → slice_get xs n ≡ Some x → P x
+all-got P [] h n x e = absurd (none-some x e)
+all-got P (y ∷ ys) h zero x e = subst P (some-is y x e) h.0
+all-got P (y ∷ ys) h (suc n) x e = all-got P ys h.1 n x e
+
+pub all-map : {X : Type 0} (P Q : X → Type 0) → ((x : X) → P x → Q x) → (xs : List X) → AllByRecursion P xs → AllByRecursion Q xs
+all-map P Q f [] h = tt
+all-map P Q f (x ∷ xs) h = (f x h.0, all-map P Q f xs h.1)
+
+pub all-joined : {X : Type 0} (P : X → Type 0) (xs ys : List X) → AllByRecursion P xs → AllByRecursion P ys → AllByRecursion P (xs ++ ys)
+all-joined P [] ys a b = b
+all-joined P (x ∷ xs) ys a b = (a.0, all-joined P xs ys a.1 b)

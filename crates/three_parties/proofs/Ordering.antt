@@ -1,8 +1,9 @@
 -- The order after a call of the device's.
-use Rattle.std.proofs.Common.{◌≡◌, ℕ, zero, suc, ◌≤◌, inl, inr, List, [], ◌∷◌, ◌++◌, append-nil, append_assoc, length, length-append, map, take, Option, Some, None, refl, sym, ap, subst, ◌∙◌, arith}
+use Rattle.std.proofs.Common.{◌≡◌, ◌⊎◌, ℕ, zero, suc, ◌≤◌, inl, inr, List, [], ◌∷◌, ◌++◌, append-nil, append_assoc, length, length-append, map, take, Option, Some, None, refl, sym, ap, subst, ◌∙◌, arith}
 use Rattle.std.specs.Prelude.{slice_get}
+use Rattle.std.specs.List.{AllByRecursion}
 use Rattle.uri_map.specs.declared.peer.Peer.{Peer}
-use Rattle.journal_book.specs.Entries.{Sends, Hears}
+use Rattle.journal_book.specs.Entries.{Sends, Hears, Written}
 use Rattle.history_laws.proofs.CallerLemmas.{some-is}
 use Rattle.history_claims.specs.Headline.{IsEntry}
 use Rattle.demo_origin.specs.Calls.{Call}
@@ -15,8 +16,10 @@ use Rattle.three_parties.specs.Scenes.{Scene, answered, executed}
 use Rattle.three_parties.specs.declared.story.Execution.{Execution}
 use Rattle.three_parties.proofs.Calling.{IsCalled, a_call, placed-is, told-places}
 use Rattle.three_parties.proofs.Calls.{gives, gives-unheard, given-later, told-gives}
+use Rattle.three_parties.proofs.Foreign.{IsApart, IsOlder}
 use Rattle.three_parties.proofs.Lists.{got-both, got-map, take-front}
-use Rattle.three_parties.proofs.Orders.{IsEnteredAs, IsGivenBefore, IsSentBefore, Order, not-both, taken_of}
+use Rattle.three_parties.proofs.Chapters.{Chapter, IsEnteredAs, IsGivenBefore, IsPast, IsSentBefore, past-map, not-both, taken_of}
+use Rattle.three_parties.proofs.Orders.{Order, given_in}
 use Rattle.three_parties.proofs.Sending.{mapped-both}
 use Rattle.three_parties.proofs.Tales.{IsBroughtBy, Tale}
 
@@ -97,11 +100,20 @@ module _ (R : Relation) (first : Device) (s : Scene) (t n : ℕ) (e : Event) (d 
             ∙ (ap (λ (cs : List Call). length (told_in cs)) (take-front h.calls more) ∙ omega (arith, here, at, few, len))
       ]
 
-  tops : (i a : ℕ) → slice_get o.counts i ≡ Some a → a ≤ length all_calls
-  tops i a f = let long = longer in let top = o.most i a f in omega (arith, top, long)
+-- A journal after the call.
+module _ (R : Relation) (first : Device) (s : Scene) (t n : ℕ) (e : Event) (d : Device) (told : Option Taken)
+    (h : Tale R first s) (c : IsCalled R s t n e d told) (Q : List ℕ → Type 0) (begun : ℕ) (w : List Written) (o : Chapter Q begun first s.flights h.calls w) where
+  abbrev then_calls : List Call
+  then_calls = h.calls ++ a_call e s.device d ∷ gives d d.out
 
-  enters : (m : ℕ) (g : Going) → slice_get (s.flights ++ map (by_device t) d.out) m ≡ Some g → g.by ≡ ByProxy
-      → IsEnteredAs s.world.core.state.entries o.counts g
+  pub tops : (i a : ℕ) → slice_get o.counts i ≡ Some a → a ≤ length then_calls
+  tops i a f =
+      let long = length-append h.calls (a_call e s.device d ∷ gives d d.out) in
+      let top = o.most i a f in
+      omega (arith, top, long)
+
+  pub enters : (m : ℕ) (g : Going) → slice_get (s.flights ++ map (by_device t) d.out) m ≡ Some g → g.by ≡ ByProxy
+      → IsEnteredAs w o.counts g ⊎ Q g.bytes
   enters m g f by =
       elim (got-both s.flights (map (by_device t) d.out) m g f) [
         | inl k ↦ o.entered m g k by
@@ -110,53 +122,86 @@ module _ (R : Relation) (first : Device) (s : Scene) (t n : ℕ) (e : Event) (d 
             absurd (not-both g.by by (sym (ap (λ (g : Going). g.by) it.2)))
       ]
 
-  brought-now : (a u : ℕ) (p : Peer) (b : List ℕ) → length h.calls ≤ a → IsBroughtBy s.flights u p b → IsSentBefore s.world.core.state.entries o.counts a u b
-  brought-now a u p b le w =
-      let it = o.entered w.number w.flight w.stands w.by in
-      let top = o.most it.number it.count it.counted in record {
-        number = it.number;
-        moment = w.flight.moment;
-        timeout = it.timeout;
-        stands = subst (λ (b : List ℕ). IsEntry s.world.core.state.entries it.number w.flight.moment (Sends device_at b it.timeout)) w.bytes
-            (subst (λ (q : Peer). IsEntry s.world.core.state.entries it.number w.flight.moment (Sends q w.flight.bytes it.timeout)) w.to it.stands);
-        after = w.after;
-        within = w.within;
-        count = it.count;
-        counted = it.counted;
-        before = omega (arith, le, top);
-      }
+  brought-now : (a u : ℕ) (p : Peer) (b : List ℕ) → length h.calls ≤ a → IsBroughtBy s.flights u p b → IsSentBefore w o.counts a u b ⊎ Q b
+  brought-now a u p b le x =
+      elim (o.entered x.number x.flight x.stands x.by) [
+        | inl it ↦
+            let top = o.most it.number it.count it.counted in
+            inl (record {
+              number = it.number;
+              moment = x.flight.moment;
+              timeout = it.timeout;
+              stands = subst (λ (b : List ℕ). IsEntry w it.number x.flight.moment (Sends device_at b it.timeout)) x.bytes
+                  (subst (λ (q : Peer). IsEntry w it.number x.flight.moment (Sends q x.flight.bytes it.timeout)) x.to it.stands);
+              after = x.after;
+              within = x.within;
+              count = it.count;
+              counted = it.counted;
+              before = omega (arith, le, top);
+            })
+        | inr other ↦ inr (subst Q x.bytes other)
+      ]
 
-  sent-before : (a u : ℕ) (p : Peer) (b : List ℕ) (k : Option Taken) (v : Call) → slice_get all_calls a ≡ Some v → v.event ≡ heard u p b k
-      → IsSentBefore s.world.core.state.entries o.counts a u b
+  pub sent-before : (a u : ℕ) (p : Peer) (b : List ℕ) (k : Option Taken) (v : Call) → slice_get then_calls a ≡ Some v → v.event ≡ heard u p b k
+      → IsSentBefore w o.counts a u b ⊎ Q b
   sent-before a u p b k v f g =
-      elim (got-both h.calls more a v f) [
-        | inl w ↦ o.sent_first a u p b k v w g
-        | inr w ↦ let is = w.1 in brought-now a u p b (omega (arith, is)) (c.brought u p b k (new-call w.0 w.2)).0
+      elim (got-both h.calls (a_call e s.device d ∷ gives d d.out) a v f) [
+        | inl x ↦ o.sent_first a u p b k v x g
+        | inr x ↦ let is = x.1 in brought-now a u p b (omega (arith, is)) (c.brought u p b k (new-call x.0 x.2)).0
       ]
     where
-      new-call : (i : ℕ) → slice_get more i ≡ Some v → e ≡ heard u p b k
+      new-call : (i : ℕ) → slice_get (a_call e s.device d ∷ gives d d.out) i ≡ Some v → e ≡ heard u p b k
       new-call zero f = ap (λ (v : Call). v.event) (some-is (a_call e s.device d) v f) ∙ g
       new-call (suc i) f = absurd (gives-unheard d d.out i u p b k v f g)
 
-  given-before : (m u : ℕ) (bytes : List ℕ) → IsEntry s.world.core.state.entries m u (Hears device_at bytes)
-      → IsGivenBefore first all_calls o.counts m bytes
+  pub given-before : (m u : ℕ) (bytes : List ℕ) → IsEntry w m u (Hears device_at bytes) → IsGivenBefore first then_calls o.counts m bytes
   given-before m u bytes f =
       let it = o.heard_after m u bytes f in record {
-        given = given-later first h.calls more proxy_at bytes it.given;
+        given = given-later first h.calls (a_call e s.device d ∷ gives d d.out) proxy_at bytes it.given;
         count = it.count;
         counted = it.counted;
         before = it.before;
       }
 
-  pub order-called : Order first (answered t d (executed t n told) s) all_calls (h.places ++ newest)
-  order-called = record {
+  abbrev pub chapter-called : Chapter Q begun first (s.flights ++ map (by_device t) d.out) then_calls w
+  chapter-called = record {
     counts = o.counts;
     whole = o.whole;
     rising = o.rising;
+    started = let long = length-append h.calls (a_call e s.device d ∷ gives d d.out) in let start = o.started in omega (arith, long, start);
+    least = o.least;
     most = tops;
     entered = enters;
     sent_first = sent-before;
     heard_after = given-before;
-    tells = tells-all;
-    ranks = ranked;
+  }
+
+module _ (R : Relation) (first : Device) (s : Scene) (t n : ℕ) (e : Event) (d : Device) (told : Option Taken)
+    (h : Tale R first s) (c : IsCalled R s t n e d told) (o : Order first s h.calls h.places) where
+  abbrev past-called : (w : List Written) → IsPast first s.flights h.calls o.lo w
+      → IsPast first (s.flights ++ map (by_device t) d.out) (h.calls ++ a_call e s.device d ∷ gives d d.out) o.lo w
+  past-called w p = record {
+    lo = p.lo;
+    hi = p.hi;
+    below = p.below;
+    stands = p.stands;
+    issued = p.issued;
+    begun = p.begun;
+    ended = p.ended;
+    within = p.within;
+    chapter = chapter-called R first s t n e d told h c (IsApart p.lo p.hi) p.begun w p.chapter;
+    upto = p.upto;
+  }
+
+  pub order-called : Order first (answered t d (executed t n told) s) (h.calls ++ a_call e s.device d ∷ gives d d.out)
+      (h.places ++ told-places (length h.calls) told)
+  order-called = record {
+    lo = o.lo;
+    issued = o.issued;
+    begun = o.begun;
+    now = chapter-called R first s t n e d told h c (IsOlder o.lo) o.begun s.world.core.state.entries o.now;
+    past = past-map first s.flights (s.flights ++ map (by_device t) d.out) h.calls (h.calls ++ a_call e s.device d ∷ gives d d.out) o.lo o.lo
+        (λ w p. (past-called w p, refl, refl)) 0 o.begun (given_in s.out) o.past;
+    tells = tells-all R first s t n e d told h c o;
+    ranks = ranked R first s t n e d told h c o;
   }

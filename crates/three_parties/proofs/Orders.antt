@@ -1,9 +1,10 @@
--- In which order the proxy's entries were made, datagrams were sent, and the device was called.
-use Rattle.std.proofs.Common.{◌≡◌, ℕ, ◌+◌, ◌≤◌, inl, inr, List, [], ◌++◌, length, length-append, map, take, Option, Some, refl, sym, ap, subst, ◌∙◌, arith}
+-- In which order the proxy's entries were made, datagrams were sent, and the device was called, journal by journal.
+use Rattle.std.proofs.Common.{◌≡◌, ℕ, ◌+◌, ◌≤◌, inl, inr, List, [], ◌∷◌, ◌++◌, append-nil, append_assoc, length, map, take, Option, Some, None, refl, sym, ap, subst, ◌∙◌, arith}
 use Rattle.std.specs.Prelude.{slice_get}
 use Rattle.uri_map.specs.declared.peer.Peer.{Peer}
 use Rattle.ask_model.specs.Views.{Rules}
 use Rattle.journal_book.specs.Entries.{Sends, Hears, Written}
+use Rattle.history_laws.specs.Justified.{Stands}
 use Rattle.history_laws.proofs.CallerLemmas.{none-some}
 use Rattle.history_claims.specs.Headline.{IsEntry}
 use Rattle.demo_origin.specs.Calls.{Call}
@@ -11,63 +12,42 @@ use Rattle.demo_origin.specs.Done.{told_in}
 use Rattle.demo_origin.specs.Once.{heard}
 use Rattle.demo_origin.specs.Values.{Device}
 use Rattle.demo_origin.specs.declared.execution.Taken.{Taken}
+use Rattle.exchange_model.specs.Keeping.{start}
+use Rattle.exchange_model.specs.State.{State}
 use Rattle.exchange_core.specs.Values.{Outgoing}
-use Rattle.gateway_model.specs.Emissions.{Emission}
+use Rattle.gateway_model.specs.Emissions.{Emission, Says, Goes, Closed, Turned, Rotated, Unrotated}
 use Rattle.gateway_model.specs.Going.{goes_in}
+use Rattle.gateway_model.proofs.CallerLemmas.{AreCopies, AreNoJournals}
 use Rattle.gateway_world.specs.Worlds.{WorldValue}
 use Rattle.limits.specs.declared.TheConstants.{LAST_MOMENT}
-use Rattle.story_laws.specs.declared.TheConstants.{LONGEST_WAY}
-use Rattle.three_parties.specs.Flights.{Going, Sender, ByProxy, ByDevice, by_proxy, device_at, proxy_at}
+use Rattle.three_parties.specs.Flights.{Going, ByProxy, by_proxy, device_at}
 use Rattle.three_parties.specs.Scenes.{Scene, gave as gave_out, later}
 use Rattle.three_parties.specs.Stories.{opening}
-use Rattle.three_parties.specs.declared.story.Execution.{Execution}
-use Rattle.three_parties.proofs.Calls.{WasGiven}
+use Rattle.three_parties.proofs.Foreign.{IsApart, IsOlder, older-apart, still-older}
 use Rattle.three_parties.proofs.Giving.{AllHeard}
-use Rattle.three_parties.proofs.Lists.{alike, alike-len, alike-there, got-alike, got-back, got-below, got-both, got-from, got-front}
+use Rattle.three_parties.proofs.Bearing.{IsIssued, Issued}
+use Rattle.three_parties.proofs.Lists.{alike, alike-len, all-got, got-alike, got-back, got-from}
 use Rattle.three_parties.proofs.Stamping.{IsSentIn}
+use Rattle.three_parties.proofs.Tales.{IsBroughtBy}
+use Rattle.three_parties.proofs.Turning.{copy-at}
+use Rattle.three_parties.proofs.Chapters.{Chapter, IsPast, ArePast, past-map, past-join, chapter-past, chapter-gave, taken_of}
 
--- a datagram of the proxy's, and the entry that sends it
-pub record IsEnteredAs (h : List Written) (counts : List ℕ) (g : Going) : Type 0 where
-  pub number : ℕ
-  pub timeout : Option ℕ
-  pub stands : IsEntry h number g.moment (Sends g.peer g.bytes timeout)
-  pub count : ℕ
-  pub counted : slice_get counts number ≡ Some count
+-- the journals that were given out
+abbrev pub given_by : Emission → List (List Written)
+given_by (Rotated h) = h ∷ []
+given_by e = []
 
--- what the device heard in the call of this number had been sent
-pub record IsSentBefore (h : List Written) (counts : List ℕ) (a t : ℕ) (d : List ℕ) : Type 0 where
-  pub number : ℕ
-  pub moment : ℕ
-  pub timeout : Option ℕ
-  pub stands : IsEntry h number moment (Sends device_at d timeout)
-  pub after : moment ≤ t
-  pub within : t ≤ moment + LONGEST_WAY
-  pub count : ℕ
-  pub counted : slice_get counts number ≡ Some count
-  pub before : count ≤ a
+abbrev pub given_in : List Emission → List (List Written)
+given_in [] = []
+given_in (e ∷ out) = given_by e ++ given_in out
 
--- what the proxy heard in the entry of this number had been given out
-pub record IsGivenBefore (first : Device) (calls : List Call) (counts : List ℕ) (n : ℕ) (bytes : List ℕ) : Type 0 where
-  pub given : WasGiven first calls proxy_at bytes
-  pub count : ℕ
-  pub counted : slice_get counts n ≡ Some count
-  pub before : length given.front ≤ count
-
-abbrev pub taken_of : Execution → Taken
-taken_of y = y.taken
-
--- of each entry it is known how many calls there were before it
+-- So it is of the journal that there is, and of each that there was.
 pub record Order (first : Device) (s : Scene) (calls : List Call) (places : List ℕ) : Type 0 where
-  pub counts : List ℕ
-  pub whole : length counts ≡ length s.world.core.state.entries
-  pub rising : (i j a b : ℕ) → i ≤ j → slice_get counts i ≡ Some a → slice_get counts j ≡ Some b → a ≤ b
-  pub most : (i a : ℕ) → slice_get counts i ≡ Some a → a ≤ length calls
-  pub entered : (n : ℕ) (g : Going) → slice_get s.flights n ≡ Some g → g.by ≡ ByProxy
-      → IsEnteredAs s.world.core.state.entries counts g
-  pub sent_first : (a t : ℕ) (p : Peer) (d : List ℕ) (k : Option Taken) (c : Call) → slice_get calls a ≡ Some c → c.event ≡ heard t p d k
-      → IsSentBefore s.world.core.state.entries counts a t d
-  pub heard_after : (n t : ℕ) (bytes : List ℕ) → IsEntry s.world.core.state.entries n t (Hears device_at bytes)
-      → IsGivenBefore first calls counts n bytes
+  pub lo : ℕ
+  pub issued : Issued lo s.world.core.state
+  pub begun : ℕ
+  pub now : Chapter (IsOlder lo) begun first s.flights calls s.world.core.state.entries
+  pub past : ArePast first s.flights calls lo 0 (given_in s.out) begun
   pub tells : told_in calls ≡ map taken_of s.taken
   pub ranks : (e a : ℕ) → slice_get places e ≡ Some a → length (told_in (take a calls)) ≡ e
 
@@ -79,15 +59,30 @@ pub record IsTimely (s : Scene) : Type 0 where
 
 -- ---- nothing happens
 
+none-issued : Issued 0 start
+none-issued = record {
+  least = omega arith;
+  sent = tt;
+  links = λ p. record { out = λ o e. absurd (none-some o e); waits = tt };
+}
+
 pub no-order : (rules : Rules) (first : Device) → Order first (opening rules first) [] []
 no-order rules first = record {
-  counts = [];
-  whole = refl;
-  rising = λ i j a b le e f. absurd (none-some a e);
-  most = λ i a e. absurd (none-some a e);
-  entered = λ n g e by. absurd (none-some g e);
-  sent_first = λ a t p d k c e f. absurd (none-some c e);
-  heard_after = λ n t bytes e. absurd (none-some _ e);
+  lo = 0;
+  issued = none-issued;
+  begun = 0;
+  now = record {
+    counts = [];
+    whole = refl;
+    rising = λ i j a b le e f. absurd (none-some a e);
+    started = omega arith;
+    least = λ i a e. absurd (none-some a e);
+    most = λ i a e. absurd (none-some a e);
+    entered = λ n g e by. absurd (none-some g e);
+    sent_first = λ a t p d k c e f. absurd (none-some c e);
+    heard_after = λ n t bytes e. absurd (none-some _ e);
+  };
+  past = omega arith;
   tells = refl;
   ranks = λ e a f. absurd (none-some a f);
 }
@@ -98,150 +93,171 @@ order-as first s cs ds ps qs e f o =
 
 pub order-later : (first : Device) (s : Scene) (t : ℕ) (calls : List Call) (places : List ℕ) → Order first s calls places
     → Order first (later t s) calls places
-order-later first s t calls places o = record {
-  counts = o.counts;
-  whole = o.whole;
-  rising = o.rising;
-  most = o.most;
-  entered = o.entered;
-  sent_first = o.sent_first;
-  heard_after = o.heard_after;
-  tells = o.tells;
-  ranks = o.ranks;
-}
+order-later first s t calls places o =
+    record { lo = o.lo; issued = o.issued; begun = o.begun; now = o.now; past = o.past; tells = o.tells; ranks = o.ranks }
+
+pub given-both : (xs ys : List Emission) → given_in (xs ++ ys) ≡ given_in xs ++ given_in ys
+given-both [] ys = refl
+given-both (x ∷ xs) ys = ap (λ (hs : List (List Written)). given_by x ++ hs) (given-both xs ys) ∙ sym (append_assoc (given_by x) (given_in xs) (given_in ys))
+
+pub given-none : (out : List Emission) → AreNoJournals out → given_in out ≡ []
+given-none [] h = refl
+given-none (Rotated g ∷ out) h = absurd h.0
+given-none (Says c x ∷ out) h = given-none out h.1
+given-none (Goes d ∷ out) h = given-none out h.1
+given-none (Closed c ∷ out) h = given-none out h.1
+given-none (Turned ∷ out) h = given-none out h.1
+given-none (Unrotated fault ∷ out) h = given-none out h.1
+
+pub given-more : (out given : List Emission) → AreNoJournals given → given_in (out ++ given) ≡ given_in out
+given-more out given silent =
+    given-both out given ∙ (ap (λ (hs : List (List Written)). given_in out ++ hs) (given-none given silent) ∙ append-nil (given_in out))
 
 -- ---- the proxy takes an input
 
-pub not-both : (s : Sender) → s ≡ ByProxy → s ≡ ByDevice → ⊥
-not-both s e f = cc
+-- what an input sends bears a token of the journal that there is
+sent-apart : (lo hi top : ℕ) (S : State) (more : List Written) (h : List Written) (t : ℕ) (d : Outgoing) → S.entries ≡ h ++ more → Issued top S → hi ≤ top
+    → IsSentIn t more d → IsApart lo hi d.bytes
+sent-apart lo hi top S more h t d added issued le it =
+    by it.timeout
+    (all-got (λ (w : Written). IsIssued top S.issued w.deed) S.entries issued.sent (length h + it.number) _
+    (subst (λ (ws : List Written). slice_get ws (length h + it.number) ≡ Some (record { moment = t; deed = Sends d.peer d.bytes it.timeout })) (sym added)
+    (got-back h more (length h + it.number) it.number _ refl it.stands)))
+  where
+    by : (w : Option ℕ) → IsIssued top S.issued (Sends d.peer d.bytes w) → IsApart lo hi d.bytes
+    by (Some w) b = inr (top, S.issued, b, inr le)
+    by None (inl four) = inl four
+    by None (inr b) = inr (top, S.issued, b, inr le)
 
-module _ (first : Device) (s : Scene) (t : ℕ) (w : WorldValue) (given : List Emission) (more : List Written) (calls : List Call) (places : List ℕ)
-    (o : Order first s calls places) (added : w.core.state.entries ≡ s.world.core.state.entries ++ more) (all : AllHeard first calls more)
-    (sends : (n : ℕ) (d : Outgoing) → slice_get (goes_in given) n ≡ Some d → IsSentIn t more d) where
-  abbrev newest : List ℕ
-  newest = alike (length calls) more
+pub order-gave : (first : Device) (s : Scene) (t : ℕ) (w : WorldValue) (given : List Emission) (more : List Written) (calls : List Call) (places : List ℕ)
+    (o : Order first s calls places) → w.core.state.entries ≡ s.world.core.state.entries ++ more → AllHeard first calls more
+    → ((n : ℕ) (d : Outgoing) → slice_get (goes_in given) n ≡ Some d → IsSentIn t more d) → AreNoJournals given
+    → ((lo : ℕ) → Issued lo s.world.core.state → Issued lo w.core.state)
+    → Order first (gave_out t w given s) calls places
+order-gave first s t w given more calls places o added all sends silent issues = record {
+  lo = o.lo;
+  issued = issues o.lo o.issued;
+  begun = o.begun;
+  now = subst (Chapter (IsOlder o.lo) o.begun first (s.flights ++ out) calls) (sym added)
+      (chapter-gave (IsOlder o.lo) o.begun first s.flights t given s.world.core.state.entries more calls o.now all sends);
+  past = subst (λ (hs : List (List Written)). ArePast first (s.flights ++ out) calls o.lo 0 hs o.begun) (sym same)
+      (past-map first s.flights (s.flights ++ out) calls calls o.lo o.lo (λ h p. (still h p, refl, refl)) 0 o.begun (given_in s.out) o.past);
+  tells = o.tells;
+  ranks = o.ranks;
+}
+  where
+    out : List Going
+    out = map (by_proxy t) (goes_in given)
 
-  abbrev all_counts : List ℕ
-  all_counts = o.counts ++ newest
+    same : given_in (s.out ++ given) ≡ given_in s.out
+    same = given-more s.out given silent
 
-  abbrev out : List Going
-  out = map (by_proxy t) (goes_in given)
+    still : (h : List Written) → IsPast first s.flights calls o.lo h → IsPast first (s.flights ++ out) calls o.lo h
+    still h p = record {
+      lo = p.lo;
+      hi = p.hi;
+      below = p.below;
+      stands = p.stands;
+      issued = p.issued;
+      begun = p.begun;
+      ended = p.ended;
+      within = p.within;
+      upto = p.upto;
+      chapter = chapter-past (IsApart p.lo p.hi) p.begun first s.flights out calls h (λ n g e by.
+          let it = got-from (by_proxy t) (goes_in given) n g e in
+          subst (λ (g : Going). IsApart p.lo p.hi g.bytes) it.2
+          (sent-apart p.lo p.hi o.lo w.core.state more s.world.core.state.entries t it.0 added (issues o.lo o.issued) p.below (sends n it.0 it.1))) p.chapter;
+    }
 
-  counted : length all_counts ≡ length w.core.state.entries
-  counted =
-      let a = length-append o.counts newest in
-      let b = length-append s.world.core.state.entries more in
-      let c = alike-len (length calls) more in
-      let d = o.whole in
-      let e = ap length added in
-      omega (arith, a, b, c, d, e)
+-- ---- the journal is turned over
 
-  rises : (i j a b : ℕ) → i ≤ j → slice_get all_counts i ≡ Some a → slice_get all_counts j ≡ Some b → a ≤ b
-  rises i j a b le e f =
-      elim (got-both o.counts newest i a e) [
-        | inl k ↦ elim (got-both o.counts newest j b f) [
-          | inl m ↦ o.rising i j a b le k m
-          | inr m ↦ let top = o.most i a k in let is = got-alike (length calls) more m.0 b m.2 in omega (arith, top, is)
-        ]
-        | inr k ↦ elim (got-both o.counts newest j b f) [
-          | inl m ↦ let lt = got-below o.counts j b m in let is = k.1 in absurd (omega (arith, lt, is, le))
-          | inr m ↦
-              let x = got-alike (length calls) more k.0 a k.2 in
-              let y = got-alike (length calls) more m.0 b m.2 in
-              omega (arith, x, y)
-        ]
-      ]
+-- What was sent before is older than the next journal.
+sent-older : (first : Device) (s : Scene) (calls : List Call) (places : List ℕ) (o : Order first s calls places) (n : ℕ) (g : Going)
+    → slice_get s.flights n ≡ Some g → g.by ≡ ByProxy → IsOlder s.world.core.state.issued g.bytes
+sent-older first s calls places o n g e by =
+    elim (o.now.entered n g e by) [
+      | inl it ↦
+          bears it.timeout
+          (all-got (λ (w : Written). IsIssued o.lo s.world.core.state.issued w.deed) s.world.core.state.entries o.issued.sent it.number _ it.stands)
+      | inr old ↦ still-older o.lo s.world.core.state.issued g.bytes o.issued.least old
+    ]
+  where
+    bears : (w : Option ℕ) → IsIssued o.lo s.world.core.state.issued (Sends g.peer g.bytes w) → IsOlder s.world.core.state.issued g.bytes
+    bears (Some w) b = inr (o.lo, s.world.core.state.issued, b, omega arith)
+    bears None (inl four) = inl four
+    bears None (inr b) = inr (o.lo, s.world.core.state.issued, b, omega arith)
 
-  tops : (i a : ℕ) → slice_get all_counts i ≡ Some a → a ≤ length calls
-  tops i a e =
-      elim (got-both o.counts newest i a e) [
-        | inl k ↦ o.most i a k
-        | inr k ↦ let is = got-alike (length calls) more k.0 a k.2 in omega (arith, is)
-      ]
+-- a journal of copies has nothing of its own
+no-copy-hears : (h : List Written) → AreCopies h → (n t : ℕ) (p : Peer) (bytes : List ℕ) → IsEntry h n t (Hears p bytes) → ⊥
+no-copy-hears h copies n t p bytes e = (copy-at h copies n _ e).0
 
-  still : (n : ℕ) (x : Written) → slice_get s.world.core.state.entries n ≡ Some x → slice_get w.core.state.entries n ≡ Some x
-  still n x e =
-      subst (λ (h : List Written). slice_get h n ≡ Some x) (sym added) (got-front s.world.core.state.entries more n x e)
+abbrev chapter-as : (lo hi begun : ℕ) (first : Device) (flights : List Going) (calls : List Call) (h : List Written) → Chapter (IsOlder lo) begun first flights calls h
+    → Chapter (IsApart lo hi) begun first flights calls h
+chapter-as lo hi begun first flights calls h o = record {
+  counts = o.counts;
+  whole = o.whole;
+  rising = o.rising;
+  started = o.started;
+  least = o.least;
+  most = o.most;
+  entered = λ n g e by. elim (o.entered n g e by) [ inl it ↦ inl it | inr old ↦ inr (older-apart lo hi g.bytes old) ];
+  sent_first = λ a t p d k c e f. elim (o.sent_first a t p d k c e f) [ inl it ↦ inl it | inr old ↦ inr (older-apart lo hi d old) ];
+  heard_after = o.heard_after;
+}
 
-  -- the place of a new entry
-  there : (n k : ℕ) (x : Written) → n ≡ length s.world.core.state.entries + k → slice_get more k ≡ Some x
-      → (slice_get w.core.state.entries n ≡ Some x) × (slice_get all_counts n ≡ Some (length calls))
-  there n k x is e =
-      let d = o.whole in (
-        subst (λ (h : List Written). slice_get h n ≡ Some x) (sym added) (got-back s.world.core.state.entries more n k x is e),
-        got-back o.counts newest n k (length calls) (omega (arith, is, d)) (alike-there (length calls) more k x e),
-      )
+abbrev pub past-more : (first : Device) (flights : List Going) (calls : List Call) (lo top : ℕ) → lo ≤ top → (h : List Written) → IsPast first flights calls lo h
+    → IsPast first flights calls top h
+past-more first flights calls lo top le h p =
+    let below = p.below in
+    record { lo = p.lo; hi = p.hi; below = omega (arith, below, le); stands = p.stands; issued = p.issued; begun = p.begun; ended = p.ended; within = p.within; chapter = p.chapter; upto = p.upto }
 
-  enters : (n : ℕ) (g : Going) → slice_get (s.flights ++ out) n ≡ Some g → g.by ≡ ByProxy → IsEnteredAs w.core.state.entries all_counts g
-  enters n g e by =
-      elim (got-both s.flights out n g e) [
-        | inl k ↦
-            let it = o.entered n g k by in record {
-              number = it.number;
-              timeout = it.timeout;
-              stands = still it.number _ it.stands;
-              count = it.count;
-              counted = got-front o.counts newest it.number it.count it.counted;
-            }
-        | inr k ↦
-            let it = got-from (by_proxy t) (goes_in given) k.0 g k.2 in
-            subst (IsEnteredAs w.core.state.entries all_counts) it.2 (goes it.0 (sends k.0 it.0 it.1))
-      ]
-    where
-      goes : (d : Outgoing) → IsSentIn t more d → IsEnteredAs w.core.state.entries all_counts (by_proxy t d)
-      goes d i =
-          let place = there (length s.world.core.state.entries + i.number) i.number _ refl i.stands in record {
-            number = length s.world.core.state.entries + i.number;
-            timeout = i.timeout;
-            stands = place.0;
-            count = length calls;
-            counted = place.1;
-          }
+-- the journal that there is, as one that was
+abbrev pub now-past : (first : Device) (s : Scene) (calls : List Call) (places : List ℕ) (o : Order first s calls places) → Stands s.world.core.state.entries
+    → IsPast first s.flights calls s.world.core.state.issued s.world.core.state.entries
+now-past first s calls places o stands = record {
+  lo = o.lo;
+  hi = s.world.core.state.issued;
+  below = omega arith;
+  stands = stands;
+  issued = o.issued.sent;
+  begun = o.begun;
+  ended = length calls;
+  within = o.now.started;
+  chapter = chapter-as o.lo s.world.core.state.issued o.begun first s.flights calls s.world.core.state.entries o.now;
+  upto = o.now.most;
+}
 
-  sent-before : (a u : ℕ) (p : Peer) (d : List ℕ) (k : Option Taken) (c : Call) → slice_get calls a ≡ Some c → c.event ≡ heard u p d k
-      → IsSentBefore w.core.state.entries all_counts a u d
-  sent-before a u p d k c e f =
-      let it = o.sent_first a u p d k c e f in record {
-        number = it.number;
-        moment = it.moment;
-        timeout = it.timeout;
-        stands = still it.number _ it.stands;
-        after = it.after;
-        within = it.within;
-        count = it.count;
-        counted = got-front o.counts newest it.number it.count it.counted;
-        before = it.before;
-      }
-
-  given-before : (n u : ℕ) (bytes : List ℕ) → IsEntry w.core.state.entries n u (Hears device_at bytes) → IsGivenBefore first calls all_counts n bytes
-  given-before n u bytes e =
-      elim (got-both s.world.core.state.entries more n _ (subst (λ (h : List Written). IsEntry h n u (Hears device_at bytes)) added e)) [
-        | inl k ↦
-            let it = o.heard_after n u bytes k in record {
-              given = it.given;
-              count = it.count;
-              counted = got-front o.counts newest n it.count it.counted;
-              before = it.before;
-            }
-        | inr k ↦
-            let it = all k.0 u bytes k.2 in
-            let len = ap length it.parts ∙ length-append it.front it.rest in record {
-              given = it;
-              count = length calls;
-              counted = (there n k.0 _ k.1 k.2).1;
-              before = omega (arith, len);
-            }
-      ]
-
-  pub order-gave : Order first (gave_out t w given s) calls places
-  order-gave = record {
-    counts = all_counts;
-    whole = counted;
-    rising = rises;
-    most = tops;
-    entered = enters;
-    sent_first = sent-before;
-    heard_after = given-before;
-    tells = o.tells;
-    ranks = o.ranks;
-  }
+pub order-turned : (first : Device) (s new : Scene) (calls : List Call) (places : List ℕ) (o : Order first s calls places)
+    → Stands s.world.core.state.entries → AreCopies new.world.core.state.entries → Issued s.world.core.state.issued new.world.core.state
+    → new.flights ≡ s.flights → given_in new.out ≡ given_in s.out ++ s.world.core.state.entries ∷ [] → new.taken ≡ s.taken
+    → ((a t : ℕ) (p : Peer) (d : List ℕ) (k : Option Taken) (c : Call) → slice_get calls a ≡ Some c → c.event ≡ heard t p d k → IsBroughtBy s.flights t p d)
+    → Order first new calls places
+order-turned first s new calls places o stands copies issued flights given taken brought = record {
+  lo = s.world.core.state.issued;
+  issued = issued;
+  begun = length calls;
+  now = subst (λ (fs : List Going). Chapter (IsOlder s.world.core.state.issued) (length calls) first fs calls new.world.core.state.entries) (sym flights) (record {
+    counts = alike (length calls) new.world.core.state.entries;
+    whole = alike-len (length calls) new.world.core.state.entries;
+    rising = λ i j a b le e f.
+        let x = got-alike (length calls) new.world.core.state.entries i a e in
+        let y = got-alike (length calls) new.world.core.state.entries j b f in
+        omega (arith, x, y);
+    started = omega arith;
+    least = λ i a e. let x = got-alike (length calls) new.world.core.state.entries i a e in omega (arith, x);
+    most = λ i a e. let x = got-alike (length calls) new.world.core.state.entries i a e in omega (arith, x);
+    entered = λ n g e by. inr (sent-older first s calls places o n g e by);
+    sent_first = λ a t p d k c e f.
+        let it = brought a t p d k c e f in
+        inr (subst (IsOlder s.world.core.state.issued) it.bytes (sent-older first s calls places o it.number it.flight it.stands it.by));
+    heard_after = λ n t bytes e. absurd (no-copy-hears new.world.core.state.entries copies n t device_at bytes e);
+  });
+  past = subst (λ (fs : List Going). ArePast first fs calls s.world.core.state.issued 0 (given_in new.out) (length calls)) (sym flights)
+      (subst (λ (hs : List (List Written)). ArePast first s.flights calls s.world.core.state.issued 0 hs (length calls)) (sym given)
+      (past-join first s.flights calls s.world.core.state.issued 0 o.begun (length calls) (given_in s.out) s.world.core.state.entries
+      (past-map first s.flights s.flights calls calls o.lo s.world.core.state.issued
+      (λ h p. (past-more first s.flights calls o.lo s.world.core.state.issued o.issued.least h p, refl, refl)) 0 o.begun (given_in s.out) o.past)
+      (now-past first s calls places o stands) (omega arith) (omega arith)));
+  tells = o.tells ∙ ap (map taken_of) (sym taken);
+  ranks = o.ranks;
+}

@@ -77,7 +77,7 @@ still-both t S S1 S2 a b p o e = elim (b p o e) [ inl w ↦ a p o w | inr w ↦ 
 
 -- ---- the links of a core
 
-link-cases : (p q : Peer) (s : LinkState) (xs : List PeerLink) → ((q ≡ p) × (link_of (with_link p s xs) q ≡ s)) ⊎ (link_of (with_link p s xs) q ≡ link_of xs q)
+pub link-cases : (p q : Peer) (s : LinkState) (xs : List PeerLink) → ((q ≡ p) × (link_of (with_link p s xs) q ≡ s)) ⊎ (link_of (with_link p s xs) q ≡ link_of xs q)
 link-cases p q s [] = by (same_peer p q) refl
   where
     by : (b : Bool) → same_peer p q ≡ b → ((q ≡ p) × (cond b s empty_link ≡ s)) ⊎ (cond b s empty_link ≡ empty_link)

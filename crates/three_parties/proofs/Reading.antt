@@ -1,13 +1,13 @@
 -- An answer to a GET shows what the resource held, and no less than what was confirmed before.
-use Rattle.std.proofs.Common.{◌≡◌, ◌≢◌, ◌⊎◌, false, ℕ, zero, suc, ◌+◌, ◌<◌, ◌≤◌, inl, inr, List, [], ◌∷◌, ◌++◌, append_assoc, length, length-append, map, take, drop, Option, Some, refl, sym, ap, subst, ◌∙◌, arith}
-use Rattle.std.specs.Prelude.{slice_get}
+use Rattle.std.proofs.Common.{◌≡◌, ◌≢◌, ◌⊎◌, false, ℕ, ◌<◌, ◌≤◌, inl, inr, List, [], ◌∷◌, length, take, Option, Some, sym, ap, subst, ◌∙◌, arith}
+use Rattle.std.specs.Prelude.{slice_get, unwrap_or}
+use Rattle.std.specs.List.{AllByRecursion}
 use Rattle.std.proofs.lemmas.Bool.{false≢true}
 use Rattle.std.proofs.lemmas.Bool.Decides.{leb_tells}
 use Rattle.coap_codec.specs.Spelling.{Content}
 use Rattle.coap_codec.specs.Values.{values}
 use Rattle.coap_codec.specs.declared.block.Block.{Block}
 use Rattle.media_map.specs.declared.form.Form.{Form}
-use Rattle.uri_map.specs.declared.peer.Peer.{Peer}
 use Rattle.ask_model.specs.Requests.{CoapRequest, Plainly}
 use Rattle.ask_model.specs.Views.{Rules}
 use Rattle.journal_book.specs.Entries.{Live, Fault, Answers, Written}
@@ -16,139 +16,56 @@ use Rattle.resp_cache.specs.Stored.{Stored}
 use Rattle.history_laws.specs.Readings.{carries}
 use Rattle.history_laws.specs.Justified.{Stands}
 use Rattle.history_laws.specs.Progress.{Point, block_for, first_point}
-use Rattle.history_laws.proofs.CallerLemmas.{none-some, some-is}
 use Rattle.history_claims.specs.Headline.{AreHeardFor, IsEntry, IsHeardFor, IsJoined, IsSentFor, IsWriteAnswer, RestsOn}
 use Rattle.history_claims.specs.Stored.{RestsOnRenewed, WasStored, WasWhole}
 use Rattle.demo_origin.specs.Calls.{Call}
 use Rattle.demo_origin.specs.Done.{left_with, told_by, told_in}
-use Rattle.demo_origin.specs.Once.{Event, heard}
+use Rattle.demo_origin.specs.Once.{heard}
 use Rattle.demo_origin.specs.Origins.{fresh}
 use Rattle.demo_origin.specs.Values.{Device, Relation}
-use Rattle.demo_origin.specs.declared.execution.Taken.{Taken}
 use Rattle.demo_origin.specs.declared.state.Held.{Held}
 use Rattle.story_laws.specs.Lateness.{ArePunctual}
-use Rattle.story_laws.specs.Networks.{AreTimed, moment_after}
+use Rattle.story_laws.specs.Networks.{moment_after}
 use Rattle.story_laws.specs.Orders.{AreDoneBefore, WritesShow as Law}
 use Rattle.story_laws.specs.Reads.{ShowsHeld as ShowsSo}
+use Rattle.story_laws.proofs.Ordering.{sent-first}
+use Rattle.story_laws.proofs.Posting.{last as reply-of, entry as entry-of, executed as executed-of, done-by}
 use Rattle.story_laws.proofs.Quiet.{NoneObserved, none-notified, sent-quietly}
 use Rattle.gateway_model.specs.Emissions.{Emission}
 use Rattle.three_parties.specs.Flights.{Going, device_at, proxy_at}
-use Rattle.three_parties.specs.Reads.{AreDone, GetsShow, GetsShowInTime, IsHeldAt, KeptShow, NoneCarried, ObservesNothing, RenewedShow, ShowsHeld}
+use Rattle.three_parties.specs.Promises.{KeepsJournal}
+use Rattle.three_parties.specs.Reads.{AreAllDone, AreDone, EachAfter, GetsShow, GetsShowInTime, IsHeardHere, IsHeldAt, KeptShow, NoneCarried, ObservesNothing, RenewedShow, ShowsHeld, journals}
 use Rattle.three_parties.specs.Scenes.{Scene}
-use Rattle.three_parties.specs.Stories.{IsStory}
+use Rattle.three_parties.specs.Stories.{IsStory, opening}
 use Rattle.three_parties.specs.declared.story.Execution.{Execution}
 use Rattle.three_parties.specs.declared.turn.Turn.{Turn}
-use Rattle.three_parties.proofs.Executing.{at_end, calls_before, done-at, known-then, networks, ordered, timely-then}
+use Rattle.three_parties.proofs.Executing.{Book, at_end, book-of, calls-least, calls_before, done-at, known-then, networks, ordered}
 use Rattle.three_parties.proofs.Knowing.{Known}
-use Rattle.three_parties.proofs.Lists.{take-front}
-use Rattle.three_parties.proofs.Looking.{punctual-in}
-use Rattle.three_parties.proofs.Mapped.{all-at, none-observed}
-use Rattle.three_parties.proofs.Ordering.{told-both}
-use Rattle.three_parties.proofs.Orders.{taken_of}
+use Rattle.three_parties.proofs.Lists.{got-below, got-in}
+use Rattle.three_parties.proofs.Mapped.{all-at}
+use Rattle.three_parties.proofs.Chapters.{IsPast}
+use Rattle.three_parties.proofs.Stamping.{AreOwn}
 use Rattle.three_parties.proofs.Tales.{IsDoneBy}
-
--- ---- calls in time
-
--- none of the calls from this moment on comes before it
-timed-from : (s : ℕ) (cs : List Call) (b t : ℕ) (c : Call) → AreTimed s cs → slice_get cs b ≡ Some c → ((u : ℕ) → moment_after u c.event ≡ t) → s ≤ t
-timed-from s [] b t c h e is = absurd (none-some c e)
-timed-from s (y ∷ ys) zero t c h e is =
-    let le = h.0 in
-    let same : moment_after s y.event ≡ t = ap (λ (c : Call). moment_after s c.event) (some-is y c e) ∙ is s in
-    omega (arith, le, same)
-timed-from s (y ∷ ys) (suc b) t c h e is =
-    let le = h.0 in
-    let rest = timed-from (moment_after s y.event) ys b t c h.1 e is in
-    omega (arith, le, rest)
-
--- so of two calls the later one comes no earlier
-timed-then : (s : ℕ) (cs : List Call) (a b u t : ℕ) (x y : Call) → AreTimed s cs → slice_get cs a ≡ Some x → slice_get cs b ≡ Some y → a ≤ b
-    → ((v : ℕ) → moment_after v x.event ≡ u) → ((v : ℕ) → moment_after v y.event ≡ t) → u ≤ t
-timed-then s [] a b u t x y h e f le is so = absurd (none-some x e)
-timed-then s (c ∷ cs) zero zero u t x y h e f le is so =
-    let same : moment_after s x.event ≡ moment_after s y.event = ap (λ (c : Call). moment_after s c.event) (some-is x y (sym e ∙ f)) in
-    let a = is s in
-    let b = so s in
-    omega (arith, same, a, b)
-timed-then s (c ∷ cs) zero (suc b) u t x y h e f le is so =
-    let same : moment_after s c.event ≡ u = ap (λ (c : Call). moment_after s c.event) (some-is c x e) ∙ is s in
-    let rest = timed-from (moment_after s c.event) cs b t y h.1 f so in
-    omega (arith, same, rest)
-timed-then s (c ∷ cs) (suc a) zero u t x y h e f le is so = absurd (omega (arith, le))
-timed-then s (c ∷ cs) (suc a) (suc b) u t x y h e f le is so =
-    timed-then (moment_after s c.event) cs a b u t x y h.1 e f (omega (arith, le)) is so
-
--- a call that hears something
-heard-at : (c : Call) (t : ℕ) (p : Peer) (d : List ℕ) (k : Option Taken) → c.event ≡ heard t p d k → (u : ℕ) → moment_after u c.event ≡ t
-heard-at c t p d k e u = ap (λ (v : Event). moment_after u v) e
-
--- ---- what calls told
-
-told-length : (xs ys : List Call) → length (told_in (xs ++ ys)) ≡ length (told_in xs) + length (told_in ys)
-told-length xs ys = ap length (told-both xs ys) ∙ length-append (told_in xs) (told_in ys)
-
-told-next : (y : Call) (ys : List Call) (a : ℕ)
-    → length (told_in (take (suc a) (y ∷ ys))) ≡ length (told_by y.event) + length (told_in (take a ys))
-told-next y ys a = length-append (told_by y.event) (told_in (take a ys))
-
-told-none : (n : ℕ) → length (told_in (take n [])) ≡ 0
-told-none zero = refl
-told-none (suc n) = refl
-
--- Before a later call more was told than before one that tells.
-more-told : (cs : List Call) (a b : ℕ) (c : Call) (x : Taken) → a < b → slice_get cs a ≡ Some c → told_by c.event ≡ x ∷ []
-    → length (told_in (take a cs)) < length (told_in (take b cs))
-more-told [] a b c x lt e is = absurd (none-some c e)
-more-told (y ∷ ys) a zero c x lt e is = absurd (omega (arith, lt))
-more-told (y ∷ ys) zero (suc b) c x lt e is =
-    let one : length (told_by y.event) ≡ 1 = ap (λ (c : Call). length (told_by c.event)) (some-is y c e) ∙ ap length is in
-    let none : length (told_in (take zero (y ∷ ys))) ≡ 0 = refl in
-    let both = told-next y ys b in
-    omega (arith, one, none, both)
-more-told (y ∷ ys) (suc a) (suc b) c x lt e is =
-    let rest = more-told ys a b c x (omega (arith, lt)) e is in
-    let one = told-next y ys a in
-    let two = told-next y ys b in
-    omega (arith, rest, one, two)
-
--- Before a later call no less was told.
-no-less-told : (cs : List Call) (a b : ℕ) → a ≤ b → length (told_in (take a cs)) ≤ length (told_in (take b cs))
-no-less-told [] a b le = let none = told-none a in omega (arith, none)
-no-less-told (y ∷ ys) zero b le =
-    let none : length (told_in (take zero (y ∷ ys))) ≡ 0 = refl in omega (arith, none)
-no-less-told (y ∷ ys) (suc a) zero le = absurd (omega (arith, le))
-no-less-told (y ∷ ys) (suc a) (suc b) le =
-    let rest = no-less-told ys a b (omega (arith, le)) in
-    let one = told-next y ys a in
-    let two = told-next y ys b in
-    omega (arith, rest, one, two)
-
--- What was told before a call is the beginning of all that was.
-split-calls : (cs : List Call) (a : ℕ) → told_in cs ≡ told_in (take a cs) ++ told_in (drop a cs)
-split-calls [] zero = refl
-split-calls [] (suc a) = refl
-split-calls (c ∷ cs) zero = refl
-split-calls (c ∷ cs) (suc a) =
-    ap (λ (ts : List Taken). told_by c.event ++ ts) (split-calls cs a) ∙ sym (append_assoc (told_by c.event) (told_in (take a cs)) (told_in (drop a cs)))
-
-take-map : (n : ℕ) (ys : List Execution) → take n (map taken_of ys) ≡ map taken_of (take n ys)
-take-map zero [] = refl
-take-map zero (y ∷ ys) = refl
-take-map (suc n) [] = refl
-take-map (suc n) (y ∷ ys) = ap (λ (ts : List Taken). y.taken ∷ ts) (take-map n ys)
-
-told-before : (cs : List Call) (a : ℕ) (ys : List Execution) → told_in cs ≡ map taken_of ys
-    → told_in (take a cs) ≡ map taken_of (take (length (told_in (take a cs))) ys)
-told-before cs a ys e =
-    sym (take-front (told_in (take a cs)) (told_in (drop a cs)))
-    ∙ (ap (take (length (told_in (take a cs)))) (sym (split-calls cs a) ∙ e) ∙ take-map (length (told_in (take a cs))) ys)
+use Rattle.three_parties.proofs.Telling.{turns-none}
+use Rattle.three_parties.proofs.Pages.{IsEarlier, each-after, end, known_end}
+use Rattle.three_parties.proofs.Timing.{timed-then, heard-at, more-told, no-less-told, told-before}
 
 -- ---- a reply
 
-module _ (R : Relation) (block : ℕ) (resources : List Held) (s : Scene) (known : Known R (fresh block resources) s)
-    (stands : Stands s.world.core.state.entries) (punctual : ArePunctual stands.reading) where
-  abbrev h : List Written
-  h = s.world.core.state.entries
+-- Which writes were answered before the ask is given by how far back what was sent for it goes.
+abbrev pub GoesBack : List Written → ℕ → ℕ → CoapRequest → Type 0
+GoesBack h k o q =
+    (n t c w : ℕ) (js : List ℕ) → IsEntry h n t (Answers c w (Live js)) → (y : RestsOn h n c w js)
+    → y.request.method ≢ 1 → y.request.peer ≡ q.peer → y.request.target.path ≡ q.target.path → n < k → n ≤ o
+
+module _ (R : Relation) (block : ℕ) (resources : List Held) (s : Scene) (known : Known R (fresh block resources) s) (top : ℕ) (h : List Written)
+    (page : IsPast (fresh block resources) s.flights known.tale.calls top h) (punctual : ArePunctual page.stands.reading) (before : List (List Written))
+    (earlier_ones : AllByRecursion (IsEarlier R (fresh block resources) s known top page.begun) before) where
+  abbrev stands : Stands h
+  stands = page.stands
+
+  abbrev book : Book R (fresh block resources) s h
+  book = book-of R (fresh block resources) s known top h page
 
   abbrev calls : List Call
   calls = known.tale.calls
@@ -203,19 +120,46 @@ module _ (R : Relation) (block : ℕ) (resources : List Held) (s : Scene) (known
           ∙ ap (left_with (values 11 m.options) first.state) (told-before calls shown.place s.taken known.order.tells);
     }
 
-  -- Which writes were answered before the ask is given by how far back what was sent for it goes.
-  abbrev pub GoBack : ℕ → ℕ → CoapRequest → Type 0
-  GoBack k o q =
-      (n t c w : ℕ) (js : List ℕ) → IsEntry h n t (Answers c w (Live js)) → (y : RestsOn h n c w js)
-      → y.request.method ≢ 1 → y.request.peer ≡ q.peer → y.request.target.path ≡ q.target.path → n < k → n ≤ o
-
   -- what the device showed by a message, and which writes it had done
   abbrev pub ShownBy : (o since : ℕ) (m : Content) (state : List ℕ) → Type 0
   ShownBy o since m state =
       (shown : ShowsSo since proxy_at (fresh block resources) calls m state) × AreDoneBefore h device_at proxy_at calls o shown.place
 
+  -- the writes of an earlier journal
+  done-earlier : (j : List Written) → IsEarlier R (fresh block resources) s known top page.begun j → (q : CoapRequest) → q.peer ≡ device_at → (place : ℕ)
+      → page.begun ≤ place → AreDone j s.flights s.taken (length j) q (count place)
+  done-earlier j e q of place from n t c w js answered y changes peer path class lt =
+      let mine = book-of R (fresh block resources) s known top j e.past in
+      let net = networks R (fresh block resources) s j mine e.past.stands e.punctual in
+      let to = peer ∙ of in
+      let its = reply-of R j device_at proxy_at block resources calls n c w js e.past.stands net y changes to class in
+      let noted = entry-of R j device_at proxy_at block resources calls n c w js e.past.stands net y changes to class in
+      let g = (ordered R (fresh block resources) s j mine e.past.stands e.punctual).given its.number its.heard.response.moment its.heard.response.heard.bytes noted.note
+      noted.stands in
+      let done = done-by R j device_at proxy_at block resources calls n c w js e.past.stands net y changes to class g.0.count
+      (executed-of R j device_at proxy_at block resources calls n c w js e.past.stands net y changes to class g.0) in
+      let own = done-at R (fresh block resources) s j mine e.past.stands e.punctual y.opening y.request done.0 in
+      let rank = known.order.ranks own.0.place done.0.place own.1 in
+      let there : its.number < length j = got-below j its.number _ its.heard.response.heard.stands in
+      let counted = e.past.chapter.whole in
+      let at = got-in e.past.chapter.counts its.number (omega (arith, there, counted)) in
+      let is : calls_before R (fresh block resources) s j mine e.past.stands e.punctual its.number ≡ at.0 =
+      ap (λ (o : Option ℕ). unwrap_or o (length calls)) at.1 in
+      let upto = e.past.upto its.number at.0 at.1 in
+      let early = done.1 in
+      let gave = g.1 in
+      let end = e.early in
+      let more = more-told calls done.0.place place done.0.call done.0.executes.taken (omega (arith, early, gave, is, upto, end, from)) done.0.stands
+      (ap told_by done.0.executes.comes) in
+      (own.0, omega (arith, rank, more))
+
+  all-earlier : (q : CoapRequest) → q.peer ≡ device_at → (place : ℕ) → page.begun ≤ place → (js : List (List Written))
+      → AllByRecursion (IsEarlier R (fresh block resources) s known top page.begun) js → AreAllDone js s.flights s.taken q (count place)
+  all-earlier q of place from [] e = tt
+  all-earlier q of place from (j ∷ js) e = (done-earlier j e.0 q of place from, all-earlier q of place from js e.1)
+
   pub shows-so : (k o : ℕ) (q r : CoapRequest) (b : Option Block) (i : ℕ) (m : Content) (state : List ℕ) → (x : IsSentFor h o r b i m)
-      → ShownBy o x.moment m state → q.peer ≡ device_at → GoBack k o q → ShowsHeld h k o q r resources s.flights s.taken state
+      → ShownBy o x.moment m state → q.peer ≡ device_at → GoesBack h k o q → ShowsHeld before h k o q r resources s.flights s.taken state
   shows-so k o q r b i m state x it of back = record {
     block = b;
     sending = i;
@@ -226,23 +170,31 @@ module _ (R : Relation) (block : ℕ) (resources : List Held) (s : Scene) (known
     count = count it.0.place;
     held = held-at x.moment m state it.0;
     written = done;
+    written_before = all-earlier q of it.0.place since before earlier_ones;
   }
     where
+      since : page.begun ≤ it.0.place
+      since =
+          let sent = sent-first R h device_at proxy_at block resources calls (calls_before R (fresh block resources) s h book stands punctual) o r stands
+          (networks R (fresh block resources) s h book stands punctual) (ordered R (fresh block resources) s h book stands punctual) b i m state x it.0 in
+          let least = calls-least R (fresh block resources) s h book stands punctual i in
+          omega (arith, sent, least)
+
       done : AreDone h s.flights s.taken k q (count it.0.place)
       done n t c w js answered y changes peer path class lt =
           let call = it.1 n t c w js answered y changes (peer ∙ of) class (back n t c w js answered y changes peer path lt) in
-          let own = done-at R (fresh block resources) s known stands punctual y.opening y.request call.0 in
+          let own = done-at R (fresh block resources) s h book stands punctual y.opening y.request call.0 in
           let rank = known.order.ranks own.0.place call.0.place own.1 in
           let more = more-told calls call.0.place it.0.place call.0.call call.0.executes.taken call.1 call.0.stands (ap told_by call.0.executes.comes) in
           (own.0, omega (arith, rank, more))
 
   shows : Law R → NoneObserved h → (k o : ℕ) (q r : CoapRequest) (b : Option Block) (j : ℕ) (m : Content) → (x : IsHeardFor h o r b j m) → r.method ≡ 1
-      → r.peer ≡ device_at → q.peer ≡ device_at → m.code ≡ 69 → values 23 m.options ≡ [] → GoBack k o q
-      → ShowsHeld h k o q r resources s.flights s.taken m.payload
+      → r.peer ≡ device_at → q.peer ≡ device_at → m.code ≡ 69 → values 23 m.options ≡ [] → GoesBack h k o q
+      → ShowsHeld before h k o q r resources s.flights s.taken m.payload
   shows law none k o q r b j m x get to of content whole back =
       shows-so k o q r b x.sending x.sent m.payload x.sent_for
-      (law h device_at proxy_at block resources calls (calls_before R (fresh block resources) s known stands punctual) o r b j m stands
-      (networks R (fresh block resources) s known stands punctual) (ordered R (fresh block resources) s known stands punctual) x get to content whole
+      (law h device_at proxy_at block resources calls (calls_before R (fresh block resources) s h book stands punctual) o r b j m stands
+      (networks R (fresh block resources) s h book stands punctual) (ordered R (fresh block resources) s h book stands punctual) x get to content whole
       (sent-quietly h none stands o r b x.sending x.sent x.sent_for)) of back
 
 -- ---- an answer
@@ -279,115 +231,110 @@ write-answer h q n t c w js answered y changes peer path = record {
     not-fault e = cc
 
 -- What a live answer rests on was sent after each write that was answered before its ask.
-pub live-back : (R : Relation) (block : ℕ) (resources : List Held) (s : Scene) (known : Known R (fresh block resources) s)
-    (stands : Stands s.world.core.state.entries) (punctual : ArePunctual stands.reading) (n c k : ℕ) (js : List ℕ)
-    → (r : RestsOn s.world.core.state.entries n c k js) → GoBack R block resources s known stands punctual k r.opening r.request
-live-back R block resources s known stands punctual n c k js r m t d w is answered y changes peer path lt =
+pub live-back : (h : List Written) (n c k : ℕ) (js : List ℕ) → (r : RestsOn h n c k js) → GoesBack h k r.opening r.request
+live-back h n c k js r m t d w is answered y changes peer path lt =
     elim (r.shared.shares) [
       | inl own ↦ let same = own.0 in omega (arith, same, lt)
       | inr joined ↦
-          let before = joined.0.fresh m (write-answer s.world.core.state.entries r.request m t d w is answered y changes peer path) lt in
+          let before = joined.0.fresh m (write-answer h r.request m t d w is answered y changes peer path) lt in
           omega (arith, before)
     ]
 
 -- So was what was stored before such a one was asked for,
-pub stored-back : (R : Relation) (block : ℕ) (resources : List Held) (s : Scene) (known : Known R (fresh block resources) s)
-    (stands : Stands s.world.core.state.entries) (punctual : ArePunctual stands.reading) (k : ℕ) (q : CoapRequest) (v : Stored)
-    → (w : WasStored s.world.core.state.entries k q v) → GoBack R block resources s known stands punctual k w.first.opening q
-stored-back R block resources s known stands punctual k q v w n u d i is answered y changes peer path lt =
-    let before = w.current n (write-answer s.world.core.state.entries q n u d i is answered y changes peer path) lt in
+pub stored-back : (h : List Written) (k : ℕ) (q : CoapRequest) (v : Stored) → (w : WasStored h k q v) → GoesBack h k w.first.opening q
+stored-back h k q v w n u d i js answered y changes peer path lt =
+    let before = w.current n (write-answer h q n u d i js answered y changes peer path) lt in
     omega (arith, before)
 
 -- and what was stored before that was asked for which an answer shares.
-pub renewed-back : (R : Relation) (block : ℕ) (resources : List Held) (s : Scene) (known : Known R (fresh block resources) s)
-    (stands : Stands s.world.core.state.entries) (punctual : ArePunctual stands.reading) (n c k : ℕ) (js : List ℕ)
-    → (r : RestsOnRenewed s.world.core.state.entries n c k js)
-    → GoBack R block resources s known stands punctual k r.was.first.opening r.request
-renewed-back R block resources s known stands punctual n c k js r m t d w is answered y changes peer path lt =
-    let write = write-answer s.world.core.state.entries r.request m t d w is answered y changes peer path in
+pub renewed-back : (h : List Written) (n c k : ℕ) (js : List ℕ) → (r : RestsOnRenewed h n c k js) → GoesBack h k r.was.first.opening r.request
+renewed-back h n c k js r m t d w is answered y changes peer path lt =
+    let write = write-answer h r.request m t d w is answered y changes peer path in
     let before = r.was.current m write (early (r.shared.shares) write) in
     omega (arith, before)
   where
     early : ((r.opening ≡ k) × (r.since ≡ r.shared.moment))
-        ⊎ ((j : IsJoined s.world.core.state.entries k r.request r.opening) × (r.since ≡ j.pending.moment))
-        → IsWriteAnswer s.world.core.state.entries r.request m → m < r.opening
+        ⊎ ((j : IsJoined h k r.request r.opening) × (r.since ≡ j.pending.moment))
+        → IsWriteAnswer h r.request m → m < r.opening
     early (inl own) write = let same = own.0 in omega (arith, same, lt)
     early (inr joined) write = joined.0.fresh m write lt
 
--- It was heard as a reply, where nothing is notified or carried.
-pub heard-kept : (h : List Written) → NoneObserved h → NoneCarried h → (q : CoapRequest) (first : Stored) → (w : WasWhole h q first)
+-- It was heard as a reply, where nothing is notified.
+pub heard-kept : (h : List Written) → NoneObserved h → (q : CoapRequest) (first : Stored) → (w : WasWhole h q first) → IsHeardHere h q first w
     → AreHeardFor h first.opening w.other (first_point w.other) first.list w.messages
-heard-kept h none own q first w =
-    elim w.heard [
-      | inl here ↦ elim here.heard [ inl x ↦ x | inr x ↦ absurd (none-notified h none first.opening w.other first.list w.messages x) ]
-      | inr x ↦ absurd (own first.opening w.other first.list w.messages first.heard x)
-    ]
+heard-kept h none q first w here =
+    elim here.heard [ inl x ↦ x | inr x ↦ absurd (none-notified h none first.opening w.other first.list w.messages x) ]
 
 -- What it was heard for is a GET too.
 pub other-gets : (h : List Written) (q : CoapRequest) (first : Stored) → (w : WasWhole h q first) → w.other.method ≡ 1
 other-gets h q first w = sym (ap (λ (m : Content). m.code) (w.same.2 Plainly 0 [])) ∙ w.same.0
 
--- The journal has no copies.
-pub none-carried : (R : Relation) (block : ℕ) (resources : List Held) (s : Scene) → Known R (fresh block resources) s
-    → NoneCarried s.world.core.state.entries
-none-carried R block resources s known o q js ms since x =
-    false≢true (sym (all-at (λ (w : Written). carries w.deed ≡ false) s.world.core.state.entries known.own o _ x.asked.stands))
-
-module _ (R : Relation) (law : Law R) (block : ℕ) (resources : List Held) (s : Scene) (known : Known R (fresh block resources) s)
-    (stands : Stands s.world.core.state.entries) (punctual : ArePunctual stands.reading) (none : NoneObserved s.world.core.state.entries) where
-  abbrev es : List Written
-  es = s.world.core.state.entries
-
-  gets-show : GetsShow resources es s.flights s.taken
+module _ (R : Relation) (law : Law R) (block : ℕ) (resources : List Held) (s : Scene) (known : Known R (fresh block resources) s) (top : ℕ)
+    (before : List (List Written)) (h : List Written) (page : IsPast (fresh block resources) s.flights known.tale.calls top h)
+    (punctual : ArePunctual page.stands.reading) (none : NoneObserved h)
+    (earlier : AllByRecursion (IsEarlier R (fresh block resources) s known top page.begun) before) where
+  gets-show : GetsShow before resources h s.flights s.taken
   gets-show n t c k js m answered r one get to content whole =
-      let x = one-heard es r.opening r.request (first_point r.request) js r.messages m one r.heard in
-      shows R block resources s known stands punctual law none k r.opening r.request r.request (block_for (first_point r.request)) x.0 m x.1 get to to content whole
-      (live-back R block resources s known stands punctual n c k js r)
+      let x = one-heard h r.opening r.request (first_point r.request) js r.messages m one r.heard in
+      shows R block resources s known top h page punctual before earlier law none k r.opening r.request r.request (block_for (first_point r.request)) x.0 m x.1 get
+      to to content whole (live-back h n c k js r)
 
   -- what was heard first of what is stored
-  first-shows : (k : ℕ) (q : CoapRequest) (first : Stored) (w : WasWhole es q first) (m : Content) → w.messages ≡ m ∷ [] → q.peer ≡ device_at
-      → m.code ≡ 69 → values 23 m.options ≡ [] → GoBack R block resources s known stands punctual k first.opening q
-      → ShowsHeld es k first.opening q w.other resources s.flights s.taken m.payload
-  first-shows k q first w m one to content whole back =
-      let heard = heard-kept es none (none-carried R block resources s known) q first w in
-      let x = one-heard es first.opening w.other (first_point w.other) first.list w.messages m one heard in
-      shows R block resources s known stands punctual law none k first.opening q w.other (block_for (first_point w.other)) x.0 m x.1
-      (other-gets es q first w) (sym w.same.1 ∙ to) to content whole back
+  first-shows : (k : ℕ) (q : CoapRequest) (first : Stored) (w : WasWhole h q first) (m : Content) → IsHeardHere h q first w → w.messages ≡ m ∷ [] → q.peer ≡ device_at
+      → m.code ≡ 69 → values 23 m.options ≡ [] → GoesBack h k first.opening q
+      → ShowsHeld before h k first.opening q w.other resources s.flights s.taken m.payload
+  first-shows k q first w m here one to content whole back =
+      let heard = heard-kept h none q first w here in
+      let x = one-heard h first.opening w.other (first_point w.other) first.list w.messages m one heard in
+      shows R block resources s known top h page punctual before earlier law none k first.opening q w.other (block_for (first_point w.other)) x.0 m x.1
+      (other-gets h q first w) (sym w.same.1 ∙ to) to content whole back
 
-  renewed-show : RenewedShow resources es s.flights s.taken
-  renewed-show n t c k js m answered r one to content whole =
-      first-shows k r.request r.was.first r.was.whole m one to content whole (renewed-back R block resources s known stands punctual n c k js r)
+  renewed-show : RenewedShow before resources h s.flights s.taken
+  renewed-show n t c k js m answered r here one to content whole =
+      first-shows k r.request r.was.first r.was.whole m here one to content whole (renewed-back h n c k js r)
 
-  kept-show : KeptShow resources es s.flights s.taken
-  kept-show n t c k js m answered r one to content whole =
-      first-shows k r.request r.is.first r.is.whole m one to content whole
-      (stored-back R block resources s known stands punctual k r.request r.stored r.is)
+  kept-show : KeptShow before resources h s.flights s.taken
+  kept-show n t c k js m answered r here one to content whole =
+      first-shows k r.request r.is.first r.is.whole m here one to content whole (stored-back h k r.request r.stored r.is)
 
-  pub all-show : GetsShow resources es s.flights s.taken × RenewedShow resources es s.flights s.taken × KeptShow resources es s.flights s.taken
-      × NoneCarried es
-  all-show = (gets-show, renewed-show, kept-show, none-carried R block resources s known)
+  pub all-show : GetsShow before resources h s.flights s.taken × RenewedShow before resources h s.flights s.taken
+      × KeptShow before resources h s.flights s.taken
+  all-show = (gets-show, renewed-show, kept-show)
+
+-- A journal without copies carries nothing.
+none-carried : (h : List Written) → AreOwn h → NoneCarried h
+none-carried h own o q js ms since x = false≢true (sym (all-at (λ (w : Written). carries w.deed ≡ false) h own o _ x.asked.stands))
+
+-- what is said of one journal, and what of all
+abbrev ReadsOne : List Held → List Going → List Execution → List (List Written) → List Written → Type 0
+ReadsOne resources flights taken before h =
+    GetsShow before resources h flights taken × RenewedShow before resources h flights taken × KeptShow before resources h flights taken
+
+abbrev ReadsAll : List Turn → List Held → List Emission → List Going → List Execution → List Written → Type 0
+ReadsAll turns resources out flights taken w =
+    EachAfter (ReadsOne resources flights taken) [] (journals out w) × (AllByRecursion KeepsJournal turns → NoneCarried w)
 
 -- a story of a device that is a new one
 pub reads-of : (R : Relation) → Law R → (holds : Form → Form → List ℕ → List ℕ → Type 0) (takes : Form → Form → List ℕ → Type 0)
     (rules : Rules) (first : Device) (turns : List Turn) (out : List Emission) (flights : List Going) (h : List Written) (last : Device)
     (taken : List Execution) → IsStory holds takes R rules first turns out flights h last taken → Stands h
     → (block : ℕ) (resources : List Held) → first ≡ fresh block resources → ObservesNothing rules
-    → GetsShowInTime turns resources h flights taken
-reads-of R law holds takes rules first turns out flights h last taken story stands block resources e nothing keeps looks =
-    subst (λ (w : List Written). Stands w → GetsShow resources w flights taken × RenewedShow resources w flights taken
-    × KeptShow resources w flights taken × NoneCarried w)
-    (sym new.journal) shown stands
+    → GetsShowInTime turns resources out h flights taken
+reads-of R law holds takes rules first turns out flights h last taken story stands block resources e nothing looks =
+    subst (λ (w : List Written). Stands w → ReadsAll turns resources out flights taken w) (sym new.journal) shown stands
   where
     new : IsStory holds takes R rules (fresh block resources) turns out flights h last taken
     new = subst (λ (d : Device). IsStory holds takes R rules d turns out flights h last taken) e story
 
-    shown : Stands new.world.core.state.entries
-        → GetsShow resources new.world.core.state.entries flights taken × RenewedShow resources new.world.core.state.entries flights taken
-        × KeptShow resources new.world.core.state.entries flights taken × NoneCarried new.world.core.state.entries
-    shown stands =
-        all-show R law block resources (at_end holds takes R rules block resources turns out flights h last taken new keeps)
-        (known-then holds takes R rules block resources turns out flights h last taken new keeps) stands
-        (punctual-in new.world.core.state.entries stands
-        (timely-then holds takes R rules block resources turns out flights h last taken new keeps looks))
-        (none-observed holds takes R rules (fresh block resources) turns
-        (at_end holds takes R rules block resources turns out flights h last taken new keeps) new.is nothing)
+    shown : Stands new.world.core.state.entries → ReadsAll turns resources out flights taken new.world.core.state.entries
+    shown stands = (
+      each-after R holds takes rules block resources turns out flights h last taken new nothing (ReadsOne resources flights taken) stands looks
+          (λ top before w page punctual none earlier.
+          all-show R law block resources (end R holds takes rules block resources turns out flights h last taken new nothing)
+          (known_end R holds takes rules block resources turns out flights h last taken new nothing) top before w page punctual none earlier),
+      λ keeps.
+          none-carried new.world.core.state.entries
+          ((known-then holds takes R rules block resources turns out flights h last taken new).own
+          (turns-none holds takes R turns (opening rules (fresh block resources)) (at_end holds takes R rules block resources turns out flights h last taken new) keeps
+          new.is)),
+    )

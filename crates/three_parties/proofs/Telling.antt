@@ -1,5 +1,5 @@
 -- What holds after some turns holds after one more.
-use Rattle.std.proofs.Common.{◌≡◌, ℕ, zero, suc, ◌+◌, ◌≤◌, Bool, true, false, cond, ltb, inl, inr, List, [], ◌∷◌, Option, Some, None, refl, sym, ap, subst, ◌∙◌, arith}
+use Rattle.std.proofs.Common.{◌≡◌, ℕ, zero, suc, ◌+◌, ◌≤◌, Bool, true, false, cond, ltb, inl, inr, List, [], ◌∷◌, ◌++◌, Option, Some, None, refl, sym, ap, subst, ◌∙◌, arith}
 use Rattle.std.specs.Prelude.{slice_get}
 use Rattle.std.specs.Borrow.{Bor}
 use Rattle.std.specs.List.{AllByRecursion}
@@ -20,17 +20,20 @@ use Rattle.gateway_model.specs.declared.input.Happening.{Happening}
 use Rattle.gateway_model.specs.declared.input.Happening.TheVariants as H
 use Rattle.gateway_model.specs.declared.input.Input.{Input}
 use Rattle.gateway_model.specs.Hearing.{AreUnheard, BeginsBy, ShowsWhatCame}
+use Rattle.gateway_model.specs.Tellings.{terms_of}
 use Rattle.gateway_world.specs.Inputs.{Takes}
 use Rattle.gateway_world.specs.Worlds.{WorldValue, Shows, counted}
+use Rattle.gateway_world.proofs.Parted.{handled-none}
 use Rattle.story_laws.specs.declared.TheConstants.{LONGEST_WAY}
 use Rattle.three_parties.specs.Flights.{Going, Sender, ByProxy, ByDevice, device_at, proxy_at, Reach, ToProxy, ToDevice, Nowhere, reach, reach_by}
 use Rattle.three_parties.specs.Promises.{KeepsJournal}
-use Rattle.three_parties.specs.Scenes.{Scene, answered, executed, ProxyTakes, ProxyHears, Reaches, TakesInput, TakesTurn, TakesTurns}
+use Rattle.three_parties.specs.Scenes.{Scene, answered, executed, gave as gave_out, ProxyTakes, ProxyHears, Reaches, TakesInput, TakesTurn, TakesTurns}
 use Rattle.three_parties.specs.declared.turn.Turn.{Turn}
 use Rattle.three_parties.specs.declared.turn.Turn.TheVariants as T
 use Rattle.three_parties.proofs.Calls.{WasGiven}
 use Rattle.three_parties.proofs.Giving.{AllHeard, none-heard}
-use Rattle.three_parties.proofs.Knowing.{Known, known-acted, known-called, known-later}
+use Rattle.three_parties.proofs.Knowing.{Known, known-acted, known-called, known-later, known-refused, known-rotated}
+use Rattle.three_parties.proofs.Orders.{given-more, given_in}
 
 -- what an input shows that is no datagram
 hush : (i : Input) (a b : WorldValue) (x : Happening) → i.happening ≡ x
@@ -152,24 +155,26 @@ module _ (holds : Form → Form → List ℕ → List ℕ → Type 0) (takes : F
   -- an input that hears nothing
   quiet : (t : ℕ) (i : Input) (old new : Scene) → old.moment ≤ t → t ≤ LAST_MOMENT → (x : Happening) → i.happening ≡ x
       → ((u : ℕ) (a b : WorldValue) (more : List Written) → ShowsWhatCame x u a.core.state b.core.state more → AreUnheard more)
-      → (x ≡ H.Rotate → ⊥) → ProxyTakes holds takes R t i old new → Known R first old → Known R first new
-  quiet t i old new le top x is none stays p h = by p.takes_it
+      → ProxyTakes holds takes R t i old new → Known R first old → Known R first new
+  quiet t i old new le top x is none p h = subst (Known R first) (sym p.is) (by p.takes_it)
     where
-      by : Takes holds takes (record i { moment = t }) old.world p.given p.world → Known R first new
+      by : Takes holds takes (record i { moment = t }) old.world p.given p.world → Known R first (gave_out t p.world p.given old)
       by (inl a) =
           let unheard = hush (record i { moment = t }) old.world p.world x is none a.shows in
-          subst (Known R first) (sym p.is)
-          (known-acted holds takes R first t i old p.given p.world le top a h (none-heard first h.tale.calls a.shows.more unheard))
-      by (inr r) = absurd (stays (sym is ∙ r.wants))
+          known-acted holds takes R first t old le top h i p.given p.world a (none-heard first h.tale.calls a.shows.more unheard)
+      by (inr r) = elim (r.rotates) [
+        | inl k ↦ known-rotated holds takes R first t old le top h i p.given p.world r k
+        | inr k ↦ known-refused holds takes R first t old le top h i p.given p.world r k
+      ]
 
-  input : (t : ℕ) (i : Input) (old new : Scene) → old.moment ≤ t → t ≤ LAST_MOMENT → (x : Happening) → i.happening ≡ x → (i.happening ≡ H.Rotate → ⊥)
+  input : (t : ℕ) (i : Input) (old new : Scene) → old.moment ≤ t → t ≤ LAST_MOMENT → (x : Happening) → i.happening ≡ x
       → TakesInput holds takes R t i x old new → Known R first old → Known R first new
-  input t i old new le top (H.Datagram p b) is stays e h = subst (Known R first) (sym e) (known-later R first old t le top h)
-  input t i old new le top H.Open is stays e h = quiet t i old new le top H.Open is (λ u a b more k. k) (λ z. stays (is ∙ z)) e h
-  input t i old new le top (H.Bytes c b) is stays e h = quiet t i old new le top (H.Bytes c b) is (λ u a b more k. k) (λ z. stays (is ∙ z)) e h
-  input t i old new le top H.Tick is stays e h = quiet t i old new le top H.Tick is (λ u a b more k. k) (λ z. stays (is ∙ z)) e h
-  input t i old new le top (H.Close c) is stays e h = quiet t i old new le top (H.Close c) is (λ u a b more k. k) (λ z. stays (is ∙ z)) e h
-  input t i old new le top H.Rotate is stays e h = absurd (stays is)
+  input t i old new le top (H.Datagram p b) is e h = subst (Known R first) (sym e) (known-later R first old t le top h)
+  input t i old new le top H.Open is e h = quiet t i old new le top H.Open is (λ u a b more k. k) e h
+  input t i old new le top (H.Bytes c b) is e h = quiet t i old new le top (H.Bytes c b) is (λ u a b more k. k) e h
+  input t i old new le top H.Tick is e h = quiet t i old new le top H.Tick is (λ u a b more k. k) e h
+  input t i old new le top (H.Close c) is e h = quiet t i old new le top (H.Close c) is (λ u a b more k. k) e h
+  input t i old new le top H.Rotate is e h = quiet t i old new le top H.Rotate is (λ u a b more k. k) e h
 
   -- a datagram of the device's, and nothing else, is heard
   one-heard : (calls : List Call) (b : Bor (List ℕ)) (bytes : List ℕ) (u : ℕ) (more : List Written) → b.now ≡ bytes
@@ -202,8 +207,8 @@ module _ (holds : Form → Form → List ℕ → List ℕ → Type 0) (takes : F
       by : Takes holds takes (record { moment = t; word = word; happening = H.Datagram device_at p.datagram }) old.world p.takes_it.given p.takes_it.world → Known R first new
       by (inl a) =
           subst (Known R first) (sym p.takes_it.is)
-          (known-acted holds takes R first t (record { moment = t; word = word; happening = H.Datagram device_at p.datagram }) old p.takes_it.given
-          p.takes_it.world le top a h
+          (known-acted holds takes R first t old le top h (record { moment = t; word = word; happening = H.Datagram device_at p.datagram }) p.takes_it.given
+          p.takes_it.world a
           (elim a.shows.shown [
             | inl k ↦ one-heard h.tale.calls p.datagram bytes _ a.shows.more p.has given k
             | inr k ↦ none-heard first h.tale.calls a.shows.more k.0
@@ -217,14 +222,51 @@ module _ (holds : Form → Form → List ℕ → List ℕ → Type 0) (takes : F
       subst (Known R first) (sym e.is) (known-heard R first old t n bytes e.device e.told le top h to e.hears)
   delivery t word n Nowhere old new le top to e h = subst (Known R first) (sym e) (known-later R first old t le top h)
 
-  pub turn : (x : Turn) (old new : Scene) → KeepsJournal x → TakesTurn holds takes R x old new → Known R first old → Known R first new
-  turn (T.Proxy i) old new keeps e h =
-      input (counted old.moment i.moment) i old new (counted-later old.moment i.moment) (counted-last old.moment i.moment h.timely.last) i.happening refl keeps e h
-  turn (T.Device m) old new keeps e h =
+  pub turn : (x : Turn) (old new : Scene) → TakesTurn holds takes R x old new → Known R first old → Known R first new
+  turn (T.Proxy i) old new e h =
+      input (counted old.moment i.moment) i old new (counted-later old.moment i.moment) (counted-last old.moment i.moment h.timely.last) i.happening refl e h
+  turn (T.Device m) old new e h =
       subst (Known R first) (sym e.is) (known-looked R first old (counted old.moment m) e.device (counted-later old.moment m) (counted-last old.moment m h.timely.last) h e.ticks)
-  turn (T.Deliver w n) old new keeps e h =
+  turn (T.Deliver w n) old new e h =
       delivery (counted old.moment w.moment) w.word n _ old new (counted-later old.moment w.moment) (counted-last old.moment w.moment h.timely.last) refl e h
 
-  pub turns-told : (xs : List Turn) (old new : Scene) → AllByRecursion KeepsJournal xs → TakesTurns holds takes R xs old new → Known R first old → Known R first new
-  turns-told [] old new keeps e h = subst (Known R first) (sym e) h
-  turns-told (x ∷ xs) old new keeps e h = turns-told xs e.0 new keeps.1 e.2 (turn x old e.0 keeps.0 e.1 h)
+  pub turns-told : (xs : List Turn) (old new : Scene) → TakesTurns holds takes R xs old new → Known R first old → Known R first new
+  turns-told [] old new e h = subst (Known R first) (sym e) h
+  turns-told (x ∷ xs) old new e h = turns-told xs e.0 new e.2 (turn x old e.0 e.1 h)
+
+-- ---- turns that ask for no journal
+
+module _ (holds : Form → Form → List ℕ → List ℕ → Type 0) (takes : Form → Form → List ℕ → Type 0) (R : Relation) where
+  proxy-none : (t : ℕ) (i : Input) (old new : Scene) → (i.happening ≡ H.Rotate → ⊥) → ProxyTakes holds takes R t i old new → given_in new.out ≡ given_in old.out
+  proxy-none t i old new stays p = ap (λ (s : Scene). given_in s.out) p.is ∙ by p.takes_it
+    where
+      by : Takes holds takes (record i { moment = t }) old.world p.given p.world → given_in (old.out ++ p.given) ≡ given_in old.out
+      by (inl a) = given-more old.out p.given (handled-none (terms_of holds takes old.world.rules) (record i { moment = t }) old.world p.world p.given a.handles)
+      by (inr r) = absurd (stays r.wants)
+
+  input-none : (t : ℕ) (i : Input) (old new : Scene) (x : Happening) → i.happening ≡ x → (i.happening ≡ H.Rotate → ⊥) → TakesInput holds takes R t i x old new
+      → given_in new.out ≡ given_in old.out
+  input-none t i old new (H.Datagram p b) is stays e = ap (λ (s : Scene). given_in s.out) e
+  input-none t i old new H.Open is stays e = proxy-none t i old new stays e
+  input-none t i old new (H.Bytes c b) is stays e = proxy-none t i old new stays e
+  input-none t i old new H.Tick is stays e = proxy-none t i old new stays e
+  input-none t i old new (H.Close c) is stays e = proxy-none t i old new stays e
+  input-none t i old new H.Rotate is stays e = absurd (stays is)
+
+  reach-none : (t word n : ℕ) (r : Reach) (old new : Scene) → Reaches holds takes R t word n r old new → given_in new.out ≡ given_in old.out
+  reach-none t word n (ToProxy bytes) old new e =
+      proxy-none t (record { moment = t; word = word; happening = H.Datagram device_at e.datagram }) old new not-rotate e.takes_it
+    where
+      not-rotate : H.Datagram device_at e.datagram ≡ H.Rotate → ⊥
+      not-rotate k = cc
+  reach-none t word n (ToDevice bytes) old new e = ap (λ (s : Scene). given_in s.out) e.is
+  reach-none t word n Nowhere old new e = ap (λ (s : Scene). given_in s.out) e
+
+  turn-none : (x : Turn) (old new : Scene) → KeepsJournal x → TakesTurn holds takes R x old new → given_in new.out ≡ given_in old.out
+  turn-none (T.Proxy i) old new keeps e = input-none (counted old.moment i.moment) i old new i.happening refl keeps e
+  turn-none (T.Device m) old new keeps e = ap (λ (s : Scene). given_in s.out) e.is
+  turn-none (T.Deliver w n) old new keeps e = reach-none (counted old.moment w.moment) w.word n _ old new e
+
+  pub turns-none : (xs : List Turn) (old new : Scene) → AllByRecursion KeepsJournal xs → TakesTurns holds takes R xs old new → given_in new.out ≡ given_in old.out
+  turns-none [] old new keeps e = ap (λ (s : Scene). given_in s.out) e
+  turns-none (x ∷ xs) old new keeps e = turns-none xs e.0 new keeps.1 e.2 ∙ turn-none x old e.0 keeps.0 e.1

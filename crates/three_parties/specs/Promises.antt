@@ -1,12 +1,13 @@
 -- What a story promises of the requests that change something.
 use Rattle.std.specs.Prelude.{◌≡◌, ℕ, ◌≤◌, ◌/◌, List, slice_get, Option, Some, ⊤}
-use Rattle.std.specs.List.{AllByRecursion}
 use Rattle.coap_codec.specs.Spelling.{Content, Spells}
 use Rattle.coap_codec.specs.declared.block.Block.{Block}
 use Rattle.ask_model.specs.Requests.{CoapRequest}
 use Rattle.journal_book.specs.Entries.{Live, Answers, Written}
 use Rattle.history_claims.specs.Headline.{IsEntry, IsSentFor, RestsOn}
+use Rattle.gateway_model.specs.Emissions.{Emission}
 use Rattle.gateway_model.specs.declared.input.Happening.TheVariants as H
+use Rattle.gateway_world.specs.Journals.{EachJournal}
 use Rattle.three_parties.specs.Flights.{Going, ByProxy, device_at}
 use Rattle.three_parties.specs.Ticks.{LooksInTime}
 use Rattle.three_parties.specs.declared.story.Execution.{Execution}
@@ -49,7 +50,9 @@ PostsOnce h flights taken =
     → r.request.method ≡ 2 → r.request.peer ≡ device_at → r.response.code / 32 ≡ 2
     → IsExecutedOnce h r.opening r.request flights taken
 
--- So it is where one journal has all entries, and the proxy looks at its timers each second.
-abbrev pub PostsOnceInTime : List Turn → List Written → List Going → List Execution → Type 0
-PostsOnceInTime turns h flights taken =
-    AllByRecursion KeepsJournal turns → LooksInTime turns → PostsOnce h flights taken
+-- So it is of each journal, those that were given out and the last, where the proxy looks at its
+-- timers each second.
+abbrev pub PostsOnceInTime
+    : List Turn → List Emission → List Written → List Going → List Execution → Type 0
+PostsOnceInTime turns out last flights taken =
+    LooksInTime turns → EachJournal (λ (h : List Written). PostsOnce h flights taken) out last

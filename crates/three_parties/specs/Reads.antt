@@ -1,5 +1,5 @@
 -- What a story promises of answers to GETs.
-use Rattle.std.specs.Prelude.{◌≡◌, ◌≢◌, ℕ, ◌<◌, ◌≤◌, ◌/◌, List, [], ◌∷◌, map, take, slice_get, Option, Some}
+use Rattle.std.specs.Prelude.{◌≡◌, ◌≢◌, ℕ, ◌<◌, ◌≤◌, ◌/◌, ⊤, List, [], ◌∷◌, ◌++◌, length, map, take, slice_get, Option, Some}
 use Rattle.std.specs.List.{AllByRecursion}
 use Rattle.coap_codec.specs.Spelling.{Content}
 use Rattle.coap_codec.specs.Values.{values}
@@ -7,11 +7,14 @@ use Rattle.coap_codec.specs.declared.block.Block.{Block}
 use Rattle.ask_model.specs.Requests.{CoapRequest}
 use Rattle.ask_model.specs.Views.{Rules}
 use Rattle.journal_book.specs.Entries.{Live, Kept, Answers, Written}
+use Rattle.resp_cache.specs.Stored.{Stored}
 use Rattle.history_claims.specs.Headline.{IsEntry, IsSentFor, RestsOn}
-use Rattle.history_claims.specs.Stored.{IsServed, RestsOnRenewed, WasCarried}
+use Rattle.history_claims.specs.Stored.{IsServed, RestsOnRenewed, WasCarried, WasHeardHere, WasWhole}
 use Rattle.demo_origin.specs.Done.{left_with}
 use Rattle.demo_origin.specs.Requests.{IsAt}
 use Rattle.demo_origin.specs.declared.state.Held.{Held}
+use Rattle.gateway_model.specs.Emissions.{Emission}
+use Rattle.gateway_world.specs.Journals.{journal_in, parts_of}
 use Rattle.three_parties.specs.Flights.{Going, device_at}
 use Rattle.three_parties.specs.Promises.{IsExecutedOnce, KeepsJournal}
 use Rattle.three_parties.specs.Ticks.{LooksInTime}
@@ -38,10 +41,18 @@ AreDone h flights taken k q count =
     → r.response.code / 32 ≡ 2 → n < k
     → (done : IsExecutedOnce h r.opening r.request flights taken) × (done.place < count)
 
+-- So was each that was answered in one of the journals before.
+abbrev pub AreAllDone
+    : List (List Written) → List Going → List Execution → CoapRequest → ℕ → Type 0
+AreAllDone before flights taken q count =
+    AllByRecursion (λ (h : List Written). AreDone h flights taken (length h) q count) before
+
 -- For the GET q of the ask k a message was sent that asks r, after the entry o. The resource held
--- this state after that was first sent, and after each write that was answered before the ask.
-pub record ShowsHeld (h : List Written) (k o : ℕ) (q r : CoapRequest) (resources : List Held)
-    (flights : List Going) (taken : List Execution) (state : List ℕ) : Type 0 where
+-- this state after that was first sent, and after each write that was answered before the ask, in
+-- this journal or in one of those before.
+pub record ShowsHeld (before : List (List Written)) (h : List Written) (k o : ℕ) (q r : CoapRequest)
+    (resources : List Held) (flights : List Going) (taken : List Execution) (state : List ℕ)
+    : Type 0 where
   pub block : Option Block
   pub sending : ℕ
   pub message : Content
@@ -51,35 +62,46 @@ pub record ShowsHeld (h : List Written) (k o : ℕ) (q r : CoapRequest) (resourc
   pub count : ℕ
   pub held : IsHeldAt moment (values 11 message.options) resources taken count state
   pub written : AreDone h flights taken k q count
+  pub written_before : AreAllDone before flights taken q count
+
+-- What was stored first so was heard in this journal, not in one before, with copies of which this
+-- one would begin.
+abbrev pub IsHeardHere : (h : List Written) (q : CoapRequest) (s : Stored) → WasWhole h q s → Type 0
+IsHeardHere h q s w = WasHeardHere h s.opening w.other s.list w.messages s.heard
 
 -- Each answer to a GET that rests on one 2.05 (69), in one piece which names no block (23), shows
 -- such a state: an answer to replies that came after the ask,
-abbrev pub GetsShow : List Held → List Written → List Going → List Execution → Type 0
-GetsShow resources h flights taken =
+abbrev pub GetsShow : List (List Written) → List Held → List Written → List Going → List Execution
+    → Type 0
+GetsShow before resources h flights taken =
     (n t c k : ℕ) (js : List ℕ) (m : Content) → IsEntry h n t (Answers c k (Live js))
     → (r : RestsOn h n c k js) → r.messages ≡ m ∷ []
     → r.request.method ≡ 1 → r.request.peer ≡ device_at → m.code ≡ 69 → values 23 m.options ≡ []
-    → ShowsHeld h k r.opening r.request r.request resources flights taken m.payload
+    → ShowsHeld before h k r.opening r.request r.request resources flights taken m.payload
 
 -- one of what was stored, which a 2.03 renewed for it: it was heard so first,
-abbrev pub RenewedShow : List Held → List Written → List Going → List Execution → Type 0
-RenewedShow resources h flights taken =
+abbrev pub RenewedShow : List (List Written) → List Held → List Written → List Going
+    → List Execution → Type 0
+RenewedShow before resources h flights taken =
     (n t c k : ℕ) (js : List ℕ) (m : Content) → IsEntry h n t (Answers c k (Live js))
-    → (r : RestsOnRenewed h n c k js) → r.was.whole.messages ≡ m ∷ []
+    → (r : RestsOnRenewed h n c k js) → IsHeardHere h r.request r.was.first r.was.whole
+    → r.was.whole.messages ≡ m ∷ []
     → r.request.peer ≡ device_at → m.code ≡ 69 → values 23 m.options ≡ []
-    → ShowsHeld h k r.was.first.opening r.request r.was.whole.other resources flights taken
+    → ShowsHeld before h k r.was.first.opening r.request r.was.whole.other resources flights taken
     m.payload
 
 -- and one of a response that was stored.
-abbrev pub KeptShow : List Held → List Written → List Going → List Execution → Type 0
-KeptShow resources h flights taken =
+abbrev pub KeptShow : List (List Written) → List Held → List Written → List Going → List Execution
+    → Type 0
+KeptShow before resources h flights taken =
     (n t c k : ℕ) (js : List ℕ) (m : Content) → IsEntry h n t (Answers c k (Kept js))
-    → (s : IsServed h t c k js) → s.is.whole.messages ≡ m ∷ []
+    → (s : IsServed h t c k js) → IsHeardHere h s.request s.is.first s.is.whole
+    → s.is.whole.messages ≡ m ∷ []
     → s.request.peer ≡ device_at → m.code ≡ 69 → values 23 m.options ≡ []
-    → ShowsHeld h k s.is.first.opening s.request s.is.whole.other resources flights taken
+    → ShowsHeld before h k s.is.first.opening s.request s.is.whole.other resources flights taken
     m.payload
 
--- None rests on what a journal begins with.
+-- None rests on what a journal begins with: all that is stored was heard in this one.
 abbrev pub NoneCarried : List Written → Type 0
 NoneCarried h =
     (o : ℕ) (q : CoapRequest) (js : List ℕ) (ms : List Content) (since : ℕ)
@@ -89,44 +111,64 @@ NoneCarried h =
 abbrev pub ObservesNothing : Rules → Type 0
 ObservesNothing rules = rules.observed ≡ []
 
--- So it is where one journal has all entries, and the proxy looks at its timers each second.
-abbrev pub GetsShowInTime
-    : List Turn → List Held → List Written → List Going → List Execution → Type 0
-GetsShowInTime turns resources h flights taken =
-    AllByRecursion KeepsJournal turns → LooksInTime turns
-    → GetsShow resources h flights taken × RenewedShow resources h flights taken
-    × KeptShow resources h flights taken × NoneCarried h
+-- So it is of each of these journals, where those before it are told.
+abbrev pub EachAfter : (List (List Written) → List Written → Type 0) → List (List Written)
+    → List (List Written) → Type 0
+EachAfter P before [] = ⊤
+EachAfter P before (h ∷ hs) = P before h × EachAfter P (before ++ h ∷ []) hs
+
+-- the journals of a story: those that were given out, in their order, and the last
+abbrev pub journals : List Emission → List Written → List (List Written)
+journals out last = map journal_in (parts_of out last)
+
+-- So it is of each journal, where the proxy looks at its timers each second. Where one journal has
+-- all entries no answer rests on copies.
+abbrev pub GetsShowInTime : List Turn → List Held → List Emission → List Written → List Going
+    → List Execution → Type 0
+GetsShowInTime turns resources out last flights taken =
+    LooksInTime turns
+    → EachAfter (λ (before : List (List Written)) (h : List Written).
+    GetsShow before resources h flights taken × RenewedShow before resources h flights taken
+    × KeptShow before resources h flights taken) []
+    (journals out last)
+    × (AllByRecursion KeepsJournal turns → NoneCarried last)
 
 -- ---- a state in one piece or in several (RFC 7959)
 
 -- Each answer to a GET that rests on one whole 2.05 shows such a state: an answer to replies that
 -- came after the ask,
-abbrev pub GetsShowWhole : List Held → List Written → List Going → List Execution → Type 0
-GetsShowWhole resources h flights taken =
+abbrev pub GetsShowWhole : List (List Written) → List Held → List Written → List Going
+    → List Execution → Type 0
+GetsShowWhole before resources h flights taken =
     (n t c k : ℕ) (js : List ℕ) → IsEntry h n t (Answers c k (Live js)) → (r : RestsOn h n c k js)
     → r.request.method ≡ 1 → r.request.peer ≡ device_at → r.response.code ≡ 69
-    → ShowsHeld h k r.opening r.request r.request resources flights taken r.response.body
+    → ShowsHeld before h k r.opening r.request r.request resources flights taken r.response.body
 
 -- one of what was stored, which a 2.03 renewed for it,
-abbrev pub RenewedShowWhole : List Held → List Written → List Going → List Execution → Type 0
-RenewedShowWhole resources h flights taken =
+abbrev pub RenewedShowWhole : List (List Written) → List Held → List Written → List Going
+    → List Execution → Type 0
+RenewedShowWhole before resources h flights taken =
     (n t c k : ℕ) (js : List ℕ) → IsEntry h n t (Answers c k (Live js))
-    → (r : RestsOnRenewed h n c k js) → r.request.peer ≡ device_at
-    → ShowsHeld h k r.was.first.opening r.request r.was.whole.other resources flights taken
+    → (r : RestsOnRenewed h n c k js) → IsHeardHere h r.request r.was.first r.was.whole
+    → r.request.peer ≡ device_at
+    → ShowsHeld before h k r.was.first.opening r.request r.was.whole.other resources flights taken
     r.stored.response.body
 
 -- and one of a response that was stored.
-abbrev pub KeptShowWhole : List Held → List Written → List Going → List Execution → Type 0
-KeptShowWhole resources h flights taken =
+abbrev pub KeptShowWhole : List (List Written) → List Held → List Written → List Going
+    → List Execution → Type 0
+KeptShowWhole before resources h flights taken =
     (n t c k : ℕ) (js : List ℕ) → IsEntry h n t (Answers c k (Kept js)) → (s : IsServed h t c k js)
-    → s.request.peer ≡ device_at
-    → ShowsHeld h k s.is.first.opening s.request s.is.whole.other resources flights taken
+    → IsHeardHere h s.request s.is.first s.is.whole → s.request.peer ≡ device_at
+    → ShowsHeld before h k s.is.first.opening s.request s.is.whole.other resources flights taken
     s.stored.response.body
 
--- So it is where one journal has all entries, and the proxy looks at its timers each second.
-abbrev pub WholesShowInTime
-    : List Turn → List Held → List Written → List Going → List Execution → Type 0
-WholesShowInTime turns resources h flights taken =
-    AllByRecursion KeepsJournal turns → LooksInTime turns
-    → GetsShowWhole resources h flights taken × RenewedShowWhole resources h flights taken
-    × KeptShowWhole resources h flights taken
+-- So it is of each journal, where the proxy looks at its timers each second.
+abbrev pub WholesShowInTime : List Turn → List Held → List Emission → List Written → List Going
+    → List Execution → Type 0
+WholesShowInTime turns resources out last flights taken =
+    LooksInTime turns
+    → EachAfter (λ (before : List (List Written)) (h : List Written).
+    GetsShowWhole before resources h flights taken
+    × RenewedShowWhole before resources h flights taken
+    × KeptShowWhole before resources h flights taken) [] (journals out last)

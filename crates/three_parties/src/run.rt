@@ -29,9 +29,10 @@ use transformers::{Bank, Relation};
 ///
 /// The story is that of all its turns (`is`). Where the device is a new one, and the proxy looks at
 /// its timers each second, each POST to it that was answered by success was executed exactly once
-/// (`posts`), and, where the settings observe nothing, each answer to a GET that rests on one reply
+/// (`posts`). Where the settings observe nothing, too, each answer to a GET that rests on one reply
 /// (`reads`), or on several (`wholes`), shows a state that the resource held, and no less than what
-/// was confirmed before it was asked for.
+/// was confirmed before it was asked for. So it is of each journal; an answer that rests on what a
+/// journal began with, as copies, isn't spoken of.
 pub fn three_run<R: Relation, H: Behaviour>(
     alloc: Global,
     settings: Settings,
@@ -49,16 +50,16 @@ pub fn three_run<R: Relation, H: Behaviour>(
     ensures full { result ≡ Err WorldFault.Backlog → IsRefused R.holds R.takes H.relation turns.now
         (opening (rules_of settings) (device origin)) }
     ensures posts { IfOk result (λ s. (block : ℕ) (resources : List Held)
-        → device origin ≡ fresh block resources → PostsOnceInTime turns.now s.journal.entries
-        (map going s.flights.items) s.taken.items) }
+        → device origin ≡ fresh block resources → PostsOnceInTime turns.now
+        (emissions s.outputs.items) s.journal.entries (map going s.flights.items) s.taken.items) }
     ensures reads { IfOk result (λ s. (block : ℕ) (resources : List Held)
         → device origin ≡ fresh block resources → ObservesNothing (rules_of settings)
-        → GetsShowInTime turns.now resources s.journal.entries (map going s.flights.items)
-        s.taken.items) }
+        → GetsShowInTime turns.now resources (emissions s.outputs.items) s.journal.entries
+        (map going s.flights.items) s.taken.items) }
     ensures wholes { IfOk result (λ s. (block : ℕ) (resources : List Held)
         → device origin ≡ fresh block resources → AreNew resources
         → ObservesNothing (rules_of settings) → WholesShowInTime turns.now resources
-        s.journal.entries (map going s.flights.items) s.taken.items) }
+        (emissions s.outputs.items) s.journal.entries (map going s.flights.items) s.taken.items) }
 {
     // Their contracts say what answers mean for a device, whatever a network does.
     posts_once::<H>();

@@ -21,7 +21,7 @@ returns-clause-posts g c =
     c.args.turns.now (emissions s.outputs.items) (map going s.flights.items) s.journal.entries (device s.origin) s.taken.items)
     (λ s. Stands s.journal.entries)
     (λ s. (block : ℕ) (resources : List Held) → device c.args.origin ≡ fresh block resources
-    → PostsOnceInTime c.args.turns.now s.journal.entries (map going s.flights.items) s.taken.items)
+    → PostsOnceInTime c.args.turns.now (emissions s.outputs.items) s.journal.entries (map going s.flights.items) s.taken.items)
     (λ s is stands. posts-of g.H.Behaviour.relation c.posts_once.ensures g.R.Relation.holds g.R.Relation.takes (rules_of c.args.settings) (device c.args.origin)
     c.args.turns.now (emissions s.outputs.items) (map going s.flights.items) s.journal.entries (device s.origin) s.taken.items is stands)
     c.play.result c.play.ensures.is c.play.ensures.stands
@@ -32,7 +32,7 @@ returns-clause-reads g c =
     c.args.turns.now (emissions s.outputs.items) (map going s.flights.items) s.journal.entries (device s.origin) s.taken.items)
     (λ s. Stands s.journal.entries)
     (λ s. (block : ℕ) (resources : List Held) → device c.args.origin ≡ fresh block resources → ObservesNothing (rules_of c.args.settings)
-    → GetsShowInTime c.args.turns.now resources s.journal.entries (map going s.flights.items) s.taken.items)
+    → GetsShowInTime c.args.turns.now resources (emissions s.outputs.items) s.journal.entries (map going s.flights.items) s.taken.items)
     (λ s is stands. reads-of g.H.Behaviour.relation c.writes_show.ensures g.R.Relation.holds g.R.Relation.takes (rules_of c.args.settings) (device c.args.origin)
     c.args.turns.now (emissions s.outputs.items) (map going s.flights.items) s.journal.entries (device s.origin) s.taken.items is stands)
     c.play.result c.play.ensures.is c.play.ensures.stands
@@ -43,7 +43,7 @@ returns-clause-wholes g c =
     c.args.turns.now (emissions s.outputs.items) (map going s.flights.items) s.journal.entries (device s.origin) s.taken.items)
     (λ s. Stands s.journal.entries)
     (λ s. (block : ℕ) (resources : List Held) → device c.args.origin ≡ fresh block resources → AreNew resources → ObservesNothing (rules_of c.args.settings)
-    → WholesShowInTime c.args.turns.now resources s.journal.entries (map going s.flights.items) s.taken.items)
+    → WholesShowInTime c.args.turns.now resources (emissions s.outputs.items) s.journal.entries (map going s.flights.items) s.taken.items)
     (λ s is stands. wholes-of g.H.Behaviour.relation c.wholes_show.ensures g.R.Relation.holds g.R.Relation.takes (rules_of c.args.settings) (device c.args.origin)
     c.args.turns.now (emissions s.outputs.items) (map going s.flights.items) s.journal.entries (device s.origin) s.taken.items is stands)
     c.play.result c.play.ensures.is c.play.ensures.stands
