@@ -7,6 +7,9 @@ use Rattle.gateway_loop.proofs.turns.Loop.turn.Goals as goal
 pub take_clients-requires : goal.take_clients-requires
 take_clients-requires g c = record { suits = rw c.in_ok-take_signs.ensures c.requires.suits }
 
+pub hear_all-requires : goal.hear_all-requires
+hear_all-requires g c = record { suits = rw (c.in_ok-it.ensures.rules, c.in_ok-take_signs.ensures) c.requires.suits }
+
 pub go_on-requires : goal.go_on-requires
 go_on-requires g c = record {
   suits = rw (c.in_ok-it-2.ensures.rules, c.in_ok-it.ensures.rules, c.in_ok-take_signs.ensures) c.requires.suits;
