@@ -224,15 +224,6 @@ impl<'a> Chance<'a> {
         }
     }
 
-    /// It is told of what was given out in a turn.
-    pub fn hear_of(&mut self, told: &[Told]) {
-        'each: for one in told {
-            let head = one.head.as_slice();
-            self.told = self.told.saturating_add(one.count);
-            self.heads &= head.starts_with(b"HTTP/1.1 200 ") && head.ends_with(b"\r\n\r\n");
-        }
-    }
-
     /// Whether it was told of all bytes that clients got, and each time of a head.
     pub fn is_told_all(&self) -> bool {
         let mut got = 0usize;
@@ -241,9 +232,27 @@ impl<'a> Chance<'a> {
         }
         self.heads && self.told == got
     }
+}
+
+/// Who hears what the loop tells of.
+pub trait Hears {
+    /// It is told of what was given out in a turn.
+    fn hear_of(&mut self, told: &[Told]);
 
     /// The loop goes on no more.
-    pub fn stop(&self) {
+    fn stop(&self);
+}
+
+impl<'a> Hears for Chance<'a> {
+    fn hear_of(&mut self, told: &[Told]) {
+        'each: for one in told {
+            let head = one.head.as_slice();
+            self.told = self.told.saturating_add(one.count);
+            self.heads &= head.starts_with(b"HTTP/1.1 200 ") && head.ends_with(b"\r\n\r\n");
+        }
+    }
+
+    fn stop(&self) {
         for talk in self.talks {
             talk.over.set(true);
         }

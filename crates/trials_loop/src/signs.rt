@@ -1,12 +1,11 @@
 //! Whatever signs come, each client gets the answers to what it asked, and no other bytes.
 
-ghost use Rattle.std.specs.Prelude.{◌≡◌};
 ghost use Rattle.transformers.specs.Suits.{Suits};
 
 use crate::chance::Dice;
-use crate::fakes::{Chance, Devices, Talk, Tape};
+use crate::fakes::{Chance, Devices, Hears, Talk};
 use crate::sample::{Nothing, settings};
-use gateway_loop::{Gateway, Loop};
+use gateway_loop::{Gateway, Host, Loop, Stream, Wire};
 use std::alloc::Global;
 use transformers::{Bank, Relation};
 
@@ -64,10 +63,10 @@ fn is_run(alloc: Global, seed: u64, talks: &[Talk], turns: u32) -> bool {
 }
 
 /// Lets the loop turn, and hears what it tells of. False where it stopped.
-fn goes<'a, R: Relation>(
+fn goes<R: Relation, S: Stream + Drop, W: Wire + Drop, H: Host<S> + Hears>(
     bank: &Bank<R>,
-    it: Loop<R, Tape<'a>, Devices<'a>>,
-    host: &mut Chance<'a>,
+    it: Loop<R, S, W>,
+    host: &mut H,
     turns: u32,
 ) -> bool
     requires { Suits R.holds R.takes it.gateway.world.rules.routes bank.now }
@@ -79,18 +78,11 @@ fn goes<'a, R: Relation>(
             Ok(it) => it,
             Err(_) => return false,
         };
-        look(&mut it, host);
+        host.hear_of(it.told());
+        it.forget_told();
     }
     host.stop();
     true
-}
-
-/// Hears what the loop tells of, which is forgotten then.
-fn look<'a, R: Relation>(it: &mut Loop<R, Tape<'a>, Devices<'a>>, host: &mut Chance<'a>)
-    ensures { it.new.gateway.world ≡ it.old.gateway.world }
-{
-    host.hear_of(it.told());
-    it.forget_told();
 }
 
 /// Whether each client is served, in a run by chance.
