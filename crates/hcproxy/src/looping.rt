@@ -63,7 +63,7 @@ fn keep_on<
         + Sync
         + 'static,
 >(rt: R, ports: Ports, settings: Settings, options: Options, folder: Folder) -> ServeFault {
-    run(noted(rt), rt.alloc(), ports, settings, options, folder)
+    run(&rt, noted(rt), rt.alloc(), ports, settings, options, folder)
 }
 
 /// The ports that the settings name, taken, what the gateway goes by, and where its journals go.

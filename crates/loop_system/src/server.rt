@@ -35,9 +35,11 @@ use transformers::{Bank, Stored};
 /// number of those before it and it, in a thread of its own. Where there is a window, those who look are
 /// served by threads too.
 pub fn run<
-    W: Threads + Wait + Net + Log + Clock + RandomSource + Copy + Drop + Send + Sync + 'static,
+    N: Net,
+    W: Threads + Wait + Log + Clock + RandomSource + Copy + Drop + Send + Sync + 'static,
     A: Archive<Profile> + Drop + Send + Sync + 'static,
 >(
+    net: &N,
     rt: W,
     alloc: Global,
     ports: Ports,
@@ -45,7 +47,7 @@ pub fn run<
     options: Options,
     archive: A,
 ) -> ServeFault {
-    match run_with_bank(rt, alloc, ports, settings, options, archive) {
+    match run_with_bank(net, rt, alloc, ports, settings, options, archive) {
         Ok(stop) => fault_of(stop),
         Err(fault) => fault,
     }
@@ -61,9 +63,11 @@ fn fault_of(stop: Stop) -> ServeFault {
 
 /// Runs the gateway with the transformers that the routes of the settings ask for.
 fn run_with_bank<
-    W: Threads + Wait + Net + Log + Clock + RandomSource + Copy + Drop + Send + Sync + 'static,
+    N: Net,
+    W: Threads + Wait + Log + Clock + RandomSource + Copy + Drop + Send + Sync + 'static,
     A: Archive<Profile> + Drop + Send + Sync + 'static,
 >(
+    net: &N,
     rt: W,
     alloc: Global,
     ports: Ports,
@@ -76,6 +80,7 @@ fn run_with_bank<
         store_for!(alloc, all, route);
     }
     run_on(
+        net,
         rt,
         alloc,
         ports,
@@ -88,9 +93,11 @@ fn run_with_bank<
 
 /// Runs the gateway with a bank that suits the settings.
 fn run_on<
-    W: Threads + Wait + Net + Log + Clock + RandomSource + Copy + Drop + Send + Sync + 'static,
+    N: Net,
+    W: Threads + Wait + Log + Clock + RandomSource + Copy + Drop + Send + Sync + 'static,
     A: Archive<Profile> + Drop + Send + Sync + 'static,
 >(
+    net: &N,
     rt: W,
     alloc: Global,
     ports: Ports,
@@ -107,7 +114,7 @@ fn run_on<
         mut devices,
         window,
     } = ports;
-    let poll = match watched(&rt, &mut listener, &mut devices.socket) {
+    let poll = match watched(net, &mut listener, &mut devices.socket) {
         Ok(poll) => poll,
         Err(_) => return Err(ServeFault::Stopped),
     };

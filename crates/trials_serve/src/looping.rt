@@ -34,7 +34,7 @@ fn start<
     };
     let settings = settings(alloc).ok()?;
     let started = thread::spawn(&rt, move || {
-        let _ = run(rt, alloc, ports, settings, options, NoArchive);
+        let _ = run(&rt, rt, alloc, ports, settings, options, NoArchive);
     });
     started.is_ok().then_some(shown)
 }
