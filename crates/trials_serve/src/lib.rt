@@ -13,8 +13,6 @@ mod device;
 #[cfg(test)]
 mod failing;
 #[cfg(test)]
-mod looping;
-#[cfg(test)]
 mod rows;
 #[cfg(test)]
 mod sample;

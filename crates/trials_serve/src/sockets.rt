@@ -67,7 +67,7 @@ pub fn start<
 }
 
 /// Notes each answer, and gives up who stands still for a second.
-pub fn hasty() -> Options {
+fn hasty() -> Options {
     Options {
         access: true,
         idle: IDLE,
@@ -144,7 +144,7 @@ fn is_told(alloc: Global, client: &mut TcpStream, row: &'static Row) -> bool {
 }
 
 /// Whether the rows go as they say, one after the other on one connection.
-pub fn go<W: Net<Stream = TcpStream>>(rt: &W, alloc: Global, gateway: SocketAddr) -> Option<bool> {
+fn go<W: Net<Stream = TcpStream>>(rt: &W, alloc: Global, gateway: SocketAddr) -> Option<bool> {
     let device = open_device(rt)?;
     let port = device.local_addr().ok()?.port();
     let mut client = open_client(rt, gateway)?;
@@ -167,7 +167,7 @@ fn rows_go_over_sockets(rt: HostRuntime) {
 }
 
 /// Whether a client that stops within a request is told the end.
-pub fn is_given_up<W: Net<Stream = TcpStream>>(rt: &W, gateway: SocketAddr) -> Option<bool> {
+fn is_given_up<W: Net<Stream = TcpStream>>(rt: &W, gateway: SocketAddr) -> Option<bool> {
     let mut client = open_client(rt, gateway)?;
     client.write_all(b"GET /hc/coap").ok()?;
     let mut told = [0u8; 16];
@@ -185,7 +185,7 @@ fn a_request_that_stands_still_ends(rt: HostRuntime) {
 }
 
 /// Whether one more is answered where as many are connected as may be, and ask nothing.
-pub fn is_taken<W: Net<Stream = TcpStream> + Clock>(
+fn is_taken<W: Net<Stream = TcpStream> + Clock>(
     rt: &W,
     alloc: Global,
     gateway: SocketAddr,

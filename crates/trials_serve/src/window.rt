@@ -103,7 +103,7 @@ fn answers<W: Net<Stream = TcpStream>>(
 }
 
 /// Whether the window answers all as it has to.
-pub fn answers_all<W: Net<Stream = TcpStream>>(
+fn answers_all<W: Net<Stream = TcpStream>>(
     rt: &W,
     alloc: Global,
     window: SocketAddr,
@@ -140,7 +140,7 @@ pub fn told_to<W: Net<Stream = TcpStream>>(
 }
 
 /// Whether the window counts an answer of the gateway's own, once that was given.
-pub fn is_counted<W: Net<Stream = TcpStream>>(rt: &W, alloc: Global, shown: Shown) -> Option<bool> {
+fn is_counted<W: Net<Stream = TcpStream>>(rt: &W, alloc: Global, shown: Shown) -> Option<bool> {
     told_to(rt, alloc, shown.gateway, b"?\r\n\r\n")?;
     let asked = b"GET /metrics HTTP/1.1\r\nHost: w\r\n\r\n";
     let figures = told_to(rt, alloc, shown.window, asked)?;
@@ -179,11 +179,7 @@ fn said() -> &'static [(&'static str, &'static str)] {
 }
 
 /// Whether the window leads from an answer of the gateway's own to its entries.
-pub fn shows_journal<W: Net<Stream = TcpStream>>(
-    rt: &W,
-    alloc: Global,
-    shown: Shown,
-) -> Option<bool> {
+fn shows_journal<W: Net<Stream = TcpStream>>(rt: &W, alloc: Global, shown: Shown) -> Option<bool> {
     told_to(rt, alloc, shown.gateway, b"?\r\n\r\n")?;
     for &(asked, said) in said() {
         let text = told_to(rt, alloc, shown.window, asked.as_bytes())?;
