@@ -52,9 +52,9 @@ AreHeard h [] [] = ⊤
 AreHeard h (j ∷ js) (m ∷ ms) = ((t : ℕ) × HeardAs h j t m) × AreHeard h js ms
 AreHeard h _ _ = ⊥
 
--- They are the pieces of a response, and the last is a 2.03 by which it was renewed (RFC 7252 section
--- 5.9.1.3). Before that it had a format, be it one that an earlier 2.03 named; all else was as it was
--- fetched.
+-- They are the pieces of a response, and the last is a 2.03 by which it was renewed (RFC 7252
+-- section 5.9.1.3). Before that it had a format, be it one that an earlier 2.03 named; all else was
+-- as it was fetched.
 pub record IsRenewal (ms : List Content) (w : Response) : Type 0 where
   pub first : Content
   pub more : List Content

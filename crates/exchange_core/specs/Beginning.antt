@@ -79,8 +79,8 @@ exchange_by t token p sense observes sent n = record {
 abbrev pub reader_by : ℕ → ℕ → Reader
 reader_by c n = record { ask = n; conn = c; opening = n }
 
--- one exchange more with its reader and what it asks about, whose message was handed in under the next
--- token; what observed the same ends, and nothing is awaited under its tokens
+-- one exchange more with its reader and what it asks about, whose message was handed in under the
+-- next token; what observed the same ends, and nothing is awaited under its tokens
 abbrev pub with_exchange :
     ℕ → Sense → Exchange → Reader → Option Stored → Waiting → State → State
 with_exchange t sense e r keeps w S = record S {
@@ -95,8 +95,8 @@ with_exchange t sense e r keeps w S = record S {
 abbrev pub numbers_of : List ℕ → List ℕ → ℕ → Numbers
 numbers_of token text word = record { token = token; text = text; word = word }
 
--- The ask of a connection that waits for nothing is served nothing and joins no exchange, there is a
--- place for its own, and its message is spelled under the next token.
+-- The ask of a connection that waits for nothing is served nothing and joins no exchange, there is
+-- a place for its own, and its message is spelled under the next token.
 pub record MayBegin (t word c : ℕ) (m : Mapping) (p : Peer) (token text : List ℕ) (S : State)
     : Type 0 where
   pub unsealed : S.sealed ≡ false

@@ -23,8 +23,8 @@ use Rattle.exchange_core.specs.Values.{CoreValue, stepped}
 abbrev pub now : ℕ → ℕ → ℕ
 now last moment = max last (min moment LAST_MOMENT)
 
--- A connection is opened under the next number; or the journal takes it no more; or as many are open
--- as may be. Where memory is wanted, nothing changes.
+-- A connection is opened under the next number; or the journal takes it no more; or as many are
+-- open as may be. Where memory is wanted, nothing changes.
 abbrev pub IsOpened : Result ℕ OpenFault → ℕ → CoreValue → CoreValue → Type 0
 IsOpened (Ok id) t old new =
     (id ≡ old.state.opened) × (new ≡ stepped (opens_in_room t old.state) old)
@@ -44,8 +44,8 @@ IsClosed t c old new =
 abbrev pub IsUnknown : ℕ → CoreValue → Type 0
 IsUnknown c v = (p : Option ℕ) → HasConn v.state.conns c p → ⊥
 
--- What a message is sent under (RFC 7252 section 5.3.1): a token that begins with how many were issued
--- before, and ends with the high 32 bits of the word.
+-- What a message is sent under (RFC 7252 section 5.3.1): a token that begins with how many were
+-- issued before, and ends with the high 32 bits of the word.
 pub record IsWordedBy (word : ℕ) (n : Numbers) (S : State) : Type 0 where
   pub word_is : n.word ≡ word
   pub token_size : length n.token ≡ 8
@@ -65,13 +65,15 @@ pub record AsksSo (t word c : ℕ) (a : Ask) (old new : CoreValue) : Type 0 wher
   pub idle : HasConn old.state.conns c None
   pub is : new ≡ stepped (asks_in_room t c a numbers old.state) old
 
--- A datagram is lost after the seal, or from an endpoint to which nothing was sent, or above 2,048 bytes.
+-- A datagram is lost after the seal, or from an endpoint to which nothing was sent, or above 2,048
+-- bytes.
 pub record IsTakenIn (p : Peer) (d : List ℕ) (S : State) : Type 0 where
   pub unsealed : S.sealed ≡ false
   pub known : is_some (link_of S.links p).last_mid ≡ true
   pub short : length d ≤ MAX_DATAGRAM_LEN
 
--- A datagram is heard. Where an exchange goes on by it, its next message is spelled under the next token.
+-- A datagram is heard. Where an exchange goes on by it, its next message is spelled under the next
+-- token.
 pub record HearsSo (t word : ℕ) (p : Peer) (d : List ℕ) (old new : CoreValue) : Type 0 where
   pub numbers : Numbers
   pub worded : IsWordedBy word numbers old.state

@@ -41,7 +41,8 @@ abbrev pub link_deeds : Peer → List ℕ → Heeding → Option FirstSending �
 link_deeds p d x next = Hears p d ∷ (map (confirm p) (listed x.reply) ++ sent_first p next)
 
 -- all that the datagram brings, which is this to the exchanges
-abbrev pub hearing_deeds : Peer → List ℕ → Heeding → Option FirstSending → Matter → State → List Deed
+abbrev pub hearing_deeds : Peer → List ℕ → Heeding → Option FirstSending → Matter → State
+    → List Deed
 hearing_deeds p d x next matter S =
     link_deeds p d x next ++ map answer_of (told_for (length S.entries) matter S.readers)
 
@@ -63,7 +64,8 @@ IsFirstSo xs k matter = Unit {0}
 
 -- What is observed after it, of which this is registered.
 abbrev pub watches_after :
-    ℕ → List Written → Notice → RustMatter → Option Registration → List Registration → List Registration
+    ℕ → List Written → Notice → RustMatter → Option Registration → List Registration
+    → List Registration
 watches_after t ws notice M.Nothing more rs = rs
 watches_after t ws notice (M.Tells k) more rs = noticed k.token notice t rs
 watches_after t ws notice (M.Goes g) more rs = rs ++ option_to_list more

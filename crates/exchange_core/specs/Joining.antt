@@ -15,8 +15,8 @@ use Rattle.exchange_table.specs.Joining.{is_joined_by}
 abbrev pub joined_for : Sense → State → Option Exchange
 joined_for sense S = find (is_joined_by S.entries sense) S.exchanges
 
--- The ask reads along what the ask with this number opened, whatever its message would be sent under,
--- which keeps what a core keeps.
+-- The ask reads along what the ask with this number opened, whatever its message would be sent
+-- under, which keeps what a core keeps.
 pub record MayJoin (t c : ℕ) (a : Ask) (opening : ℕ) (S : State) : Type 0 where
   pub is : (n : Numbers) → asked t c a n S ≡ joins t c a opening S
   pub kept : KeptInRoom (in_room t (joins t c a opening S) S)

@@ -41,20 +41,23 @@ pub record Answer : Type 0 where
 abbrev pub replied_to : Option Exchange → (Exchange → Progress) → Option Answer
 replied_to v comes = option_map (λ (e : Exchange). record { exchange = e; progress = comes e }) v
 
--- By a message that says that what it asks about is valid still it ends, and by any other it comes so far.
+-- By a message that says that what it asks about is valid still it ends, and by any other it comes
+-- so far.
 abbrev pub comes_or_renews : Content → State → Exchange → Progress
 comes_or_renews m S e =
     unless_confirmed (stale_in e.opening S.stales) (length S.entries) m (comes_to m S e)
 
 abbrev pub answer_in : Told → List ℕ → State → Option Answer
-answer_in (response m) token S = replied_to (find (is_under token) S.exchanges) (comes_or_renews m S)
+answer_in (response m) token S =
+    replied_to (find (is_under token) S.exchanges) (comes_or_renews m S)
 answer_in (was_reset of) token S = replied_to (find (is_under of) S.exchanges) (λ e. Ends Reset)
 answer_in told token S = None
 
 abbrev pub IsAnswered : ℕ → Option Answered → Option Answer → Type 0
 IsAnswered n None v = v ≡ None
 IsAnswered n (Some a) v =
-    (u : Progress) × (v ≡ Some (record { exchange = a.exchange; progress = u })) × IsComing n a.coming u
+    (u : Progress) × (v ≡ Some (record { exchange = a.exchange; progress = u }))
+    × IsComing n a.coming u
 
 -- what it is to the exchanges, where there is a place for a next message or not
 abbrev pub matter_with : Bool → Option Answer → Matter
@@ -79,8 +82,8 @@ abbrev pub more_in : RustMatter → Option Submission
 more_in (M.Goes g) = Some g.submission
 more_in x = None
 
--- The next message is for this block of what was asked for, or of its body, or for the first; it is spelled
--- under this token, and prepared after the datagram.
+-- The next message is for this block of what was asked for, or of its body, or for the first; it is
+-- spelled under this token, and prepared after the datagram.
 pub record IsNextFor (t word : ℕ) (link : LinkValue) (x : Heeding) (q : CoapRequest)
     (block : Option Block) (token : List ℕ) (s : Submission) : Type 0 where
   pub text : List ℕ
@@ -128,7 +131,8 @@ abbrev pub told_of : ℕ → Matter → List Reader → List Telling
 told_of n (Over e how) rs = readers_told how n e rs
 told_of n x rs = []
 
--- Each of them asked, and is told what the entries say, with those that are drafted for these deeds.
+-- Each of them asked, and is told what the entries say, with those that are drafted for these
+-- deeds.
 pub record TellsSo (t : ℕ) (ds : List Deed) (k : RustMatter) (S : State) : Type 0 where
   pub numbers : Numbers
   pub matter : Matter

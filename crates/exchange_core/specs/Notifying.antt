@@ -70,7 +70,8 @@ registered_for t e (Some q) v = record {
   asked = e.asked;
 } ∷ []
 
-abbrev pub registered_by : ℕ → Notice → Exchange → List Written → List Registration → List Registration
+abbrev pub registered_by : ℕ → Notice → Exchange → List Written → List Registration
+    → List Registration
 registered_by t (Other v) e ws rs = []
 registered_by t (Update v) e ws rs =
     if e.observes && (e.current && nat_lt (length rs) most_watches)
@@ -94,7 +95,9 @@ IsNotedIn notice m (M.Goes g) = IsNoted notice m g.exchange.token
 IsNotedIn notice m (M.Over e ended) = IsNoted notice m e.token
 
 -- What becomes of what is observed is what the steps say.
-pub record IsWatchedBy (t : ℕ) (m : Content) (k : RustMatter) (w : Watching) (x : Matter) (S : State)
+pub record IsWatchedBy (t : ℕ) (m : Content) (k : RustMatter) (w : Watching) (x : Matter)
+    (S : State)
     : Type 0 where
-  pub watches : watches_after t S.entries w.notice k w.more S.watches ≡ watches_by t m S.entries x S.watches
+  pub watches : watches_after t S.entries w.notice k w.more S.watches
+      ≡ watches_by t m S.entries x S.watches
   pub gone : w.gone.items ≡ gone_by m S.entries x S.watches

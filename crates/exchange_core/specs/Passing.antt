@@ -9,7 +9,8 @@ use Rattle.exchange_core.specs.Drafts.{DraftValue}
 use Rattle.exchange_core.specs.States.{with_draft}
 use Rattle.exchange_core.specs.Watching.{is_unwatched_by}
 
--- The state after the links, the exchanges and what is observed moved on, and what was drafted came.
+-- The state after the links, the exchanges and what is observed moved on, and what was drafted
+-- came.
 abbrev pub moved_on :
     ℕ → (List ℕ → Bool) → List Exchange → List Exchange → DraftValue → State → State
 moved_on t gone over es d S = let V = with_draft t d S in record V {

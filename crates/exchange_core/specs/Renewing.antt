@@ -14,8 +14,8 @@ use Rattle.history_laws.specs.Responses.{confirms, valid}
 use Rattle.history_laws.specs.Progress.{Progress, Ends, Renewed}
 use Rattle.exchange_model.specs.Steps.{as_pieces, if_tagged, is_piece_at, reply_at}
 
--- The entry with this number heard a datagram with the code of a 2.03, which is its second byte (RFC 7252
--- section 3).
+-- The entry with this number heard a datagram with the code of a 2.03, which is its second byte
+-- (RFC 7252 section 3).
 abbrev pub is_valid_code : ℕ → Bool
 is_valid_code b = b == valid
 
@@ -50,7 +50,8 @@ IsListed ws js = AllByRecursion (IsPiece ws) js ⊎ IsRenewedLast ws js
 
 -- the last of these didn't hear one
 abbrev pub ends_heard : List Written → List ℕ → Bool
-ends_heard ws js = option_map_or (λ (n : ℕ). not (hears_valid ws n)) (slice_get js (length js - 1)) true
+ends_heard ws js =
+    option_map_or (λ (n : ℕ). not (hears_valid ws n)) (slice_get js (length js - 1)) true
 
 abbrev pub ends_as_heard : List Written → Pair → Bool
 ends_as_heard ws p = ends_heard ws p.stored.list
@@ -69,8 +70,8 @@ IsAskable ws s = IfSome s.response.etag IsShortTag × IsListed ws s.list
 abbrev pub AreAskable : List Written → List Pair → Type 0
 AreAskable ws ps = AllByRecursion (λ (p : Pair). IsAskable ws p.stored) ps
 
--- what is stored for an ask, where it is a GET, isn't fresh any more, and has an ETag: as an exchange
--- keeps it
+-- what is stored for an ask, where it is a GET, isn't fresh any more, and has an ETag: as an
+-- exchange keeps it
 abbrev pub stale_read : Option CacheKey → ℕ → List Pair → Option Stored
 stale_read None t ps = None
 stale_read (Some key) t ps = if_tagged (stale_under key t ps)
@@ -78,7 +79,9 @@ stale_read (Some key) t ps = if_tagged (stale_under key t ps)
 abbrev pub stale_for : Sense → ℕ → List Written → List Pair → Option Stored
 stale_for sense t ws ps = option_map (as_pieces ws) (stale_read (key_read sense) t ps)
 
--- What an exchange comes to that asks about this: by a message that says that it is valid still, it ends.
+-- What an exchange comes to that asks about this: by a message that says that it is valid still, it
+-- ends.
 abbrev pub unless_confirmed : Option Stored → ℕ → Content → Progress → Progress
 unless_confirmed None n m u = u
-unless_confirmed (Some s) n m u = if confirms s.response.etag m then Ends (Renewed s (reply_at n m)) else u
+unless_confirmed (Some s) n m u =
+    if confirms s.response.etag m then Ends (Renewed s (reply_at n m)) else u

@@ -22,8 +22,8 @@ fault_in F.Spent = Some Spent
 fault_in F.Crowded = Some Crowded
 fault_in F.Memory = None
 
--- It is refused for this, the first reason that there is. Memory is wanted only where all that is known
--- without it allows the turn.
+-- It is refused for this, the first reason that there is. Memory is wanted only where all that is
+-- known without it allows the turn.
 abbrev pub IsRefused : ℕ → State → Refusal → Type 0
 IsRefused t S F.Memory = (fault_of t S ≡ None) ⊎ (fault_of t S ≡ Some Crowded)
 IsRefused t S fault = fault_of t S ≡ fault_in fault

@@ -10,8 +10,8 @@ use Rattle.exchange_core.specs.declared.state.State.{State as RustState}
 use Rattle.exchange_core.specs.Answering.{Given, IsGiven}
 use Rattle.exchange_core.specs.States.{state_of, given_in}
 
--- A journal that stands within its limits counts so many bytes, and has a place for the Shut of each
--- connection and one for the Sealed; the answers that aren't taken stand in it.
+-- A journal that stands within its limits counts so many bytes, and has a place for the Shut of
+-- each connection and one for the Sealed; the answers that aren't taken stand in it.
 pub record SoundState (S : State) (bytes room : ℕ) (gs : List Given) : Type 0 where
   pub kept : KeptInRoom S
   pub drained : IsDrained S

@@ -53,8 +53,8 @@ pub record SeesSame {R : Type 0} (old new : RustState R) : Type 0 where
   pub bytes : new.bytes ≡ old.bytes
   pub room : old.journal.room ≤ new.journal.room
 
--- There are places for what isn't taken at once, and for the entries, after which there is one for the
--- Shut of each connection and one for the Sealed.
+-- There are places for what isn't taken at once, and for the entries, after which there is one for
+-- the Shut of each connection and one for the Sealed.
 pub record HasPlaces {R : Type 0} (s : RustState R) (d : DraftValue) : Type 0 where
   pub answers : vec_len s.answers + length d.answers ≤ vec_capacity s.answers
   pub sends : deque_len s.sends + length d.sends ≤ deque_capacity s.sends

@@ -8,8 +8,8 @@ use Rattle.exchange_core.specs.Drafts.{untaken_of}
 abbrev pub is_to_other : ℕ → Untaken → Type 0
 is_to_other k u = u.ask ≢ k
 
--- An answer to the ask that wasn't taken is taken, with what the journal says of it; or there is none,
--- and nothing changes.
+-- An answer to the ask that wasn't taken is taken, with what the journal says of it; or there is
+-- none, and nothing changes.
 abbrev pub IsTaken : Option Given → ℕ → CoreValue → CoreValue → Type 0
 IsTaken (Some g) k old new =
     (g.ask ≡ k) × Contains old.untaken (untaken_of g) × IsGiven old.state.entries g

@@ -101,8 +101,8 @@ fn note_stale(stales: &mut Stales, opening: u32, keeps: Option<StoredResponse>)
     }
 }
 
-/// Opens the exchange with its reader, hands in its message, and adds what was drafted. What observed
-/// the same ends, and nothing is awaited any more under these tokens.
+/// Opens the exchange with its reader, hands in its message, and adds what was drafted. What
+/// observed the same ends, and nothing is awaited any more under these tokens.
 fn add_exchange<R: Relation>(
     s: &mut State<R>,
     mapped: &Mapped<R>,
@@ -168,7 +168,8 @@ fn work_of<R: Relation>(mapped: &Mapped<R>) -> Work
     Work::Gives(Upload::new(mapped.body(), LARGEST_SZX))
 }
 
-/// The exchange that the ask with this number opens, whose message goes out at once where it is sent.
+/// The exchange that the ask with this number opens, whose message goes out at once where it is
+/// sent.
 fn exchange_of<R: Relation>(
     opening: u32,
     moment: u64,
@@ -297,7 +298,8 @@ fn ask<R: Relation>(
     requires sound { IsSound s.old }
     requires begins { MayBegin moment word conn (arc_value mapped) message.peer message.token
         message.first.text (state_of s.old) }
-    requires observes { message.first.observes ≡ wants_for (arc_value mapped) s.old.watches.standing }
+    requires observes { message.first.observes
+        ≡ wants_for (arc_value mapped) s.old.watches.standing }
     requires keeps { message.first.keeps ≡ keeps_for moment (arc_value mapped) (state_of s.old) }
     requires gone { message.gone.items
         ≡ tokens_of (is_renewed_for (arc_value mapped).sense) s.old.watches.standing }

@@ -42,9 +42,9 @@ use std::sync::Arc;
 use transformers::Relation;
 use uri_map::Peer;
 
-/// A proxy's journal, what is open, and what isn't taken yet. Its type keeps that one reading of the
-/// journal is legal and at rest, that what is kept is what that reading says, and that room is held
-/// free for what has to come.
+/// A proxy's journal, what is open, and what isn't taken yet. Its type keeps that one reading of
+/// the journal is legal and at rest, that what is kept is what that reading says, and that room is
+/// held free for what has to come.
 pub struct Core<R: Relation> {
     alloc: Global,
     state: State<R>,
@@ -70,7 +70,8 @@ impl<R: Relation> Model for Core<R> {
 }
 
 impl<R: Relation> Core<R> {
-    /// A core with no entry. Its journal has the place of the Sealed; each step makes those of its entries.
+    /// A core with no entry. Its journal has the place of the Sealed; each step makes those of its
+    /// entries.
     pub fn new(alloc: Global) -> Result<Core<R>, AllocError>
         ensures { IfOk result (λ c. c ≡ core_of start [] []) }
     {
@@ -109,8 +110,8 @@ impl<R: Relation> Core<R> {
         &self.state.journal
     }
 
-    /// The moment that counts at a call with this one, in milliseconds: none before the last, and none
-    /// above 2^62.
+    /// The moment that counts at a call with this one, in milliseconds: none before the last, and
+    /// none above 2^62.
     fn now(&self, moment: u64) -> u64
         ensures is { result ≡ now self.now.state.moment moment }
         ensures later { self.now.state.moment ≤ result }
@@ -119,8 +120,8 @@ impl<R: Relation> Core<R> {
         self.state.moment.max(moment.min(LAST_MOMENT))
     }
 
-    /// Opens a connection at this moment, under the next number. At most 256 are open; the first call
-    /// that finds no room for it seals the journal.
+    /// Opens a connection at this moment, under the next number. At most 256 are open; the first
+    /// call that finds no room for it seals the journal.
     pub fn open(&mut self, moment: u64) -> Result<u32, OpenFault>
         ensures opens { IsOpened result (now self.old.state.moment moment) self.old self.new }
         ensures above { IfOk result (λ id. AreBelow id self.old.state.conns) }
@@ -130,8 +131,8 @@ impl<R: Relation> Core<R> {
         Ok(id)
     }
 
-    /// Closes a connection at this moment, and tells whether it was open. It is answered nothing more;
-    /// what it asked for goes on. It takes no memory.
+    /// Closes a connection at this moment, and tells whether it was open. It is answered nothing
+    /// more; what it asked for goes on. It takes no memory.
     pub fn close(&mut self, moment: u64, conn: u32) -> bool
         ensures closed { IsTrue result
             → IsClosed (now self.old.state.moment moment) conn self.old self.new }
@@ -152,9 +153,9 @@ impl<R: Relation> Core<R> {
     /// stored for it, while that is fresh, or joins the open exchange of an equal one, unless a
     /// write to its place has ended since that was opened (RFC 7252 section 5.6). Else the request
     /// begins an exchange, whose message goes out at once or waits for its turn at its endpoint
-    /// (section 4.7), or it is answered at once: a refusal, or busy where 256 exchanges are open, 64
-    /// messages wait at the endpoint, or its message IDs are used up. The first call that finds no
-    /// room for it seals the journal. The word is 64 random bits, for the token, the ID and the
+    /// (section 4.7), or it is answered at once: a refusal, or busy where 256 exchanges are open,
+    /// 64 messages wait at the endpoint, or its message IDs are used up. The first call that finds
+    /// no room for it seals the journal. The word is 64 random bits, for the token, the ID and the
     /// timeout.
     pub fn ask(
         &mut self,
@@ -175,12 +176,14 @@ impl<R: Relation> Core<R> {
         asking::ask(self.alloc, &mut self.state, moment, word, conn, mapped)
     }
 
-    /// Takes a datagram that came from this endpoint at this moment (RFC 7252 sections 4.2 to 4.5 and
-    /// 5.3.2). The reply to a GET may be one piece of several: its exchange goes on then with a message
-    /// that asks for the next one, under the next token, and ends with the last, or where that message
-    /// finds no place (RFC 7959 section 2.4). The whole 2.05 that ends the exchange of a GET is stored,
-    /// where no write outran that; and where a write ends, what is stored of its place goes (RFC 7252
-    /// sections 5.6, 5.9.2). The word is 64 random bits, for that token and its timeout.
+    /// Takes a datagram that came from this endpoint at this moment (RFC 7252 sections 4.2 to 4.5
+    /// and
+    /// 5.3.2). The reply to a GET may be one piece of several: its exchange goes on then with a
+    /// message that asks for the next one, under the next token, and ends with the last, or where
+    /// that message finds no place (RFC 7959 section 2.4). The whole 2.05 that ends the exchange of
+    /// a GET is stored, where no write outran that; and where a write ends, what is stored of its
+    /// place goes (RFC 7252 sections 5.6, 5.9.2). The word is 64 random bits, for that token and
+    /// its timeout.
     pub fn heard(
         &mut self,
         moment: u64,
@@ -199,9 +202,9 @@ impl<R: Relation> Core<R> {
 
     /// Does what is due at this moment (RFC 7252 sections 4.2 and 4.8.2): copies go out; messages
     /// that were sent five times in vain are given up, and the next ones go out; and asks are
-    /// answered whose exchanges end with that, or were open for 93 seconds. Where writes end so, what
-    /// is stored of their places goes. The first call that finds no room for it seals the journal.
-    /// After the seal the asks alone are answered, for which room is held.
+    /// answered whose exchanges end with that, or were open for 93 seconds. Where writes end so,
+    /// what is stored of their places goes. The first call that finds no room for it seals the
+    /// journal. After the seal the asks alone are answered, for which room is held.
     pub fn tick(&mut self, moment: u64) -> Result<(), AllocError>
         ensures ticks { OnOk result (self.new
             ≡ stepped (ticks_in_room (now self.old.state.moment moment) self.old.state) self.old) }
@@ -212,10 +215,10 @@ impl<R: Relation> Core<R> {
         ticking::tick(self.alloc, &mut self.state, moment)
     }
 
-    /// Gives the sealed journal out at this moment, where nobody is connected and no exchange is open,
-    /// and goes on with one that begins with copies: of the first sendings whose message IDs are in use
-    /// (RFC 7252 section 4.4), and of the messages that may still be repeated (section 4.5). Numbers of
-    /// tokens and connections go on.
+    /// Gives the sealed journal out at this moment, where nobody is connected and no exchange is
+    /// open, and goes on with one that begins with copies: of the first sendings whose message IDs
+    /// are in use (RFC 7252 section 4.4), and of the messages that may still be repeated (section
+    /// 4.5). Numbers of tokens and connections go on.
     pub fn rotate(&mut self, moment: u64) -> Result<Journal<R>, RotateFault>
         ensures turned { IfOk result (λ given.
             IsTurned (now self.old.state.moment moment) given.entries self.old self.new) }
@@ -289,7 +292,8 @@ impl<R: Relation> Core<R> {
         taking::take_answer(&mut self.state.answers, ticket.number)
     }
 
-    /// Takes the answer to the first of the asks whose answers aren't taken yet. It takes no memory.
+    /// Takes the answer to the first of the asks whose answers aren't taken yet. It takes no
+    /// memory.
     pub fn take_first(&mut self) -> Option<Answer<R>>
         ensures { IsFirstTaken (option_map given_of result) self.old self.new }
     {
@@ -311,7 +315,8 @@ impl<R: Relation> Core<R> {
         Ok(now)
     }
 
-    /// Goes back to what the core was, where since then entries were only added. It takes no memory.
+    /// Goes back to what the core was, where since then entries were only added. It takes no
+    /// memory.
     pub fn restore(&mut self, snapshot: Snapshot<R>)
         requires { MayRestore snapshot self.old }
         ensures { (core : CoreValue) → IsOf snapshot core

@@ -81,7 +81,8 @@ pub fn readers_told(
     Ok(told)
 }
 
-/// The moment from which it counts: that of its first reply, or this one, where its entry comes now.
+/// The moment from which it counts: that of its first reply, or this one, where its entry comes
+/// now.
 pub fn first_moment<R: Relation>(journal: &Journal<R>, grounds: &Grounds, moment: u64) -> u64
     ensures { result ≡ first_moment journal.now.entries moment (grounds_of grounds.now) }
 {
@@ -96,8 +97,8 @@ pub fn first_moment<R: Relation>(journal: &Journal<R>, grounds: &Grounds, moment
     }
 }
 
-/// The moment from which what was renewed counts: that of the last of its replies, or this one, where
-/// the entry of that comes now.
+/// The moment from which what was renewed counts: that of the last of its replies, or this one,
+/// where the entry of that comes now.
 pub fn last_moment<R: Relation>(journal: &Journal<R>, grounds: &Grounds, moment: u64) -> u64
     ensures { result ≡ last_moment journal.now.entries moment (grounds_of grounds.now) }
 {

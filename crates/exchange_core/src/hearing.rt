@@ -151,8 +151,8 @@ fn is_first(fetched: &Fetched, going: &Going) -> bool
     going.onward.block.is_some() && !fetched.has_any_of(going.exchange.opening)
 }
 
-/// The exchanges after the datagram: one goes on, or ends; where that was a write, GETs join those of
-/// its place no more.
+/// The exchanges after the datagram: one goes on, or ends; where that was a write, GETs join those
+/// of its place no more.
 fn change_exchanges<R: Relation>(
     exchanges: &mut Exchanges,
     journal: &Journal<R>,
@@ -393,8 +393,8 @@ fn add_heard<R: Relation>(
     Ok(())
 }
 
-/// Does what a datagram brings that isn't lost, or seals the journal. A next message goes under this
-/// token.
+/// Does what a datagram brings that isn't lost, or seals the journal. A next message goes under
+/// this token.
 fn take<R: Relation>(
     alloc: Global,
     s: &mut State<R>,

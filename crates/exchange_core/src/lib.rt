@@ -1,9 +1,9 @@
 //! The core of the proxy, over a link of the message layer for each endpoint.
 //!
-//! One contract: each call leaves just what the function of `exchange_model` for it leaves of the core's
-//! state before, or seals the journal where there is no room for that, or changes nothing; so of every
-//! core one reading of its journal is legal and at rest. What a call adds to the journal is to be taken
-//! after it: answers by their asks, and datagrams in order.
+//! One contract: each call leaves just what the function of `exchange_model` for it leaves of the
+//! core's state before, or seals the journal where there is no room for that, or changes nothing;
+//! so of every core one reading of its journal is legal and at rest. What a call adds to the
+//! journal is to be taken after it: answers by their asks, and datagrams in order.
 #![tactic(auto)]
 
 mod answer;

@@ -100,8 +100,8 @@ fn coming_of<R: Relation>(
     comes_to(alloc, &s.journal, pieces, exchange, number, message)
 }
 
-/// What the exchange comes to by the reply, which the entry with this number bears. It ends where that
-/// says that what it asks about is valid still.
+/// What the exchange comes to by the reply, which the entry with this number bears. It ends where
+/// that says that what it asks about is valid still.
 fn replied_to<R: Relation>(
     alloc: Global,
     s: &State<R>,
@@ -111,8 +111,10 @@ fn replied_to<R: Relation>(
 ) -> Result<Coming, AllocError>
     requires { IsFewTimes exchange.now }
     ensures coming { IfOk result (λ x. IsComing number x
-        (unless_confirmed (stale_in exchange.now.opening s.now.stales.stales) number (content message)
-        (comes_by s.now.journal.entries s.now.fetched.pieces exchange.now number (content message)))) }
+        (unless_confirmed (stale_in exchange.now.opening s.now.stales.stales)
+        number (content message)
+        (comes_by s.now.journal.entries s.now.fetched.pieces exchange.now
+        number (content message)))) }
     ensures sayable { IfOk result AsksSayable }
 {
     if let Some(stored) = s.stales.of(exchange.opening) {
@@ -123,8 +125,8 @@ fn replied_to<R: Relation>(
     coming_of(alloc, s, exchange, number, message)
 }
 
-/// The exchange that the datagram answers, by what its link tells of it, and what that comes to by the
-/// entry with this number.
+/// The exchange that the datagram answers, by what its link tells of it, and what that comes to by
+/// the entry with this number.
 fn answer_in<R: Relation>(
     alloc: Global,
     s: &State<R>,
@@ -158,8 +160,8 @@ fn answer_in<R: Relation>(
     }
 }
 
-/// The message for this block of what the ask with this number was for, or of its body, or for the first,
-/// under message ID 0.
+/// The message for this block of what the ask with this number was for, or of its body, or for the
+/// first, under message ID 0.
 fn next_text<R: Relation>(
     alloc: Global,
     journal: &Journal<R>,

@@ -63,8 +63,8 @@ fn is_such(message: &Message) -> bool
     }
 }
 
-/// What is stored by a notification that counts, in the entry with this number, for what the exchange
-/// with this opening registered.
+/// What is stored by a notification that counts, in the entry with this number, for what the
+/// exchange with this opening registered.
 fn found_in<R: Relation>(
     alloc: Global,
     journal: &Journal<R>,

@@ -49,8 +49,8 @@ fn add_conn<R: Relation>(s: &mut State<R>, moment: u64) -> u32
     id
 }
 
-/// Opens a connection at this moment. There have to be places for its Opened and its Shut, beside those
-/// that are held for the other connections and the Sealed.
+/// Opens a connection at this moment. There have to be places for its Opened and its Shut, beside
+/// those that are held for the other connections and the Sealed.
 pub fn open<R: Relation>(s: &mut State<R>, moment: u64) -> Result<u32, OpenFault>
     requires sound { IsSound s.old }
     requires later { s.old.moment ≤ moment }
@@ -84,8 +84,8 @@ fn find_pending(conns: &[Conn], id: u32) -> Option<Option<u32>>
     Some(conns[place].pending)
 }
 
-/// Takes a connection out, with who waits on it, and adds its entry. It waits for the answer to this
-/// ask, or for none.
+/// Takes a connection out, with who waits on it, and adds its entry. It waits for the answer to
+/// this ask, or for none.
 fn take_conn<R: Relation>(s: &mut State<R>, moment: u64, conn: u32, pending: Option<u32>)
     requires room { 0 < s.old.journal.room }
     requires conns { RiseBy id_of s.old.conns.items }

@@ -40,7 +40,8 @@ fn draft_refusal<R: Relation>(
     ensures drafts { IfOk result (λ d. Drafts moment (state_of s.now)
         (refusal_deeds conn (ask_of (arc_value mapped.now)) cause (state_of s.now)) d) }
     ensures answers { IfOk result (λ d. d.answers
-        ≡ refusal_given (length s.now.journal.entries) moment conn (arc_value mapped.now) cause ∷ []) }
+        ≡ refusal_given (length s.now.journal.entries) moment conn (arc_value mapped.now) cause
+        ∷ []) }
 {
     let number = s.journal.len() as u32;
     let asked = Arc::try_clone(mapped)?;
@@ -62,8 +63,8 @@ fn draft_refusal<R: Relation>(
     Ok(draft)
 }
 
-/// Enters an ask, and answers it by the proxy itself. Where there is no room for that, the journal is
-/// sealed.
+/// Enters an ask, and answers it by the proxy itself. Where there is no room for that, the journal
+/// is sealed.
 pub fn refuse<R: Relation>(
     alloc: Global,
     s: &mut State<R>,

@@ -1,5 +1,5 @@
-//! What is stored and isn't fresh any more: exchanges ask whether it is valid still, and a 2.03 renews
-//! it (RFC 7252 section 5.9.1.3).
+//! What is stored and isn't fresh any more: exchanges ask whether it is valid still, and a 2.03
+//! renews it (RFC 7252 section 5.9.1.3).
 
 ghost use Rattle.std.specs.Prelude.{◌≡◌, IfOk};
 ghost use Rattle.coap_codec.specs.Spelling.{content};
@@ -84,8 +84,8 @@ fn as_pieces<R: Relation>(
     }
 }
 
-/// What is stored for the request, where that is a GET, isn't fresh at this moment, and has an ETag:
-/// as an exchange keeps it.
+/// What is stored for the request, where that is a GET, isn't fresh at this moment, and has an
+/// ETag: as an exchange keeps it.
 pub fn find_stale<R: Relation>(
     alloc: Global,
     journal: &Journal<R>,

@@ -1,9 +1,9 @@
 //! What a core was, so that steps can be taken back.
 //!
 //! Tables are copied, and of the journal, which only grows, its length is kept: so a snapshot costs
-//! no more than the tables, and going back to it takes no memory. A server makes one step at a time,
-//! which changes nothing where it is refused, and takes no snapshot; one who makes several steps for
-//! an input does.
+//! no more than the tables, and going back to it takes no memory. A server makes one step at a
+//! time, which changes nothing where it is refused, and takes no snapshot; one who makes several
+//! steps for an input does.
 
 ghost use Rattle.std.specs.Prelude.{◌≡◌, ◌≤◌, ◌+◌, length, map, min, take, IfOk};
 ghost use Rattle.exchange_core.specs.Answering.{given_of};
@@ -26,8 +26,8 @@ use std::marker::Model;
 use std::sync::Arc;
 use transformers::Relation;
 
-/// What a core was: how many entries it had, what was open, and what wasn't taken yet. It shares what
-/// was asked and the bytes that were sent.
+/// What a core was: how many entries it had, what was open, and what wasn't taken yet. It shares
+/// what was asked and the bytes that were sent.
 #[derive(Drop)]
 pub struct Snapshot<R: Relation> {
     entries: usize,

@@ -69,8 +69,8 @@ pub fn start<R: Relation>(alloc: Global, s: &State<R>) -> Draft<R>
     Draft::new(alloc, s.journal.len() as u32)
 }
 
-/// Adds an entry, for which there is a place, and notes what it does to the connections, and to those
-/// who wait.
+/// Adds an entry, for which there is a place, and notes what it does to the connections, and to
+/// those who wait.
 fn add_entry<R: Relation>(
     journal: &mut Journal<R>,
     conns: &mut Vec<Conn>,
@@ -97,8 +97,8 @@ fn add_entry<R: Relation>(
     journal.add(entry);
 }
 
-/// Adds entries, for which there are places, and notes what they do to the connections, and to those
-/// who wait.
+/// Adds entries, for which there are places, and notes what they do to the connections, and to
+/// those who wait.
 fn add_all<R: Relation>(
     journal: &mut Journal<R>,
     conns: &mut Vec<Conn>,
@@ -146,8 +146,8 @@ fn put_sends(sends: &mut VecDeque<Datagram>, more: VecDeque<Datagram>)
     }
 }
 
-/// Makes places for the entries, the datagrams and the answers of a draft. Behind the entries a place is
-/// held for the Shut of each connection, and one for the Sealed.
+/// Makes places for the entries, the datagrams and the answers of a draft. Behind the entries a
+/// place is held for the Shut of each connection, and one for the Sealed.
 pub fn make_places<R: Relation>(s: &mut State<R>, draft: &Draft<R>) -> Result<(), AllocError>
     ensures same { SeesSame s.old s.new }
     ensures endpoints { s.new.endpoints ≡ s.old.endpoints }

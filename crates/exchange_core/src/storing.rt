@@ -47,8 +47,8 @@ fn reading_in<'a, R: Relation>(journal: &'a Journal<R>, ended: &Exchange) -> Opt
     asked(journal, ended.opening)?.reading()
 }
 
-/// The whole 2.05 that was found by the exchange with this opening, as it is stored: it counts from the
-/// moment of its first reply. It shares the response.
+/// The whole 2.05 that was found by the exchange with this opening, as it is stored: it counts from
+/// the moment of its first reply. It shares the response.
 pub fn stored_for<R: Relation>(
     alloc: Global,
     journal: &Journal<R>,
@@ -84,8 +84,8 @@ fn is_newest(ended: &Exchange, finding: &Finding) -> bool
     }
 }
 
-/// What the exchange puts into the store that ends with what was found: a whole 2.05 to a GET that no
-/// write and no notification outran.
+/// What the exchange puts into the store that ends with what was found: a whole 2.05 to a GET that
+/// no write and no notification outran.
 fn put_found<R: Relation>(
     alloc: Global,
     journal: &Journal<R>,
@@ -112,8 +112,8 @@ fn put_found<R: Relation>(
     }))
 }
 
-/// What was renewed, as it is stored: it counts from the moment of the last of its replies, and came
-/// first of the exchange with this opening. It shares the response.
+/// What was renewed, as it is stored: it counts from the moment of the last of its replies, and
+/// came first of the exchange with this opening. It shares the response.
 fn renewed_for<R: Relation>(
     alloc: Global,
     journal: &Journal<R>,
@@ -249,7 +249,8 @@ pub fn retire_all<R: Relation>(store: &mut Store, journal: &Journal<R>, over: &[
     }
 }
 
-/// The exchange has ended: what it puts is stored, for which there is room, or what it changed goes.
+/// The exchange has ended: what it puts is stored, for which there is room, or what it changed
+/// goes.
 pub fn settle<R: Relation>(
     store: &mut Store,
     journal: &Journal<R>,

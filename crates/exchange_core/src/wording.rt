@@ -94,8 +94,8 @@ fn plain<R: Relation>(alloc: Global, mapped: &Mapped<R>, token: &Token) -> Resul
     })
 }
 
-/// The first message of a request. It asks to observe where its server may be observed, and one more
-/// may; or else whether what is stored for it and isn't fresh is valid still.
+/// The first message of a request. It asks to observe where its server may be observed, and one
+/// more may; or else whether what is stored for it and isn't fresh is valid still.
 pub fn first_of<R: Relation>(
     alloc: Global,
     s: &State<R>,
