@@ -7,14 +7,15 @@ use Rattle.uri_map.specs.Limits.{uri_options, fits}
 use Rattle.coap_codec.specs.declared.block.Block.{Block}
 use Rattle.ask_model.specs.Requests.{CoapRequest, Sense, Requests, Refuses, block_message, first_block}
 
--- A request is sent as its message under this message ID and token, which may be for one block; and for a
--- refusal nothing is sent.
+-- A request is sent as its message under this message ID and token, which may be for one block; and
+-- for a refusal nothing is sent.
 abbrev pub IsSentFor : Sense → Option Block → ℕ → List ℕ → Option (List ℕ) → Type 0
 IsSentFor (Requests q) block mid token None = ⊥
 IsSentFor (Requests q) block mid token (Some bytes) = Spells (block_message q block mid token) bytes
 IsSentFor (Refuses cause status) block mid token sent = sent ≡ None
 
--- the block that a message is for: the one that is named, or else the first of a body that goes in several
+-- the block that a message is for: the one that is named, or else the first of a body that goes in
+-- several
 abbrev pub block_or_first : CoapRequest → Option Block → Option Block
 block_or_first q None = first_block q
 block_or_first q (Some b) = Some b
@@ -33,8 +34,8 @@ abbrev pub asked_body : Sense → List ℕ
 asked_body (Requests q) = q.body
 asked_body (Refuses cause status) = []
 
--- The request can be sent: it has a request's code, the options of its target keep their limits, and so
--- does its body, which may go in several messages; a GET has none (RFC 7252 section 5.8.1).
+-- The request can be sent: it has a request's code, the options of its target keep their limits,
+-- and so does its body, which may go in several messages; a GET has none (RFC 7252 section 5.8.1).
 pub record FitsMessages (q : CoapRequest) : Type 0 where
   pub code : q.method ≢ 0
   pub target : fits (uri_options q.target) ≡ true

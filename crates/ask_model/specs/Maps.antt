@@ -40,10 +40,12 @@ first_value name r = option_map (λ v. v.bytes) (get r.fields name)
 abbrev pub one_value : List ℕ → HttpRequest → List ℕ
 one_value name r = joined 44 (map (λ v. v.bytes) (get_all r.fields name))
 
--- CoAP's preconditions aren't those of HTTP, so a write that states one is refused (RFC 9110 section 13.1).
+-- CoAP's preconditions aren't those of HTTP, so a write that states one is refused (RFC 9110
+-- section 13.1).
 abbrev pub is_conditional : HttpRequest → Bool
 is_conditional r =
-    has_field (codes "if-match") r || (has_field (codes "if-none-match") r || has_field (codes "if-unmodified-since") r)
+    has_field (codes "if-match") r
+    || (has_field (codes "if-none-match") r || has_field (codes "if-unmodified-since") r)
 
 -- The body of a GET, HEAD or DELETE is dropped (RFC 9110 section 9.3).
 abbrev pub carried : Method → List ℕ → List ℕ
@@ -53,7 +55,8 @@ carried _ body = []
 
 -- So is a body above 64 KiB, which no edge lets through.
 abbrev pub is_refused_write : Method → HttpRequest → Bool
-is_refused_write m r = (writes m && is_conditional r) || nat_lt MAX_BODY_LEN (length (carried m r.body))
+is_refused_write m r = (writes m && is_conditional r)
+    || nat_lt MAX_BODY_LEN (length (carried m r.body))
 
 -- the HTTP status of a target that names nothing here
 abbrev pub fault_status : UriFault → ℕ
@@ -88,13 +91,15 @@ typing_by s (Some value) = typing_along s.policy value (route_at s.routes value)
 -- A content coding, which CoAP has no option for (RFC 9110 section 8.4). `identity` names none.
 abbrev pub is_coded : HttpRequest → Bool
 is_coded r =
-    list_any (λ v. not (same_name v.bytes (codes "identity"))) (get_all r.fields (codes "content-encoding"))
+    list_any (λ v. not (same_name v.bytes (codes "identity")))
+    (get_all r.fields (codes "content-encoding"))
 
 -- An empty body has no format, and its Content-Type isn't read. Of several the first counts. What a
 -- coding made of a body isn't of its Content-Type.
 abbrev pub typing_of : Rules → HttpRequest → List ℕ → Typing
 typing_of s r [] = Untyped
-typing_of s r (b ∷ body) = if is_coded r then Untypable else typing_by s (first_value (codes "content-type") r)
+typing_of s r (b ∷ body) =
+    if is_coded r then Untypable else typing_by s (first_value (codes "content-type") r)
 
 -- what is accepted as the answer (RFC 8075 section 6.5)
 abbrev pub accepted_of : Rules → HttpRequest → Result (Option Wanted) MediaFault
@@ -117,8 +122,10 @@ abbrev pub wanted_of : Rules → Came → Sense → Option Wanted
 wanted_of s (Whole r) (Requests q) = wanted_in (accepted_of s r)
 wanted_of s came sense = None
 
-module _ (holds : Form → Form → List ℕ → List ℕ → Type 0) (takes : Form → Form → List ℕ → Type 0) where
-  -- A body becomes this payload, in this format. One that is transformed keeps the limit of bodies too.
+module _ (holds : Form → Form → List ℕ → List ℕ → Type 0)
+    (takes : Form → Form → List ℕ → Type 0) where
+  -- A body becomes this payload, in this format. One that is transformed keeps the limit of bodies
+  -- too.
   abbrev pub Becomes : Typing → List ℕ → Option ℕ → List ℕ → Type 0
   Becomes Untyped body format payload = (format ≡ None) × (payload ≡ body)
   Becomes (Typed n) body format payload = (format ≡ Some n) × (payload ≡ body)
@@ -136,17 +143,20 @@ module _ (holds : Form → Form → List ℕ → List ℕ → Type 0) (takes : F
   -- Why a body isn't sent, with the status: its type, or its content.
   abbrev pub IsUnsent : Typing → List ℕ → Cause → ℕ → Type 0
   IsUnsent typing body cause status =
-      (cause ≡ Cause.Media) × (((status ≡ 415) × (typing ≡ Untypable)) ⊎ ((status ≡ 400) × Fails typing body))
+      (cause ≡ Cause.Media)
+      × (((status ≡ 415) × (typing ≡ Untypable)) ⊎ ((status ≡ 400) × Fails typing body))
 
   -- what a request for this method, target and peer means
   abbrev pub MapsBody : Rules → HttpRequest → Method → Target → Peer → Sense → Type 0
   MapsBody s r m t p (Requests q) =
       (q.method ≡ request_code m) × (q.target ≡ t) × (q.peer ≡ p)
-      × Becomes (typing_of s r (carried m r.body)) (carried m r.body) q.format q.body × (accept_of s r ≡ Some q.accept)
+      × Becomes (typing_of s r (carried m r.body)) (carried m r.body) q.format q.body
+      × (accept_of s r ≡ Some q.accept)
   MapsBody s r m t p (Refuses cause status) =
       IsUnsent (typing_of s r (carried m r.body)) (carried m r.body) cause status
       ⊎ ((cause ≡ Cause.Media) × (status ≡ 406) × (accept_of s r ≡ None)
-      × ((format : Option ℕ) × (payload : List ℕ) × Becomes (typing_of s r (carried m r.body)) (carried m r.body) format payload))
+      × ((format : Option ℕ) × (payload : List ℕ)
+      × Becomes (typing_of s r (carried m r.body)) (carried m r.body) format payload))
 
   -- a target that no peer serves
   abbrev pub MapsPeer : Rules → HttpRequest → Method → Target → Option Peer → Sense → Type 0

@@ -25,7 +25,8 @@ abbrev pub AsksAlike : Type 0
 AsksAlike =
     (q r : CoapRequest) → asks_same q r ≡ true
     → (q.peer ≡ r.peer)
-    × ((manner : Manner) (mid : ℕ) (token : List ℕ) → asking manner q None mid token ≡ asking manner r None mid token)
+    × ((manner : Manner) (mid : ℕ) (token : List ℕ)
+    → asking manner q None mid token ≡ asking manner r None mid token)
 
 -- the key that a GET reads
 abbrev pub key_read : Sense → Option CacheKey
@@ -42,7 +43,8 @@ abbrev pub asks_same_by : Sense → Sense → Bool
 asks_same_by (Requests q) (Requests r) = asks_same q r
 asks_same_by _ _ = false
 
--- A write changes what is read at its place (RFC 7252 section 5.9.2): what was read there before it is out of date.
+-- A write changes what is read at its place (RFC 7252 section 5.9.2): what was read there before it
+-- is out of date.
 abbrev pub writes_to : Place → CoapRequest → Bool
 writes_to place w = not (w.method == 1) && same_place place (asked_place w)
 

@@ -10,7 +10,8 @@ field_size f = length f.0 + length f.1.bytes
 
 -- the bytes of what came in: method, target, field lines and body
 abbrev pub came_size : Came → ℕ
-came_size (Whole r) = length r.method + length r.target + sum_by field_size (pairs r.fields) + length r.body
+came_size (Whole r) =
+    length r.method + length r.target + sum_by field_size (pairs r.fields) + length r.body
 came_size (Bad kind) = 0
 
 -- the largest number that 64 bits count to, in place of any larger one

@@ -31,7 +31,14 @@ payload_of (Changed bytes) body = bytes
 
 abbrev pub sense_of : Meaning → List ℕ → Sense
 sense_of (Means.Ask method target peer accept format payload) body =
-    Requests (record { method = request_code method; peer = peer; target = target; accept = accept; format = format; body = payload_of payload body })
+    Requests (record {
+      method = request_code method;
+      peer = peer;
+      target = target;
+      accept = accept;
+      format = format;
+      body = payload_of payload body;
+    })
 sense_of (Means.Refuse cause status) body = Refuses cause (number_of status)
 
 -- the rules that requests are mapped by
@@ -43,7 +50,14 @@ pub record Rules : Type 0 where
   pub routes : List (Form × Form)
 
 abbrev pub rules_of : Settings → Rules
-rules_of s = record { base = s.base; directory = s.directory; observed = s.observed; policy = s.policy; routes = s.routes }
+rules_of s =
+    record {
+      base = s.base;
+      directory = s.directory;
+      observed = s.observed;
+      policy = s.policy;
+      routes = s.routes;
+    }
 
 -- a request that came in, its meaning, and the rules by which that is its mapping
 pub record Ask : Type 0 where

@@ -27,8 +27,8 @@ use std::sync::Arc;
 use transformers::Relation;
 use uri_map::Peer;
 
-/// A request with its meaning, and with what is wanted of its answer. Its type keeps that these are the
-/// request's mapping under the settings, and that the request counts at most 2 MiB.
+/// A request with its meaning, and with what is wanted of its answer. Its type keeps that these are
+/// the request's mapping under the settings, and that the request counts at most 2 MiB.
 pub struct Mapped<R: Relation> {
     came: Incoming,
     meaning: Meaning,
@@ -62,7 +62,11 @@ impl<R: Relation> Model for Mapped<R> {
     ghost use Rattle.std.specs.Prelude.{◌≡◌, ◌≤◌};
     ghost use Rattle.limits.specs.declared.TheConstants.{MAX_REQUEST_SIZE};
 
-    ghost view = { λ m. record { came = came_of m.came; sense = sense_of m.meaning (body_of (came_of m.came)); rules = rules_of (arc_value m.settings) } };
+    ghost view = { λ m. record {
+      came = came_of m.came;
+      sense = sense_of m.meaning (body_of (came_of m.came));
+      rules = rules_of (arc_value m.settings);
+    } };
 
     ghost invariant = { λ m.
         Maps R.holds R.takes (rules_of (arc_value m.settings)) (came_of m.came)
@@ -80,8 +84,10 @@ impl<R: Relation> Mapped<R> {
         wanted: Option<Wanted>,
         settings: Arc<Settings>,
     ) -> Mapped<R>
-        requires maps { Maps R.holds R.takes (rules_of (arc_value settings)) (came_of came) (sense_of meaning (body_of (came_of came))) }
-        requires wanted { wanted ≡ wanted_of (rules_of (arc_value settings)) (came_of came) (sense_of meaning (body_of (came_of came))) }
+        requires maps { Maps R.holds R.takes (rules_of (arc_value settings)) (came_of came)
+            (sense_of meaning (body_of (came_of came))) }
+        requires wanted { wanted ≡ wanted_of (rules_of (arc_value settings)) (came_of came)
+            (sense_of meaning (body_of (came_of came))) }
         requires small { came_size (came_of came) ≤ MAX_REQUEST_SIZE }
         ensures came { result.came ≡ came_of came }
         ensures sense { result.sense ≡ sense_of meaning (body_of (came_of came)) }
@@ -112,10 +118,11 @@ impl<R: Relation> Mapped<R> {
         &self.meaning
     }
 
-    /// What is wanted of its answer: a format, and the media type that the client gets. None where the
-    /// request is refused, and where it takes any.
+    /// What is wanted of its answer: a format, and the media type that the client gets. None where
+    /// the request is refused, and where it takes any.
     pub fn wanted(&self) -> Option<&Wanted>
-        ensures { option_map (λ w. w.now) result ≡ wanted_of self.now.rules self.now.came self.now.sense }
+        ensures { option_map (λ w. w.now) result
+            ≡ wanted_of self.now.rules self.now.came self.now.sense }
     {
         self.wanted.as_ref()
     }
@@ -137,8 +144,8 @@ impl<R: Relation> Mapped<R> {
         }
     }
 
-    /// What it reads, where it is a GET: what a response to it is kept under (RFC 7252 section 5.6).
-    /// Anything else, also a GET with a body, reads nothing.
+    /// What it reads, where it is a GET: what a response to it is kept under (RFC 7252 section
+    /// 5.6). Anything else, also a GET with a body, reads nothing.
     pub fn reading(&self) -> Option<Reading<'_>>
         ensures { option_map (λ r. key_of r.peer r.target.now r.accept) result
             ≡ key_read self.now.sense }
@@ -186,11 +193,12 @@ impl<R: Relation> Mapped<R> {
         }
     }
 
-    /// A datagram that asks it, under this message ID and token (RFC 7252 section 3). None where the
-    /// request is refused. A block that is named is one of the representation that a GET asks for, by
-    /// its Block2, or else one of the body, by its Block1 (RFC 7959 section 2). Where none is named, the
-    /// server gives the first, or all, in the size that it likes; and a body of more than 1,024 bytes
-    /// begins with its first block. Of the body no more is copied than the datagram has.
+    /// A datagram that asks it, under this message ID and token (RFC 7252 section 3). None where
+    /// the request is refused. A block that is named is one of the representation that a GET asks
+    /// for, by its Block2, or else one of the body, by its Block1 (RFC 7959 section 2). Where none
+    /// is named, the server gives the first, or all, in the size that it likes; and a body of more
+    /// than 1,024 bytes begins with its first block. Of the body no more is copied than the
+    /// datagram has.
     pub fn request(
         &self,
         alloc: Global,
@@ -200,7 +208,8 @@ impl<R: Relation> Mapped<R> {
     ) -> Result<Option<Bytes>, AllocError>
         requires num { IfSome block (λ b. b.num < 2 ^ 20) }
         requires szx { IfSome block (λ b. b.szx < 7) }
-        ensures sent { IfOk result (λ o. IsSentFor self.now.sense (block_named self.now.sense block) mid
+        ensures sent { IfOk result (λ o.
+            IsSentFor self.now.sense (block_named self.now.sense block) mid
             token.now o) }
         ensures len { IfOk result (λ o. IfSome o (λ bytes. length bytes ≤ MAX_MESSAGE_LEN)) }
     {
@@ -214,15 +223,16 @@ impl<R: Relation> Mapped<R> {
         )
     }
 
-    /// A datagram that asks it, and to be told of changes too, by Observe 0 (RFC 7641 section 3.1). None
-    /// where it isn't a GET, or its server isn't to be observed by the settings.
+    /// A datagram that asks it, and to be told of changes too, by Observe 0 (RFC 7641 section 3.1).
+    /// None where it isn't a GET, or its server isn't to be observed by the settings.
     pub fn observe_request(
         &self,
         alloc: Global,
         mid: u16,
         token: &Token,
     ) -> Result<Option<Bytes>, AllocError>
-        ensures sent { IfOk result (λ o. IsObserving self.now.rules self.now.sense mid token.now o) }
+        ensures sent { IfOk result (λ o.
+            IsObserving self.now.rules self.now.sense mid token.now o) }
         ensures len { IfOk result (λ o. IfSome o (λ bytes. length bytes ≤ MAX_MESSAGE_LEN)) }
     {
         observing_of(
@@ -235,8 +245,8 @@ impl<R: Relation> Mapped<R> {
         )
     }
 
-    /// A datagram that asks whether what has this ETag is valid still (RFC 7252 section 5.10.6.2). None
-    /// where it isn't a GET.
+    /// A datagram that asks whether what has this ETag is valid still (RFC 7252 section 5.10.6.2).
+    /// None where it isn't a GET.
     pub fn validate_request(
         &self,
         alloc: Global,

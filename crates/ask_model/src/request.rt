@@ -27,7 +27,8 @@ pub(crate) const GET: u8 = 1;
 /// What stands in front of a payload (RFC 7252 section 3).
 const PAYLOAD_MARKER: u8 = 0xff;
 
-/// The number as an option's value: in network byte order, and no zero leads (RFC 7252 section 3.2).
+/// The number as an option's value: in network byte order, and no zero leads (RFC 7252 section
+/// 3.2).
 fn uint_value(alloc: Global, n: u32) -> Result<Vec<u8>, AllocError>
     requires { n < 2 ^ 24 }
     ensures { IfOk result (λ v. v.items ≡ uint_bytes n) }
@@ -54,7 +55,8 @@ fn insert_number(
     n: Option<u16>,
 ) -> Result<(), AllocError>
     requires { place ≤ vec_len options.old }
-    ensures { OnOk result (entries options.new.items ≡ take place (entries options.old.items) ++ (optional number n ++ drop place (entries options.old.items))) }
+    ensures { OnOk result (entries options.new.items ≡ take place (entries options.old.items)
+        ++ (optional number n ++ drop place (entries options.old.items))) }
 {
     if let Some(n) = n {
         let value = uint_value(alloc, u32::from(n))?;
@@ -140,8 +142,8 @@ fn block_value(block: Block) -> u32
     16 * block.num + (more + u32::from(block.szx))
 }
 
-/// The option that names a block: Block2 for one of the representation that a GET asks for, Block1 for
-/// one of the request's own body (RFC 7959 section 2.1).
+/// The option that names a block: Block2 for one of the representation that a GET asks for, Block1
+/// for one of the request's own body (RFC 7959 section 2.1).
 fn block_option(method: u8) -> u16
     ensures { result ≡ block_option method }
 {
@@ -170,8 +172,8 @@ fn push_block(
     Ok(())
 }
 
-/// The block that a message with this method is for: the one that is named, or else the first of a body
-/// that goes in several.
+/// The block that a message with this method is for: the one that is named, or else the first of a
+/// body that goes in several.
 fn block_or_first(method: u8, body: &[u8], block: Option<Block>) -> Option<Block>
     requires short { length body.now ≤ MAX_BODY_LEN }
     requires num { IfSome block (λ b. b.num < 2 ^ 20) }
@@ -187,8 +189,8 @@ fn block_or_first(method: u8, body: &[u8], block: Option<Block>) -> Option<Block
     Upload::new(body, LARGEST_SZX).next_block()
 }
 
-/// What a message for the block carries of the body: that block, or all where it names none, or one of
-/// the representation.
+/// What a message for the block carries of the body: that block, or all where it names none, or one
+/// of the representation.
 fn carried(method: u8, body: &[u8], block: Option<Block>) -> &[u8]
     requires num { IfSome block (λ b. b.num < 2 ^ 20) }
     requires szx { IfSome block (λ b. b.szx < 7) }
@@ -220,7 +222,8 @@ pub(crate) fn bytes_with(
     requires encodable { IsEncodable (content message.now) }
     requires code { message.now.code ≢ 0 }
     requires empty { message.now.payload.items ≡ [] }
-    ensures { IfOk result (λ bytes. Spells (record (content message.now) { payload = payload.now }) bytes.items) }
+    ensures { IfOk result (λ bytes.
+        Spells (record (content message.now) { payload = payload.now }) bytes.items) }
 {
     let Ok(mut bytes) = encode(alloc, message) else {
         return Err(AllocError);
@@ -250,8 +253,8 @@ pub(crate) fn body_in(came: &Incoming) -> &[u8]
     }
 }
 
-/// The datagram of a request with this meaning and body, for the block that is named or for the first,
-/// under this message ID and token.
+/// The datagram of a request with this meaning and body, for the block that is named or for the
+/// first, under this message ID and token.
 pub(crate) fn datagram_of(
     alloc: Global,
     meaning: &Meaning,
@@ -295,8 +298,8 @@ pub(crate) fn datagram_of(
     }
 }
 
-/// The datagram of a GET that asks to be told of changes, where its server has one of these names. None
-/// of any other, and of what is no GET.
+/// The datagram of a GET that asks to be told of changes, where its server has one of these names.
+/// None of any other, and of what is no GET.
 pub(crate) fn observing_of(
     alloc: Global,
     meaning: &Meaning,

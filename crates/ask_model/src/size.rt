@@ -31,8 +31,8 @@ fn request_size(request: &Request) -> u64
     fields.saturating_add(request.body.len() as u64)
 }
 
-/// The bytes of what came in: method, target, field lines and body. A count above 64 bits stays at the
-/// largest.
+/// The bytes of what came in: method, target, field lines and body. A count above 64 bits stays at
+/// the largest.
 pub fn incoming_size(came: &Incoming) -> u64
     ensures { result ≡ capped (came_size (came_of came.now)) }
 {

@@ -1,4 +1,5 @@
-//! The datagram that asks a server whether what is kept of it is valid still (RFC 7252 section 5.10.6.2).
+//! The datagram that asks a server whether what is kept of it is valid still (RFC 7252 section
+//! 5.10.6.2).
 
 ghost use Rattle.std.specs.Prelude.{◌≡◌, ◌≤◌, ◌++◌, ◌∷◌, length, take, drop, vec_len, IfOk, OnOk};
 ghost use Rattle.coap_codec.specs.Spelling.{entries};
@@ -53,7 +54,8 @@ fn validating_options(
     Ok(options)
 }
 
-/// The datagram of a GET that asks whether what has this ETag is valid still. None of what is no GET.
+/// The datagram of a GET that asks whether what has this ETag is valid still. None of what is no
+/// GET.
 pub(crate) fn validating_of(
     alloc: Global,
     meaning: &Meaning,
@@ -64,7 +66,8 @@ pub(crate) fn validating_of(
 ) -> Result<Option<Bytes>, AllocError>
     requires sendable { IsSendable (sense_of meaning.now body.now) }
     requires short { length etag.now ≤ 8 }
-    ensures { IfOk result (λ o. IsValidating etag.now (sense_of meaning.now body.now) mid token.now o) }
+    ensures { IfOk result (λ o.
+        IsValidating etag.now (sense_of meaning.now body.now) mid token.now o) }
 {
     match meaning {
         Meaning::Ask {

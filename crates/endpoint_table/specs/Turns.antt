@@ -13,8 +13,8 @@ use Rattle.exchange_model.specs.Entering.{Going}
 use Rattle.exchange_model.specs.State.{PeerLink}
 use Rattle.endpoint_table.specs.declared.turns.Turn.{Turn}
 
--- The turn is that of the endpoint, whose link has so much room: where something is due, what it does
--- once what bears one of these tokens is gone, and else there is none.
+-- The turn is that of the endpoint, whose link has so much room: where something is due, what it
+-- does once what bears one of these tokens is gone, and else there is none.
 abbrev pub IsTurnOf : ℕ → List (List ℕ) → PeerLink → Bool → Option Turn → Type 0
 IsTurnOf t gone x room None = link_due t x ≡ false
 IsTurnOf t gone x room (Some k) =
@@ -54,8 +54,8 @@ abbrev pub going_of : ℕ → Ticking → List Going
 going_of n (GivesUp token next) = going_first n next
 going_of n _ = []
 
--- what they send, in order, and the messages among it that go out for the first time, where the next
--- entry has this number
+-- what they send, in order, and the messages among it that go out for the first time, where the
+-- next entry has this number
 abbrev pub turns_deeds : List Turn → List Deed
 turns_deeds [] = []
 turns_deeds (k ∷ ks) = deeds_of k.peer k.ticking ++ turns_deeds ks

@@ -110,8 +110,8 @@ impl Endpoints {
         }
     }
 
-    /// The endpoint's link, which has not changed since, takes the message, and gives out nothing by
-    /// itself. Nothing is awaited any more under the tokens that are gone.
+    /// The endpoint's link, which has not changed since, takes the message, and gives out nothing
+    /// by itself. Nothing is awaited any more under the tokens that are gone.
     pub fn submit(&mut self, peer: Peer, submission: Submission, gone: &[Token], moment: u64)
         requires early { moment ≤ LAST_MOMENT }
         requires ready { MaySubmit moment (link_at self.old peer) submission }
@@ -139,8 +139,8 @@ impl Endpoints {
         }
     }
 
-    /// What the link of the endpoint makes of the datagram, before it does that. One from an endpoint
-    /// of which nothing was asked is lost.
+    /// What the link of the endpoint makes of the datagram, before it does that. One from an
+    /// endpoint of which nothing was asked is lost.
     pub fn prepare_heard(
         &mut self,
         peer: &Peer,
@@ -160,7 +160,8 @@ impl Endpoints {
 
     /// Prepares that the link of the endpoint takes a message after the datagram that was prepared
     /// at this moment: one that is spelled already, as a CON under message ID 0. It waits after all
-    /// that waits once the datagram was heard, and is sent at once where nothing is outstanding then.
+    /// that waits once the datagram was heard, and is sent at once where nothing is outstanding
+    /// then.
     pub fn prepare_more(
         &self,
         peer: &Peer,
@@ -203,7 +204,8 @@ impl Endpoints {
         requires follows { MayFollow moment (link_at self.old peer.now) heeding more }
         requires known { is_some (link_of self.old.links peer.now).last_mid ≡ true }
         ensures { self.new.links
-            ≡ with_link peer.now (heeds moment heeding more gone.now (link_of self.old.links peer.now))
+            ≡ with_link peer.now
+            (heeds moment heeding more gone.now (link_of self.old.links peer.now))
             self.old.links }
     {
         if let Some(place) = self.hints.find(&self.rows, peer) {
@@ -296,8 +298,8 @@ impl Endpoints {
         self.hints.keep_all(&self.rows);
     }
 
-    /// The same endpoints with equal links, which share the bytes of their messages. Where endpoints
-    /// were found last isn't kept.
+    /// The same endpoints with equal links, which share the bytes of their messages. Where
+    /// endpoints were found last isn't kept.
     pub fn copy(&self) -> Result<Endpoints, AllocError>
         ensures { IfOk result (λ t. t.links ≡ self.now.links) }
     {

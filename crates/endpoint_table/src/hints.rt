@@ -13,8 +13,9 @@ use uri_map::{Peer, is_same_peer};
 /// How many places are kept in mind, one for each sum.
 const SLOTS: usize = 1024;
 
-/// Where endpoints were found last, by a sum over their addresses and ports. A place is tried before
-/// it is believed, so this is no part of what a table is: it saves the way through all endpoints.
+/// Where endpoints were found last, by a sum over their addresses and ports. A place is tried
+/// before it is believed, so this is no part of what a table is: it saves the way through all
+/// endpoints.
 #[derive(Drop)]
 pub struct Hints {
     places: Vec<usize>,

@@ -292,7 +292,8 @@ pub fn heed_at(
     requires dues { AreDues rows.old.items dues.old.items (vec_capacity dues.old) }
     ensures links { (p : PeerValue) → IsFirstAt p (map peer_link rows.old.items) place
         → map peer_link rows.new.items
-        ≡ with_link p (heeds moment heeding more gone.now (link_of (map peer_link rows.old.items) p))
+        ≡ with_link p
+        (heeds moment heeding more gone.now (link_of (map peer_link rows.old.items) p))
         (map peer_link rows.old.items) }
     ensures dues { AreDues rows.new.items dues.new.items (vec_capacity dues.new) }
 {

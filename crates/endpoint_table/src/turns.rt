@@ -153,8 +153,8 @@ fn tick_endpoint(endpoint: &mut Endpoint, ticking: Ticking, moment: u64, gone: &
     endpoint.link.clear_out();
 }
 
-/// Does the tick of the endpoint in this place as it was prepared, and sets its timer where that has
-/// run out.
+/// Does the tick of the endpoint in this place as it was prepared, and sets its timer where that
+/// has run out.
 fn tick_at(
     rows: &mut Vec<Endpoint>,
     dues: &mut Vec<Due>,
@@ -217,7 +217,8 @@ fn tick_turn(
     requires moment { moment ≤ LAST_MOMENT }
     requires once { AreOnce rows.old.items }
     requires dues { AreDues rows.old.items dues.old.items (vec_capacity dues.old) }
-    requires ready { (i : ℕ) (e : EndpointValue) → IsFirstAt turn.peer (map peer_link rows.old.items) i
+    requires ready { (i : ℕ) (e : EndpointValue)
+        → IsFirstAt turn.peer (map peer_link rows.old.items) i
         → slice_get rows.old.items i ≡ Some e → IsTicking moment gone.now e.link turn.ticking }
     ensures row { (i : ℕ) (e : EndpointValue) → IsFirstAt turn.peer (map peer_link rows.old.items) i
         → slice_get rows.old.items i ≡ Some e
@@ -230,8 +231,8 @@ fn tick_turn(
     }
 }
 
-/// Does the tick of the links that have a turn, where nothing is gone: so the others rest, and aren't
-/// looked at.
+/// Does the tick of the links that have a turn, where nothing is gone: so the others rest, and
+/// aren't looked at.
 fn tick_due(
     rows: &mut Vec<Endpoint>,
     dues: &mut Vec<Due>,
@@ -257,8 +258,8 @@ fn tick_due(
     }
 }
 
-/// Does the tick of each link, by the turns that were prepared. The links gave out all. Where nothing
-/// is gone, only those are looked at where something is due.
+/// Does the tick of each link, by the turns that were prepared. The links gave out all. Where
+/// nothing is gone, only those are looked at where something is due.
 pub fn tick_links(
     rows: &mut Vec<Endpoint>,
     dues: &mut Vec<Due>,

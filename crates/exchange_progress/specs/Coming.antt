@@ -23,7 +23,8 @@ use Rattle.exchange_progress.specs.declared.coming.Ended.{Ended}
 use Rattle.exchange_progress.specs.declared.coming.Ended.TheVariants as How
 use Rattle.exchange_progress.specs.declared.coming.Onward.{Onward}
 
--- how far it comes by a reply in the entry with this number, by the entries and by the pieces that were fetched
+-- how far it comes by a reply in the entry with this number, by the entries and by the pieces that
+-- were fetched
 abbrev pub comes_by : List Written → List Piece → Exchange → ℕ → Content → Progress
 comes_by ws xs e n m = step (progress_with e.work (fetched_in ws e.opening xs)) (reply_at n m)
 
@@ -50,8 +51,8 @@ abbrev pub renews : Ending → Bool
 renews (Renewed s r) = true
 renews how = false
 
--- It ended so by the entry with this number: one thing is found for all readers, be it renewed, or it was
--- turned away, which names the ask of each.
+-- It ended so by the entry with this number: one thing is found for all readers, be it renewed, or
+-- it was turned away, which names the ask of each.
 abbrev pub IsEnded : ℕ → Ended → Ending → Type 0
 IsEnded n (How.Found f) how = AllFind n f how × (renews how ≡ false)
 IsEnded n (How.Renewed f opening) how =
@@ -73,8 +74,8 @@ abbrev pub first_got : List Reply → Option Reply
 first_got [] = None
 first_got (r ∷ rs) = Some r
 
--- It goes on, having come so far: its next message is for the block after those before, and names one
--- unless it begins anew, as a GET alone does.
+-- It goes on, having come so far: its next message is for the block after those before, and names
+-- one unless it begins anew, as a GET alone does.
 pub record IsOnward (o : Onward) (progress : Progress) : Type 0 where
   pub got : List Reply
   pub is : progress ≡ progress_with o.work got

@@ -35,7 +35,8 @@ pub struct Onward {
 pub enum Ended {
     /// with this, of which all are told who wait for it
     Found(Finding),
-    /// with this, as what it asked about is valid still: it came first of the exchange with this opening
+    /// with this, as what it asked about is valid still: it came first of the exchange with this
+    /// opening
     Renewed(Finding, u32),
     /// there was no place for its next message
     Turned,
@@ -156,7 +157,8 @@ fn give(upload: &Upload, number: u32, m: &Message) -> Option<Coming>
         (answered upload.now got (reply_at number (content m.now)))) }
     ensures last { (got : List Reply) → IfNone result
         (answered upload.now got (reply_at number (content m.now))
-        ≡ Ends (Whole (response_of (content m.now)) (got ++ reply_at number (content m.now) ∷ []))) }
+        ≡ Ends (Whole (response_of (content m.now))
+        (got ++ reply_at number (content m.now) ∷ []))) }
     ensures sayable { IfSome result AsksSayable }
 {
     if !is_forwardable(&m.options) {

@@ -36,7 +36,8 @@ abbrev pub AreMarked : (Digests → ℕ) → List Exchange → List Mark → Typ
 AreMarked n es marks = AreGrouped digest_in (map (mark_by n) es) marks
 
 -- The index of tokens and the marks, by key and by place, are those of the exchanges.
-pub record IsTable (es : List Exchange) (names : List Named) (keys places : List Mark) : Type 0 where
+pub record IsTable (es : List Exchange) (names : List Named)
+    (keys places : List Mark) : Type 0 where
   pub indexed : IsIndexed es names
   pub keyed : AreMarked key_in es keys
   pub placed : AreMarked place_in es places

@@ -65,8 +65,8 @@ pub record IsLatest (e : Exchange) (es : List Exchange) : Type 0 where
   pub opening : AllByRecursion (λ (f : Exchange). f.opening < e.opening) es
   pub token : IsNewest e.token es
 
--- The exchange under this token goes on with its next message under the next one, having come so far
--- by its replies, of which this is the first or not.
+-- The exchange under this token goes on with its next message under the next one, having come so
+-- far by its replies, of which this is the first or not.
 abbrev pub carried_on : List ℕ → Work → Bool → Exchange → Exchange
 carried_on next work first x = record x {
   token = next;

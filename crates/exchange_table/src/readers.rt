@@ -91,8 +91,8 @@ impl Readers {
         remove(&mut self.rows, &mut self.groups, ask);
     }
 
-    /// Takes out who waits on this connection, which waits for the answer to this ask, or for none. It
-    /// takes no memory.
+    /// Takes out who waits on this connection, which waits for the answer to this ask, or for none.
+    /// It takes no memory.
     pub fn drop_conn(&mut self, conn: u32, pending: Option<u32>)
         requires ordered { RiseBy ask_in self.old.items }
         requires waits { AllByRecursion (λ (r : Row). r.conn ≡ conn → pending ≡ Some r.ask)

@@ -14,8 +14,8 @@ use resp_cache::StoredResponse;
 use std::alloc::{AllocError, Global};
 use std::marker::Model;
 
-/// The stored responses of which open exchanges ask whether they are valid still, in the order of the
-/// openings.
+/// The stored responses of which open exchanges ask whether they are valid still, in the order of
+/// the openings.
 #[derive(Drop)]
 pub struct Stales {
     stales: Vec<Stale>,
@@ -59,7 +59,8 @@ impl Stales {
     /// Notes what an exchange asks about that was opened after all others that ask so.
     pub fn push_in_room(&mut self, stale: Stale)
         requires room { self.old.room ≡ true }
-        requires latest { AllByRecursion (λ (x : StaleValue). x.opening < stale.opening) self.old.stales }
+        requires latest { AllByRecursion (λ (x : StaleValue).
+            x.opening < stale.opening) self.old.stales }
         ensures { self.new.stales ≡ self.old.stales ++ stale ∷ [] }
     {
         self.stales.push_reserved(stale);

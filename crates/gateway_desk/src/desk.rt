@@ -175,8 +175,8 @@ impl<R: Relation, C: Clock, L: Ledger> LockedDesk<R, C, L> {
         guard.is_quiet()
     }
 
-    /// Brings the journal to its seal by connections that are opened and closed at once. It is for a
-    /// desk where nobody is connected, since 256 may be.
+    /// Brings the journal to its seal by connections that are opened and closed at once. It is for
+    /// a desk where nobody is connected, since 256 may be.
     pub fn fill_up<W: Wait>(&self, rt: &W) -> Result<(), OpenFault>
         ensures { IfErr result (λ fault. fault ≢ OpenFault.Sealed) }
     {
@@ -185,8 +185,8 @@ impl<R: Relation, C: Clock, L: Ledger> LockedDesk<R, C, L> {
     }
 
     /// Gives the sealed journal out and goes on with the next one, where nobody is connected, no
-    /// exchange is open, and the journal justifies all that the passes note and has no ask but theirs.
-    /// Then connections are opened again. Else all passes are handed back.
+    /// exchange is open, and the journal justifies all that the passes note and has no ask but
+    /// theirs. Then connections are opened again. Else all passes are handed back.
     pub fn turn<W: Wait>(
         &self,
         rt: &W,
@@ -217,8 +217,8 @@ impl<R: Relation, C: Clock, L: Ledger> LockedDesk<R, C, L> {
         guard.journal().copy()
     }
 
-    /// How much there is of everything. The lock is held while that is copied, for which the memory is
-    /// taken before.
+    /// How much there is of everything. The lock is held while that is copied, for which the memory
+    /// is taken before.
     pub fn figures<W: Wait>(&self, rt: &W, alloc: Global) -> Result<Figures, AllocError> {
         let exchanges = Vec::with_capacity(alloc, MAX_EXCHANGES)?;
         let guard = self.state.lock(rt);
@@ -249,8 +249,8 @@ impl<R: Relation, C: Clock, L: Ledger> LockedDesk<R, C, L> {
         ticket
     }
 
-    /// Waits for the answer to a ticket. None where the desk was shut or the connection let go. It takes
-    /// no memory, and no work while it waits.
+    /// Waits for the answer to a ticket. None where the desk was shut or the connection let go. It
+    /// takes no memory, and no work while it waits.
     pub fn answer<W: Wait>(&self, rt: &W, ticket: Ticket<R>) -> Option<Receipt<R>>
         ensures number { IfSome result (λ r. (r.number ≡ ticket.number)
             × (r.answer.ask ≡ ticket.number)) }
@@ -272,8 +272,8 @@ impl<R: Relation, C: Clock, L: Ledger> LockedDesk<R, C, L> {
         unreachable!()
     }
 
-    /// Lets a connection go whose client left: who waits for an answer on it waits no more. It stays open
-    /// until its pass is closed.
+    /// Lets a connection go whose client left: who waits for an answer on it waits no more. It
+    /// stays open until its pass is closed.
     pub fn let_go<W: Wait>(&self, rt: &W, conn: u32) {
         let _guard = self.state.lock(rt);
         self.bells.of(conn).let_go(conn);

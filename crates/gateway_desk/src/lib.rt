@@ -1,10 +1,10 @@
 //! The core that sessions share: under one lock, with the ledger of what they ask.
 //!
 //! One contract: a desk gives a session the answer to its own ask, and once; at the end `settle`
-//! tells whether one journal justifies all that the sessions were given, and `turn` that of a journal that is
-//! full, which it gives out, and goes on with the next one. Whenever the lock is free,
-//! one reading of its journal is legal and at rest, since the type of the core that lies there
-//! keeps it. The crate `sessions` stands on it.
+//! tells whether one journal justifies all that the sessions were given, and `turn` that of a
+//! journal that is full, which it gives out, and goes on with the next one. Whenever the lock is
+//! free, one reading of its journal is legal and at rest, since the type of the core that lies
+//! there keeps it. The crate `sessions` stands on it.
 #![tactic(auto)]
 
 mod bells;

@@ -16,9 +16,9 @@ use std::sync::ledger::Ledger;
 use transformers::Relation;
 
 impl<R: Relation, C: Clock, L: Ledger> LockedDesk<R, C, L> {
-    /// Entries of the journal, from this number on, 256 at most. The lock is held while they are copied,
-    /// for which the list's memory is taken before. None while the journal is turned over: then it isn't
-    /// locked.
+    /// Entries of the journal, from this number on, 256 at most. The lock is held while they are
+    /// copied, for which the list's memory is taken before. None while the journal is turned over:
+    /// then it isn't locked.
     pub fn entries_from<W: Wait>(
         &self,
         rt: &W,
@@ -37,10 +37,10 @@ impl<R: Relation, C: Clock, L: Ledger> LockedDesk<R, C, L> {
         Ok(Some(extract))
     }
 
-    /// The entries of the journal that tell of the request that this one is or answers, or that was answered
-    /// first by it, 256 at most; none where there is no such request. The lock is held for one go of the
-    /// search at a time, which looks at 4,096 entries, and while those that it found are copied. None while
-    /// the journal is turned over, or where it was meanwhile.
+    /// The entries of the journal that tell of the request that this one is or answers, or that was
+    /// answered first by it, 256 at most; none where there is no such request. The lock is held for
+    /// one go of the search at a time, which looks at 4,096 entries, and while those that it found
+    /// are copied. None while the journal is turned over, or where it was meanwhile.
     pub fn entries_about<W: Wait>(
         &self,
         rt: &W,

@@ -159,8 +159,8 @@ impl<R: Relation, L: Ledger> Shop<R, L> {
         Ok(ticket)
     }
 
-    /// Takes a datagram that came from this peer. The word is for the next message of an exchange that
-    /// goes on by it.
+    /// Takes a datagram that came from this peer. The word is for the next message of an exchange
+    /// that goes on by it.
     pub fn heard(&mut self, moment: u64, word: u64, peer: Peer, bytes: &[u8]) -> Result<(), Memory>
         ensures heard { OnOk result (HearsSo (now self.old.core.state.moment moment) word peer
             bytes.now self.old.core self.new.core) }
@@ -249,9 +249,9 @@ impl<R: Relation, L: Ledger> Shop<R, L> {
         Ok(())
     }
 
-    /// Brings the journal to its seal by entries that cost nobody: connections are opened and closed
-    /// at once. It is for a shop where nobody is connected. Where one isn't opened for another reason,
-    /// those before it stay in the journal.
+    /// Brings the journal to its seal by entries that cost nobody: connections are opened and
+    /// closed at once. It is for a shop where nobody is connected. Where one isn't opened for
+    /// another reason, those before it stay in the journal.
     pub fn fill_up(&mut self, moment: u64) -> Result<(), OpenFault>
         ensures fills { OnOk result (FillsUp moment self.old.core self.new.core) }
         ensures refused { IfErr result (λ fault. (fault ≢ OpenFault.Sealed)
@@ -270,11 +270,11 @@ impl<R: Relation, L: Ledger> Shop<R, L> {
         unreachable!()
     }
 
-    /// Gives its sealed journal out, where nobody is connected, no exchange is open, and the journal
-    /// justifies all that the passes note and has no ask but theirs; and goes on with one that begins
-    /// with copies (`Core::rotate`). The passes are spent: what is settled next is the new journal's.
-    /// What the core refuses comes first, want of memory excepted, and then what settling does. Where
-    /// it is refused, all passes are handed back.
+    /// Gives its sealed journal out, where nobody is connected, no exchange is open, and the
+    /// journal justifies all that the passes note and has no ask but theirs; and goes on with one
+    /// that begins with copies (`Core::rotate`). The passes are spent: what is settled next is the
+    /// new journal's. What the core refuses comes first, want of memory excepted, and then what
+    /// settling does. Where it is refused, all passes are handed back.
     pub fn turn_over(
         &mut self,
         passes: Vec<Pass<R, L>>,

@@ -109,8 +109,8 @@ fn is_made_at<R: Relation>(journal: &Journal<R>, number: Option<&u32>, moment: u
     }
 }
 
-/// Whether what these entries heard counts from this moment: that of the first, or of the last where
-/// that is a 2.03.
+/// Whether what these entries heard counts from this moment: that of the first, or of the last
+/// where that is a 2.03.
 fn counts_from<R: Relation>(
     journal: &Journal<R>,
     numbers: &[u32],
@@ -126,8 +126,8 @@ fn counts_from<R: Relation>(
     is_made_at(journal, numbers.first(), moment)
 }
 
-/// Whether these entries bear the response: they heard all replies to a request with this method and body,
-/// count from this moment, and those are it.
+/// Whether these entries bear the response: they heard all replies to a request with this method
+/// and body, count from this moment, and those are it.
 fn rests_on<R: Relation>(
     alloc: Global,
     journal: &Journal<R>,

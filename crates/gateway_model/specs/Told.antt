@@ -1,6 +1,6 @@
 -- What connections are told, said of the entries of the journal alone: each answer shows one whole
--- response that was heard for just what its ask asks for, or is the proxy's own error, and tells the
--- cause and the entry that the journal names.
+-- response that was heard for just what its ask asks for, or is the proxy's own error, and tells
+-- the cause and the entry that the journal names.
 use Rattle.std.specs.Prelude.{◌≡◌, ◌⊎◌, ℕ, ◌+◌, ◌-◌, ◌<◌, ⊤, ◌==◌, if◌then◌else◌, List, [], ◌∷◌, ◌++◌, length, map, flat_map, Option}
 use Rattle.std.specs.List.{AllByRecursion}
 use Rattle.coap_codec.specs.Spelling.{Content}
@@ -27,8 +27,9 @@ use Rattle.gateway_model.specs.Waiting.{IsDrained}
 abbrev pub mapping_of : Ask → Mapping
 mapping_of a = record { came = a.came; sense = a.sense; rules = a.rules }
 
--- It is what was stored, as this 2.03 renews it: with the Max-Age of that, and in its format where it
--- names one (RFC 7252 section 5.9.1.3). Before it was in some format, be it one that a 2.03 named.
+-- It is what was stored, as this 2.03 renews it: with the Max-Age of that, and in its format where
+-- it names one (RFC 7252 section 5.9.1.3). Before it was in some format, be it one that a 2.03
+-- named.
 pub record IsRenewedAs (stored : Response) (m : Content) (w : Response) : Type 0 where
   pub before : Option ℕ
   pub is : w ≡ renewed_response (record stored { format = before }) m

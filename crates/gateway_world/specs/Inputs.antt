@@ -20,10 +20,10 @@ use Rattle.gateway_world.specs.Worlds.{WorldValue, Handles, IsAtRest, IsTooMuch,
 
 module _ (holds : Form → Form → List ℕ → List ℕ → Type 0)
     (takes : Form → Form → List ℕ → Type 0) where
-  -- An input is taken that doesn't bring too much. What it leads to are acts in order; what is told,
-  -- asked and sent is what the new entries say; the own errors in the journal name their causes, and
-  -- its asks cost a device no more than they have to; what came in shows in the new entries; who is
-  -- closed has a reason; and after it nothing waits.
+  -- An input is taken that doesn't bring too much. What it leads to are acts in order; what is
+  -- told, asked and sent is what the new entries say; the own errors in the journal name their
+  -- causes, and its asks cost a device no more than they have to; what came in shows in the new
+  -- entries; who is closed has a reason; and after it nothing waits.
   pub record TakesActs (i : Input) (old : WorldValue) (out : List Emission) (new : WorldValue)
       : Type 0 where
     pub room : IsTooMuch i.happening (served_in old) → ⊥
@@ -41,7 +41,8 @@ module _ (holds : Form → Form → List ℕ → List ℕ → Type 0)
 
   -- Or the journal, which stands, is to be given out: it is, and the world goes on with a new one;
   -- or it isn't, and only the moment goes on. In the journal that there is then what was asked is
-  -- mapped, own errors name their causes, and asks cost no more than they have to; and nothing waits.
+  -- mapped, own errors name their causes, and asks cost no more than they have to; and nothing
+  -- waits.
   pub record TakesRotation (i : Input) (old : WorldValue) (out : List Emission) (new : WorldValue)
       : Type 0 where
     pub wants : i.happening ≡ H.Rotate

@@ -58,9 +58,9 @@ impl<R: Relation> World<R> {
         self.engine.core.is_idle(number)
     }
 
-    /// Takes an input for good, and puts what it leads to in place of what was in `outputs`. Nothing
-    /// is copied to go back to, so that it costs what its steps cost: where memory is refused, the
-    /// world is gone.
+    /// Takes an input for good, and puts what it leads to in place of what was in `outputs`.
+    /// Nothing is copied to go back to, so that it costs what its steps cost: where memory is
+    /// refused, the world is gone.
     pub fn advance(
         self,
         bank: &Bank<R>,

@@ -2,9 +2,9 @@
 //! answers.
 //!
 //! Its one contract: an input leads to acts, one after the other, each of them one step of the core
-//! or of the connections with what it gives out, in the order that `gateway_model` tells; all that is
-//! promised of inputs and of runs follows from these. The one input without acts gives the sealed
-//! journal out, after which the world goes on with a new one.
+//! or of the connections with what it gives out, in the order that `gateway_model` tells; all that
+//! is promised of inputs and of runs follows from these. The one input without acts gives the
+//! sealed journal out, after which the world goes on with a new one.
 #![tactic(auto)]
 
 mod advance;

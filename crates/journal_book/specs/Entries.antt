@@ -5,8 +5,8 @@ use Rattle.uri_map.specs.declared.peer.Peer.{Peer}
 use Rattle.ask_model.specs.Views.{Ask}
 use Rattle.ask_model.specs.Sizes.{came_size}
 
--- What an answer rests on. The numbers are those of entries: of the replies just heard, of the replies of
--- a stored response, or of the entry that a cause names.
+-- What an answer rests on. The numbers are those of entries: of the replies just heard, of the
+-- replies of a stored response, or of the entry that a cause names.
 pub data Grounds : Type 0 where
   Live : (replies : List ℕ) → Grounds
   Kept : (replies : List ℕ) → Grounds
@@ -23,8 +23,8 @@ pub data Done : Type 0 where
   Sent : (peer : Peer) → (bytes : List ℕ) → (timeout : Option ℕ) → Done
   Heard : (peer : Peer) → (bytes : List ℕ) → Done
 
--- What an entry says was done. A connection and an ask go by the number of their entry. A first sending
--- bears its first timeout in milliseconds.
+-- What an entry says was done. A connection and an ask go by the number of their entry. A first
+-- sending bears its first timeout in milliseconds.
 pub data Deed : Type 0 where
   Opens : (conn : ℕ) → Deed
   Asks : (conn : ℕ) → (ask : Ask) → Deed

@@ -9,7 +9,8 @@ use Rattle.journal_book.specs.declared.entry.Entry.{Entry}
 -- the segments hold so many entries: those before are full, those behind are empty
 abbrev pub AreFilled : {R : Type 0} → List (Vec (Entry R) Global) → ℕ → Type 0
 AreFilled [] n = n ≡ 0
-AreFilled (s ∷ ss) n = (length s.items ≡ min n 1024) × (1024 ≤ vec_capacity s) × AreFilled ss (n - 1024)
+AreFilled (s ∷ ss) n = (length s.items ≡ min n 1024) × (1024 ≤ vec_capacity s)
+    × AreFilled ss (n - 1024)
 
 -- their entries, one segment after another
 abbrev pub entries_in : {R : Type 0} → List (Vec (Entry R) Global) → List Written

@@ -162,8 +162,8 @@ impl<R: Relation> Event<R> {
         }
     }
 
-    /// What was done, where it may be copied; of a copy what it carries. Requests and the bytes of what
-    /// was sent are shared.
+    /// What was done, where it may be copied; of a copy what it carries. Requests and the bytes of
+    /// what was sent are shared.
     fn done(&self) -> Result<Option<Done<R>>, AllocError>
         ensures { IfOk result (λ done. option_map plain_done done ≡ done_of (event_of self.now)) }
     {
@@ -210,9 +210,9 @@ impl<R: Relation> Entry<R> {
         })
     }
 
-    /// The copy that the journal after this one has of it, where it may be copied: what was asked, sent
-    /// or heard, with the number that it has in this journal and its moment. A copy is copied with what
-    /// it carries. Requests and the bytes of what was sent are shared.
+    /// The copy that the journal after this one has of it, where it may be copied: what was asked,
+    /// sent or heard, with the number that it has in this journal and its moment. A copy is copied
+    /// with what it carries. Requests and the bytes of what was sent are shared.
     pub fn carried(&self, number: u32, mark: Mark) -> Result<Option<Entry<R>>, AllocError>
         ensures { IfOk result (λ copy. option_map item_of copy
             ≡ carried_as number (mark_of mark) (item_of self.now)) }

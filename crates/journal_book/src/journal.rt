@@ -9,8 +9,9 @@ use std::alloc::{AllocError, Global};
 use std::marker::Model;
 use transformers::Relation;
 
-/// Entries in their order, to which more are added at the end, or which is cut to the first of them. They
-/// stand in segments, whose places are made as they are needed: no entry is moved when more come.
+/// Entries in their order, to which more are added at the end, or which is cut to the first of
+/// them. They stand in segments, whose places are made as they are needed: no entry is moved when
+/// more come.
 #[derive(Drop)]
 pub struct Journal<R: Relation> {
     alloc: Global,
@@ -61,7 +62,8 @@ impl<R: Relation> Journal<R> {
 
     /// The entry with this number, counted from 0.
     pub fn get(&self, number: usize) -> Option<&Entry<R>>
-        ensures { MatchOption result (length self.now.entries ≤ number) (λ e. slice_get self.now.entries number ≡ Some (item_of e.now)) }
+        ensures { MatchOption result (length self.now.entries ≤ number) (λ e.
+            slice_get self.now.entries number ≡ Some (item_of e.now)) }
     {
         entry_at(&self.segments, number)
     }
@@ -122,7 +124,8 @@ impl<R: Relation> Journal<R> {
     pub fn cut(&mut self, n: usize)
         ensures entries { self.new.entries ≡ take n self.old.entries }
         ensures room { self.old.room ≤ self.new.room }
-        ensures whole { n ≤ length self.old.entries → self.new.room + n ≡ self.old.room + length self.old.entries }
+        ensures whole { n ≤ length self.old.entries
+            → self.new.room + n ≡ self.old.room + length self.old.entries }
     {
         'each: while self.len() > n {
             self.take_last();

@@ -53,8 +53,8 @@ impl<R: Relation> Event<R> {
 }
 
 impl<R: Relation> Entry<R> {
-    /// What it counts: 64 bytes, its byte strings, and 4 bytes for each number of its grounds. A count
-    /// above 64 bits stays at the largest.
+    /// What it counts: 64 bytes, its byte strings, and 4 bytes for each number of its grounds. A
+    /// count above 64 bits stays at the largest.
     pub fn size(&self) -> u64
         ensures { result ≡ capped (entry_size (item_of self.now)) }
     {

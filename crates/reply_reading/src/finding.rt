@@ -121,9 +121,10 @@ fn copy_outcome(outcome: &Outcome) -> Result<Outcome, AllocError>
     }
 }
 
-/// What the replies to a request other than a GET make known, which these entries bear (RFC 7959 section
-/// 2.3): the response that the last of them is, whose payload isn't copied. That it is the answer, and
-/// that by each before it a piece of the body was taken, is for the caller to judge.
+/// What the replies to a request other than a GET make known, which these entries bear (RFC 7959
+/// section
+/// 2.3): the response that the last of them is, whose payload isn't copied. That it is the answer,
+/// and that by each before it a piece of the body was taken, is for the caller to judge.
 pub fn answer_of(alloc: Global, replies: Numbers, last: Message) -> Result<Finding, AllocError>
     ensures { IfOk result (λ f. f ≡ record {
       told = Tells (response_of (content last));
@@ -134,9 +135,9 @@ pub fn answer_of(alloc: Global, replies: Numbers, last: Message) -> Result<Findi
     Ok(Finding::whole(Arc::new(alloc, response)?, replies))
 }
 
-/// What the pieces of a representation make known, which these entries bear (RFC 7959 section 2.4): one
-/// response, of which the last piece is given and those before it, in order. That they are the pieces of
-/// one representation, and all, is for the caller to judge.
+/// What the pieces of a representation make known, which these entries bear (RFC 7959 section 2.4):
+/// one response, of which the last piece is given and those before it, in order. That they are the
+/// pieces of one representation, and all, is for the caller to judge.
 pub fn fetched_of(
     alloc: Global,
     replies: Numbers,

@@ -18,7 +18,8 @@ pub fn is_final(m: &Message) -> bool
 /// The value of the first option of this number that is defined.
 pub fn value_of(m: &Message, number: u16) -> Option<&[u8]>
     ensures value { option_map (λ v. v.now) result ≡ value_of number (content m.now) }
-    ensures defined { IfSome result (λ v. is_defined (record { number = number; value = v.now }) ≡ true) }
+    ensures defined { IfSome result (λ v.
+        is_defined (record { number = number; value = v.now }) ≡ true) }
 {
     'each: for o in &m.options {
         if o.number == number && is_defined(o) {

@@ -115,8 +115,8 @@ fn join(alloc: Global, earlier: &[Message], last: &[u8]) -> Result<Vec<u8>, Allo
     Ok(body)
 }
 
-/// What the pieces of a representation say together, of which the last is given and those before it, in
-/// order. The payload of one that is alone becomes the body and isn't copied.
+/// What the pieces of a representation say together, of which the last is given and those before
+/// it, in order. The payload of one that is alone becomes the body and isn't copied.
 pub fn join_pieces(
     alloc: Global,
     earlier: &[Message],

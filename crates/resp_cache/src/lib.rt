@@ -1,9 +1,9 @@
 //! Responses that may be served again (RFC 7252, section 5.6).
 //!
 //! The one contract: the store is a list of at most 256 pairs of a key and a response, the last
-//! used first. A response is served for its key alone, and only while it is fresh. What is served or
-//! put comes to the front, and where one too many is put the last one goes. So what was used last
-//! stays while fewer than 256 other keys are used after it (`the_last_used_stay`).
+//! used first. A response is served for its key alone, and only while it is fresh. What is served
+//! or put comes to the front, and where one too many is put the last one goes. So what was used
+//! last stays while fewer than 256 other keys are used after it (`the_last_used_stay`).
 //!
 //! A response is made once: the store, its copies and all who are given it share it. Clauses speak
 //! of that list, and of whether there is room for one more pair, and not of how the pairs are

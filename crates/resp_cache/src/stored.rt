@@ -51,9 +51,9 @@ impl StoredResponse {
     ghost use Rattle.std.specs.Arc.{arc_value};
     ghost use Rattle.resp_cache.specs.Stored.{stored_of};
 
-    /// A response, which isn't copied, the number of the journal's entry that opened its exchange, the
-    /// moment in milliseconds from which its freshness counts, and the numbers of the entries that it
-    /// rests on.
+    /// A response, which isn't copied, the number of the journal's entry that opened its exchange,
+    /// the moment in milliseconds from which its freshness counts, and the numbers of the entries
+    /// that it rests on.
     pub fn new(
         alloc: Global,
         response: Arc<Response>,

@@ -158,8 +158,8 @@ impl<R: Relation> Script<R> {
     }
 
     /// Reads a script, runs it, and writes the outputs and, where asked for, the entries of the
-    /// last journal after them. The first fault met in reading order ends it; what the lines before it
-    /// gave is written.
+    /// last journal after them. The first fault met in reading order ends it; what the lines before
+    /// it gave is written.
     pub fn run<I: Read, W: Write>(
         &mut self,
         bank: &Bank<R>,

@@ -44,8 +44,8 @@ AreDoneBefore h device proxy cs k place =
     → r.request.method ≢ 1 → r.request.peer ≡ device → r.response.code / 32 ≡ 2 → n ≤ k
     → (done : IsDoneOnce h r.opening r.request proxy cs) × (done.place < place)
 
--- The reply to a GET, a 2.05 in one piece which names no block, to a message that was sent after the
--- entry k without Observe, shows what the resource held after all these.
+-- The reply to a GET, a 2.05 in one piece which names no block, to a message that was sent after
+-- the entry k without Observe, shows what the resource held after all these.
 abbrev pub WritesShow : Relation → Type 0
 WritesShow R =
     (h : List Written) (device proxy : Peer) (block : ℕ) (resources : List Held) (cs : List Call)

@@ -27,7 +27,11 @@ use Rattle.story_runs.specs.declared.book.Step.{Step}
 pub record AreStoryRules (r : Rules) : Type 0 where
   pub base : r.base ≡ codes "/hc/"
   pub names : r.directory.lines
-      ≡ record { name = str_to_ascii_lowercase (codes "s.example.com"); address = device_at.address } ∷ []
+      ≡ record {
+        name = str_to_ascii_lowercase
+            (codes "s.example.com");
+        address = device_at.address;
+      } ∷ []
   pub quiet : ObservesNothing r
   pub routes : r.routes ≡ []
 
@@ -77,8 +81,8 @@ module _ (holds : Form → Form → List ℕ → List ℕ → Type 0)
   TakesSteps [] old new = new ≡ old
   TakesSteps (x ∷ xs) old new = (mid : Scene) × TakesStep x old mid × TakesSteps xs mid new
 
-  -- The three stand so after all steps of the book. At first nothing has happened to the gateway of a
-  -- story, and the device has the resources of the book, in pieces of 1,024 bytes at most.
+  -- The three stand so after all steps of the book. At first nothing has happened to the gateway of
+  -- a story, and the device has the resources of the book, in pieces of 1,024 bytes at most.
   pub record IsPlayed (book : Book) (new : Scene) : Type 0 where
     pub rules : Rules
     pub ruled : AreStoryRules rules

@@ -75,8 +75,8 @@ fn write_code<W: Write>(alloc: Global, writer: &mut W, message: &Message) -> Res
     Ok(())
 }
 
-/// Tells of a body in pieces (RFC 7959): which one a request brings and the answer to it has got. And
-/// of a state in pieces: which one a request asks for and the answer to it brings.
+/// Tells of a body in pieces (RFC 7959): which one a request brings and the answer to it has got.
+/// And of a state in pieces: which one a request asks for and the answer to it brings.
 fn write_pieces<W: Write>(writer: &mut W, message: &Message) -> Result<(), Untold> {
     let is_request = message.code < FIRST_RESPONSE;
     for option in message.options.as_slice() {

@@ -10,8 +10,8 @@ use std::alloc::{AllocError, Global};
 use three_parties::device_peer;
 use uri_map::{Directory, Text, Texts};
 
-/// The base `/hc/`, and the device as s.example.com (or by its address). Nothing is observed, and no
-/// body is transformed.
+/// The base `/hc/`, and the device as s.example.com (or by its address). Nothing is observed, and
+/// no body is transformed.
 pub(crate) fn settings(alloc: Global) -> Result<Settings, AllocError>
     ensures { IfOk result (λ s. AreStoryRules (rules_of s)) }
 {

@@ -21,8 +21,8 @@ use Rattle.three_parties.specs.Ticks.{LooksInTime}
 use Rattle.three_parties.specs.declared.story.Execution.{Execution}
 use Rattle.three_parties.specs.declared.turn.Turn.{Turn}
 
--- At this moment the resource of the path held this state: the first so many executions left it with
--- that, none of which came later, and none of the others came earlier.
+-- At this moment the resource of the path held this state: the first so many executions left it
+-- with that, none of which came later, and none of the others came earlier.
 pub record IsHeldAt (moment : ℕ) (path : List (List ℕ)) (resources : List Held)
     (taken : List Execution) (count : ℕ) (state : List ℕ) : Type 0 where
   pub earlier : (e : ℕ) (y : Execution) → slice_get taken e ≡ Some y → e < count

@@ -20,6 +20,6 @@ pub use stage::Stage;
 pub use story::{Execution, Story};
 pub use turn::Turn;
 
-/// How long after it looked at its timers the proxy does so again at the latest, in milliseconds, so
-/// that its copies are late by no more.
+/// How long after it looked at its timers the proxy does so again at the latest, in milliseconds,
+/// so that its copies are late by no more.
 pub const LONGEST_PAUSE: u64 = 1000;

@@ -1,5 +1,5 @@
-//! Inputs that are refused for want of memory are given again, and lead to what they would have led to.
-//! Nothing is refused by itself: `rt try --test --fail-alloc N` refuses the Nth allocation.
+//! Inputs that are refused for want of memory are given again, and lead to what they would have led
+//! to. Nothing is refused by itself: `rt try --test --fail-alloc N` refuses the Nth allocation.
 
 ghost use Rattle.std.specs.Prelude.{◌≡◌};
 ghost use Rattle.ask_model.specs.Views.{rules_of};
@@ -86,7 +86,8 @@ fn print_lines<R: Relation>(
     Ok(out)
 }
 
-/// What a script prints. Memory may be refused once; the inputs are counted that were refused for want of it.
+/// What a script prints. Memory may be refused once; the inputs are counted that were refused for
+/// want of it.
 fn printed(alloc: Global, script: &str, refusals: &mut u64) -> Result<Vec<u8>, ReplayFault> {
     let settings = demonstration(alloc)?;
     let mut all: Vec<Stored<Profile>> = Vec::new(alloc);
@@ -128,8 +129,8 @@ fn end_of(alloc: Global, row: Row) -> End {
     }
 }
 
-/// Whether two runs of the script end well. One allocation is refused at most, so in one of them none is: it answers
-/// no input with want of memory.
+/// Whether two runs of the script end well. One allocation is refused at most, so in one of them
+/// none is: it answers no input with want of memory.
 fn holds(alloc: Global, row: Row) -> bool {
     let (first, second) = (end_of(alloc, row), end_of(alloc, row));
     let is_right = first == End::Right || second == End::Right;

@@ -44,7 +44,8 @@ static UNASKED: [Step; 19] = [
     // an empty NON: silence
     Hears(0, 5000, &[0x50, 0, 0x01, 0x03]),
     Quiet,
-    // they are remembered: a NON gets nothing again, nor does a POST of c with the ID of the empty one
+    // they are remembered: a NON gets nothing again, nor does a POST of c with the ID of the empty
+    // one
     Hears(0, 5000, &[0x50, 0x45, 0x01, 0x01]),
     Quiet,
     Hears(0, 5000, &[0x40, 0x02, 0x01, 0x03, 0xb1, 0x63]),

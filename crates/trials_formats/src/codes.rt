@@ -83,8 +83,8 @@ fn statuses_by_code(rt: HostRuntime) {
     }
 }
 
-/// A code, the status of a response with a payload, and whether it is passed on: 2.02 and 2.04; 2.31, which is
-/// no final answer, and 7.00, which is no response.
+/// A code, the status of a response with a payload, and whether it is passed on: 2.02 and 2.04;
+/// 2.31, which is no final answer, and 7.00, which is no response.
 static PAYLOADS: [(u8, u16, bool); 4] = [
     (66, 200, true),
     (68, 200, true),

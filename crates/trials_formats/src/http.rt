@@ -7,8 +7,8 @@ use http_edge::{
 use std::alloc::{AllocError, Global};
 use std::sync::Arc;
 
-/// Feeds a piece. Like `next`, it passes on nothing of what the edge promises: a trial over it is proved in
-/// less time.
+/// Feeds a piece. Like `next`, it passes on nothing of what the edge promises: a trial over it is
+/// proved in less time.
 fn feed(edge: &mut Edge, piece: &[u8]) {
     edge.feed(piece);
 }
@@ -177,8 +177,8 @@ fn framings(rt: HostRuntime) {
     }
 }
 
-/// A text in front, a part and how often it follows, what ends it, and what is given: a head has at most
-/// 8,191 bytes and 64 fields, a chunk's line 256 bytes.
+/// A text in front, a part and how often it follows, what ends it, and what is given: a head has at
+/// most 8,191 bytes and 64 fields, a chunk's line 256 bytes.
 type LimitRow = (
     &'static [u8],
     &'static [u8],
@@ -434,8 +434,8 @@ fn is_next(item: &Incoming, given: u8) -> bool {
     }
 }
 
-/// How many requests are given after one more call, which gives the next of the two, or nothing where both
-/// are given, or is refused memory.
+/// How many requests are given after one more call, which gives the next of the two, or nothing
+/// where both are given, or is refused memory.
 fn given_then(edge: &mut Edge, given: u8) -> Option<u8> {
     match next(edge) {
         Ok(Some(item)) => is_next(&item, given).then_some(given.wrapping_add(1)),

@@ -127,8 +127,8 @@ fn cuts_that_continue(rt: HostRuntime) {
     assert!(rt; continues(rt.alloc(), text, text.len() - 3));
 }
 
-/// How many equal bytes a chunk has in its line, and what is read: a line of 256 bytes is read, and one of 257
-/// is refused.
+/// How many equal bytes a chunk has in its line, and what is read: a line of 256 bytes is read, and
+/// one of 257 is refused.
 static CHUNK_LINES: [(usize, &[u8]); 2] = [(252, b"[PUT /light off]"), (253, b"[400]")];
 
 /// This is read of the chunk. The cuts in the midst of the equal bytes are left out.

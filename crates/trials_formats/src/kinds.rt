@@ -51,7 +51,8 @@ static INSIDE: [(&str, &str); 37] = [
     ("82f6a0", "[null,{}]"),
 ];
 
-// Items that aren't taken: other kinds, keys that aren't text, items of unknown length, and items that aren't well formed.
+// Items that aren't taken: other kinds, keys that aren't text, items of unknown length, and items
+// that aren't well formed.
 static OUTSIDE: [&str; 62] = [
     "c249010000000000000000",
     "3bffffffffffffffff",

@@ -1,8 +1,8 @@
 //! Trials of the crates of formats and of the link, by their public calls alone.
 //!
-//! What a contract says is proved for every input, and isn't tried here. Tried is what lies outside: the
-//! vectors of the standards, printed texts, that each call can succeed, and what a refused allocation
-//! leaves. Nothing stands on this crate, so the crates below it are proved once.
+//! What a contract says is proved for every input, and isn't tried here. Tried is what lies
+//! outside: the vectors of the standards, printed texts, that each call can succeed, and what a
+//! refused allocation leaves. Nothing stands on this crate, so the crates below it are proved once.
 #![tactic(auto)]
 
 #[cfg(test)]

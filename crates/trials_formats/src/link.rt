@@ -114,8 +114,8 @@ fn sends_copies(link: &mut Link, copy: &[u8], times: &[(u32, u32)]) -> bool {
     true
 }
 
-/// A random word, and the datagram that is sent with it; the moments at which its copies go out, and when it is
-/// given up, each with the millisecond before.
+/// A random word, and the datagram that is sent with it; the moments at which its copies go out,
+/// and when it is given up, each with the millisecond before.
 type Run = (u64, &'static [u8], [(u32, u32); 4], (u32, u32));
 
 static RUNS: [Run; 2] = [

@@ -1,5 +1,5 @@
-//! Media types and content formats, and what Accept asks for (RFC 9110, sections 8.3 and 12.5.1; RFC 7252,
-//! section 12.3; RFC 8075, section 6).
+//! Media types and content formats, and what Accept asks for (RFC 9110, sections 8.3 and 12.5.1;
+//! RFC 7252, section 12.3; RFC 8075, section 6).
 
 use crate::telling::{check, is_written};
 use media_map::{
@@ -289,8 +289,8 @@ static ACCEPTS: [AcceptRow; 27] = [
     (b"application/coap-payload;cf=60;q=0", None),
 ];
 
-/// What an Accept asks for under a policy. Like each call here, it passes on nothing of what the one in it
-/// promises: a trial over it is proved in less time.
+/// What an Accept asks for under a policy. Like each call here, it passes on nothing of what the
+/// one in it promises: a trial over it is proved in less time.
 fn asked(
     alloc: Global,
     value: &[u8],

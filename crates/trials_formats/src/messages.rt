@@ -303,8 +303,8 @@ fn copies_and_values(rt: HostRuntime) {
     assert!(rt; is_copied_when_read(rt.alloc(), b"\x51\x02\0\x01t\x41a\x02bc\xffx"));
 }
 
-/// RFC 7252, table 4, RFC 7641 and RFC 7959: an option's number, whether it is critical, and whether it is
-/// unsafe to forward.
+/// RFC 7252, table 4, RFC 7641 and RFC 7959: an option's number, whether it is critical, and
+/// whether it is unsafe to forward.
 type OptionRow = (u16, bool, bool);
 
 static OPTIONS: [OptionRow; 19] = [

@@ -10,8 +10,8 @@ use uri_map::{
     peer_of, target_of,
 };
 
-/// What the text names below `/hc/`. Like each call here, it passes on nothing of what the one in it
-/// promises: a trial over it is proved in less time.
+/// What the text names below `/hc/`. Like each call here, it passes on nothing of what the one in
+/// it promises: a trial over it is proved in less time.
 fn read(alloc: Global, text: &[u8]) -> Result<Target, UriFault> {
     target_of(alloc, b"/hc/", text)
 }

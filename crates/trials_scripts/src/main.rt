@@ -1,6 +1,7 @@
 //! Runs the scripts of its folder `data`, and compares what each prints with the file beside it.
 //!
-//! A line on standard input names a script, and how it is run: `NAME [--journal] [FILE.toml]`. Its inputs are in
+//! A line on standard input names a script, and how it is run: `NAME [--journal] [FILE.toml]`. Its
+//! inputs are in
 //! `NAME.script`, and `NAME.out` has what a terminal shows of `hcproxy replay`: the outputs, then the journal where
 //! that is asked for, and why the run ended where it was refused. With `NAME --draw` it is what a terminal shows of
 //! `hcproxy draw`, and with `NAME --story` of `hcproxy story`.

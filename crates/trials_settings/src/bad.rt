@@ -147,7 +147,8 @@ static SERVE: [(&str, &str); 41] = [
     ),
 ];
 
-/// The table, handed out by a call that says nothing of its rows: a loop over it is proved in less time.
+/// The table, handed out by a call that says nothing of its rows: a loop over it is proved in less
+/// time.
 fn serve() -> &'static [(&'static str, &'static str)] {
     &SERVE
 }

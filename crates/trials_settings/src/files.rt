@@ -57,7 +57,8 @@ static FILES: [(&[u8], &str); 20] = [
     ),
 ];
 
-/// The table, handed out by a call that says nothing of its rows: a loop over it is proved in less time.
+/// The table, handed out by a call that says nothing of its rows: a loop over it is proved in less
+/// time.
 fn files() -> &'static [(&'static [u8], &'static str)] {
     &FILES
 }

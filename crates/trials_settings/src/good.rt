@@ -46,7 +46,8 @@ static SERVE: [(&str, &str); 9] = [
     ),
 ];
 
-/// The table, handed out by a call that says nothing of its rows: a trial over it is proved in less time.
+/// The table, handed out by a call that says nothing of its rows: a trial over it is proved in less
+/// time.
 fn serve() -> &'static [(&'static str, &'static str)] {
     &SERVE
 }

@@ -6,8 +6,8 @@ use proxy_settings::{
 };
 use std::alloc::{AllocError, Global};
 
-/// What a text stands for, or why it is refused. Like each call here, it passes on nothing of what the one in
-/// it promises: a trial over it is proved in less time.
+/// What a text stands for, or why it is refused. Like each call here, it passes on nothing of what
+/// the one in it promises: a trial over it is proved in less time.
 fn told(alloc: Global, part: Part, text: &str) -> Result<String, AllocError> {
     match settings_of(alloc, part, text) {
         Ok(Setup::Serve(serve)) => serve_told(alloc, &serve),
