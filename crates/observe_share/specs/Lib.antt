@@ -1,4 +1,5 @@
 pub mod Newer
 pub mod Watches
+pub mod Hints
 pub mod Due
 pub mod Order

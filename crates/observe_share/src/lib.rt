@@ -9,6 +9,7 @@
 #![tactic(auto)]
 
 mod fault;
+mod hints;
 mod laws;
 mod notice;
 mod order;

@@ -1,10 +1,9 @@
 //! One watch.
 
 ghost use Rattle.std.specs.Prelude.{◌≡◌, IfOk};
-ghost use Rattle.cache_key.specs.Keys.{key_of};
 ghost use Rattle.observe_share.specs.Watches.{asked_at, is_idle};
 
-use cache_key::{Key, Reading};
+use cache_key::{Key, Lookup};
 use coap_codec::Token;
 use std::alloc::AllocError;
 
@@ -59,11 +58,10 @@ impl Registration {
     }
 
     /// What is read was asked for at this moment: that counts, should it have its key.
-    pub(crate) fn touch(&mut self, reading: &Reading<'_>, moment: u64)
-        ensures { let key = key_of reading.now.peer reading.now.target.now reading.now.accept in
-            self.new ≡ asked_at key moment self.old }
+    pub(crate) fn touch(&mut self, lookup: &Lookup<'_>, moment: u64)
+        ensures { self.new ≡ asked_at lookup.now moment self.old }
     {
-        if self.key.is_of(reading) {
+        if self.key.is_sought(lookup) {
             self.asked = moment;
         }
     }

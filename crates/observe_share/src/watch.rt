@@ -1,18 +1,20 @@
 //! The watches that stand.
 
-ghost use Rattle.std.specs.Prelude.{◌≡◌, ◌==◌, ◌≤◌, ◌<◌, ◌+◌, ◌∷◌, ◌++◌, ◌↔◌, [], map, length, nat_lt, not, true, false, vec_capacity, All, Any, OnOk, OnErr, IfOk, IfNone, IfSome, IsErrOf};
+ghost use Rattle.std.specs.Prelude.{◌≡◌, ◌==◌, ◌≤◌, ◌<◌, ◌+◌, ◌∷◌, ◌++◌, ◌↔◌, [], filter, map, length, nat_lt, not, true, false, vec_capacity, All, Any, OnOk, OnErr, IfOk, IfNone, IfSome, IsErrOf};
 ghost use Rattle.std.specs.Option.{option_copied};
-ghost use Rattle.std.specs.List.{position, find};
+ghost use Rattle.std.specs.List.{position, find, list_any};
 ghost use Rattle.cache_key.specs.Keys.{key_of, place_of};
+ghost use Rattle.observe_share.specs.Hints.{IsFirstAsked, IsUnwatched};
 ghost use Rattle.observe_share.specs.Watches.{is_under, is_of, is_at, is_idle, with_room, without, asked_at, counts_for, if_counts, noticed, told_of, notice_tells};
 ghost use Rattle.observe_share.specs.Due.{IsNextDue};
 ghost use Rattle.observe_share.specs.declared.fault.WatchFault.{WatchFault};
 
 use crate::fault::WatchFault;
+use crate::hints::{HINTS, hint_anew, hints_of, is_hinted, put_hint};
 use crate::notice::{Notice, Notified};
 use crate::order::newer;
 use crate::registration::{IDLE, Registration};
-use cache_key::Reading;
+use cache_key::{Lookup, Reading};
 use coap_codec::Token;
 use std::alloc::{AllocError, Global};
 use std::marker::Model;
@@ -24,20 +26,25 @@ const LIMIT: usize = 64;
 #[derive(Drop)]
 pub struct Watch {
     standing: Vec<Registration>,
+    /// the places that may be watched
+    hints: Vec<bool>,
+    /// the least of the moments at which their keys were asked for last
+    first: Option<u64>,
 }
 
 impl Model for Watch {
-    ghost use Rattle.std.specs.Prelude.{length, nat_lt, vec_capacity, vec_len, ◌≤◌};
+    ghost use Rattle.std.specs.Prelude.{◌==◌, ◌&&◌, nat_lt, vec_capacity, vec_len};
+    ghost use Rattle.observe_share.specs.Hints.{IsKept};
     ghost use Rattle.observe_share.specs.Watches.{WatchValue};
 
     ghost Value = { WatchValue };
 
     ghost view = { λ w. record {
       standing = w.standing.items;
-      room = nat_lt (vec_len w.standing) (vec_capacity w.standing);
+      room = nat_lt (vec_len w.standing) (vec_capacity w.standing) && (vec_len w.hints == 1024);
     } };
 
-    ghost invariant = { λ w. length w.standing.items ≤ 64 };
+    ghost invariant = { λ w. IsKept w.standing.items w.hints.items w.first };
 }
 
 /// Whether the registration has the token.
@@ -66,49 +73,43 @@ fn counts(notice: Notice, moment: u64, r: &Registration) -> bool
     }
 }
 
-/// What is read was asked for at this moment.
-fn touch(standing: &mut [Registration], reading: &Reading<'_>, moment: u64)
-    ensures { let key = key_of reading.now.peer reading.now.target.now reading.now.accept in
-        standing.new ≡ map (asked_at key moment) standing.old }
+/// What is sought was asked for at this moment.
+fn touch(standing: &mut [Registration], lookup: &Lookup<'_>, moment: u64)
+    ensures { standing.new ≡ map (asked_at lookup.now moment) standing.old }
 {
     'each: for r in standing {
-        r.touch(reading, moment);
+        r.touch(lookup, moment);
     }
 }
 
-/// How many are of other keys than that of what is read.
-fn count_beside(standing: &[Registration], reading: &Reading<'_>) -> usize
-    ensures { let key = key_of reading.now.peer reading.now.target.now reading.now.accept in
-        result ≡ length (without (is_of key) standing.now) }
+/// How many are of other keys than the one that is sought.
+fn count_beside(standing: &[Registration], lookup: &Lookup<'_>) -> usize
+    ensures { result ≡ length (without (is_of lookup.now) standing.now) }
 {
-    standing.iter().filter(|r| !r.key.is_of(reading)).count()
+    standing.iter().filter(|r| !r.key.is_sought(lookup)).count()
 }
 
 /// The least of the moments at which their keys were asked for last.
 fn first_asked(standing: &[Registration]) -> Option<u64>
-    ensures none { IfNone result (standing.now ≡ []) }
-    ensures one { IfSome result (λ t. Any (λ r. r.asked ≡ t) standing.now) }
-    ensures least { IfSome result (λ t. All (λ r. t ≤ r.asked) standing.now) }
+    ensures { IsFirstAsked standing.now result }
 {
     standing.iter().map(|r| r.asked).min()
 }
 
-fn drop_key(standing: &mut Vec<Registration>, reading: &Reading<'_>)
-    ensures items { let key = key_of reading.now.peer reading.now.target.now reading.now.accept in
-        standing.new.items ≡ without (is_of key) standing.old.items }
+fn drop_key(standing: &mut Vec<Registration>, lookup: &Lookup<'_>)
+    ensures items { standing.new.items ≡ without (is_of lookup.now) standing.old.items }
     ensures fewer { length standing.new.items ≤ length standing.old.items }
     ensures capacity { vec_capacity standing.new ≡ vec_capacity standing.old }
 {
-    standing.retain(|r| !r.key.is_of(reading));
+    standing.retain(|r| !r.key.is_sought(lookup));
 }
 
-fn drop_place(standing: &mut Vec<Registration>, writing: &Reading<'_>)
-    ensures items { let place = place_of writing.now.peer writing.now.target.now in
-        standing.new.items ≡ without (is_at place) standing.old.items }
+fn drop_place(standing: &mut Vec<Registration>, lookup: &Lookup<'_>)
+    ensures items { standing.new.items ≡ without (is_at lookup.now.place) standing.old.items }
     ensures fewer { length standing.new.items ≤ length standing.old.items }
     ensures capacity { vec_capacity standing.new ≡ vec_capacity standing.old }
 {
-    standing.retain(|r| !r.key.place().is_of(writing));
+    standing.retain(|r| !r.key.is_at(lookup));
 }
 
 fn drop_idle(standing: &mut Vec<Registration>, moment: u64)
@@ -126,6 +127,8 @@ impl Watch {
     {
         Watch {
             standing: Vec::new(alloc),
+            hints: Vec::new(alloc),
+            first: None,
         }
     }
 
@@ -165,7 +168,11 @@ impl Watch {
         ensures unchanged { OnErr result (self.new ≡ self.old) }
         ensures wanted { OnErr result (self.old.room ≡ false) }
     {
-        self.standing.reserve(1)
+        self.standing.reserve(1)?;
+        if self.hints.len() != HINTS {
+            self.hints = hints_of(*self.standing.allocator(), &self.standing)?;
+        }
+        Ok(())
     }
 
     /// One more watch, for which there is room. A watch of its key that stands is to be forgotten
@@ -175,9 +182,11 @@ impl Watch {
         requires room { self.old.room ≡ true }
         ensures { self.new.standing ≡ self.old.standing ++ registration ∷ [] }
     {
+        put_hint(&mut self.hints, registration.key.rank());
         if self.standing.push(registration).is_err() {
             unreachable!()
         }
+        self.first = first_asked(&self.standing);
     }
 
     /// One more watch, as `register_in_room` does, where room may still have to be made.
@@ -232,9 +241,48 @@ impl Watch {
         match notice {
             Notice::Update(version) => {
                 self.standing[place].renew(version, moment);
+                self.first = first_asked(&self.standing);
                 Notified::Updated
             }
-            Notice::Other(_) => Notified::Ended(self.standing.remove(place)),
+            Notice::Other(_) => {
+                let ended = self.standing.remove(place);
+                self.first = first_asked(&self.standing);
+                hint_anew(&mut self.hints, &self.standing);
+                Notified::Ended(ended)
+            }
+        }
+    }
+
+    /// What is read or changed, as watches are looked through for it; None where there is none of its
+    /// place.
+    fn sought<'a>(&self, reading: &Reading<'a>) -> Option<Lookup<'a>>
+        ensures some { let key = key_of reading.now.peer reading.now.target.now reading.now.accept in
+            IfSome result (λ lookup. lookup ≡ key) }
+        ensures none { let place = place_of reading.now.peer reading.now.target.now in
+            result ≡ None → IsUnwatched place self.now.standing }
+    {
+        if self.standing.is_empty() {
+            return None;
+        }
+        let lookup = Lookup::of(reading);
+        if is_hinted(&self.hints, lookup.rank()) {
+            Some(lookup)
+        } else {
+            None
+        }
+    }
+
+    /// Among which the watches of the place are that is read or changed, in order: none, where it has
+    /// no hint.
+    pub fn among(&self, reading: &Reading<'_>) -> &[Registration]
+        ensures at { let place = place_of reading.now.peer reading.now.target.now in
+            filter (is_at place) result.now ≡ filter (is_at place) self.now.standing }
+        ensures of { let key = key_of reading.now.peer reading.now.target.now reading.now.accept in
+            filter (is_of key) result.now ≡ filter (is_of key) self.now.standing }
+    {
+        match self.sought(reading) {
+            Some(_) => &self.standing,
+            None => &[],
         }
     }
 
@@ -244,7 +292,10 @@ impl Watch {
             self.new.standing ≡ map (asked_at key moment) self.old.standing }
         ensures room { self.new.room ≡ self.old.room }
     {
-        touch(&mut self.standing, reading, moment);
+        if let Some(lookup) = self.sought(reading) {
+            touch(&mut self.standing, &lookup, moment);
+            self.first = first_asked(&self.standing);
+        }
     }
 
     /// Whether one of what is read may stand, once those of its key are forgotten.
@@ -252,7 +303,13 @@ impl Watch {
         ensures { let key = key_of reading.now.peer reading.now.target.now reading.now.accept in
             result ≡ nat_lt (length (without (is_of key) self.now.standing)) 64 }
     {
-        count_beside(&self.standing, reading) < LIMIT
+        if self.standing.len() < LIMIT {
+            return true;
+        }
+        match self.sought(reading) {
+            Some(lookup) => count_beside(&self.standing, &lookup) < LIMIT,
+            None => false,
+        }
     }
 
     /// The watches of what is read are forgotten, since an exchange is opened for it.
@@ -261,7 +318,10 @@ impl Watch {
             self.new.standing ≡ without (is_of key) self.old.standing }
         ensures room { self.old.room ≡ true → self.new.room ≡ true }
     {
-        drop_key(&mut self.standing, reading);
+        if let Some(lookup) = self.sought(reading) {
+            drop_key(&mut self.standing, &lookup);
+            self.first = first_asked(&self.standing);
+        }
     }
 
     /// The watches of the place that a write changed are forgotten, since that ended.
@@ -270,7 +330,22 @@ impl Watch {
             self.new.standing ≡ without (is_at place) self.old.standing }
         ensures room { self.old.room ≡ true → self.new.room ≡ true }
     {
-        drop_place(&mut self.standing, writing);
+        if let Some(lookup) = self.sought(writing) {
+            drop_place(&mut self.standing, &lookup);
+            self.first = first_asked(&self.standing);
+            hint_anew(&mut self.hints, &self.standing);
+        }
+    }
+
+    /// Whether there is a watch for whose key nobody asked in the last 120,000 ms. No watch is looked
+    /// at for it.
+    pub fn has_idle(&self, moment: u64) -> bool
+        ensures { result ≡ list_any (is_idle moment) self.now.standing }
+    {
+        match self.first {
+            Some(first) => moment.saturating_sub(first) >= IDLE,
+            None => false,
+        }
     }
 
     /// The watches for whose keys nobody asked in the last 120,000 ms are forgotten; how many these
@@ -280,8 +355,13 @@ impl Watch {
         ensures count { result + length self.new.standing ≡ length self.old.standing }
         ensures room { self.old.room ≡ true → self.new.room ≡ true }
     {
+        if !self.has_idle(moment) {
+            return 0;
+        }
         let before = self.standing.len();
         drop_idle(&mut self.standing, moment);
+        self.first = first_asked(&self.standing);
+        hint_anew(&mut self.hints, &self.standing);
         before - self.standing.len()
     }
 
@@ -289,17 +369,22 @@ impl Watch {
     pub fn next_due(&self) -> Option<u64>
         ensures { IsNextDue self.now.standing result }
     {
-        first_asked(&self.standing)?.checked_add(IDLE)
+        self.first?.checked_add(IDLE)
     }
 
     /// The same watches, which share their keys.
     pub fn copy(&self) -> Result<Watch, AllocError>
         ensures { IfOk result (λ w. w.standing ≡ self.now.standing) }
     {
-        let mut standing = Vec::new(*self.standing.allocator());
+        let alloc = *self.standing.allocator();
+        let mut standing = Vec::new(alloc);
         'each: for r in &self.standing {
             standing.push(r.share()?)?;
         }
-        Ok(Watch { standing })
+        Ok(Watch {
+            standing,
+            hints: Vec::from_slice(alloc, &self.hints)?,
+            first: self.first,
+        })
     }
 }

@@ -35,6 +35,8 @@ fn a_watch_stands_for_two_minutes(rt: HostRuntime) {
         touch(&mut watch, alloc, "u", 5000).is_some(),
     );
     check(&rt, 0, watch.next_due() == Some(120_000));
+    let idle = watch.has_idle(120_000) && !watch.has_idle(119_999);
+    check(&rt, "one is idle", idle);
     check(&rt, 119_999, ends(&mut watch, 119_999, 0, Some(120_000)));
     check(&rt, 120_000, ends(&mut watch, 120_000, 1, Some(125_000)));
     check(&rt, 125_000, ends(&mut watch, 125_000, 1, None));
@@ -73,4 +75,23 @@ fn a_write_and_an_ask_end_watches(rt: HostRuntime) {
     check(&rt, "a write", retire(&mut watch, alloc, "u").is_some());
     check(&rt, "none is left", watch.is_empty());
     check(&rt, "the copy", before.len() == 2);
+}
+
+/// How many watches a request for this segment is compared with.
+fn count_among(watch: &Watch, alloc: Global, segment: &str) -> Option<usize> {
+    let target = target(alloc, segment).ok()?;
+    Some(watch.among(&reading(&target)).len())
+}
+
+#[test]
+fn a_request_for_what_is_not_watched_is_compared_with_none(rt: HostRuntime) {
+    let alloc = rt.alloc();
+    let mut watch = Watch::new(alloc);
+    check(&rt, "no watch", count_among(&watch, alloc, "t") == Some(0));
+    watch = two_watches(alloc).expect(&rt, "memory");
+    check(&rt, "watched", count_among(&watch, alloc, "t") == Some(2));
+    check(&rt, "another", count_among(&watch, alloc, "v") == Some(0));
+    check(&rt, "a write", retire(&mut watch, alloc, "t").is_some());
+    check(&rt, "no more", count_among(&watch, alloc, "t") == Some(0));
+    check(&rt, "the other", count_among(&watch, alloc, "u") == Some(1));
 }

@@ -1,11 +1,10 @@
 use Rattle.std.proofs.Common.{rules, not}
 use Rattle.std.proofs.lemmas.Fn.{filter_same}
-use Rattle.cache_key.specs.Keys.{place_of}
 use Rattle.observe_share.specs.Watches.{is_at}
 use Rattle.observe_share.proofs.First.{length-filtered}
 use Rattle.observe_share.proofs.watch.drop_place.Goals as goal
 
 pub returns : goal.returns
 returns c =
-    let same = filter_same _ (λ r. not (is_at (place_of c.args.writing.now.peer c.args.writing.now.target.now) r)) _ (λ x b f' k. search rules) _ _ c.retain.ensures.filtered in
+    let same = filter_same _ (λ r. not (is_at c.args.lookup.now.place r)) _ (λ x b f' k. search rules) _ _ c.retain.ensures.filtered in
     record { items = same; fewer = rw same (length-filtered _ _); capacity = c.retain.ensures.capacity }

@@ -36,10 +36,10 @@ returns-in-Update-clause-told c =
 pub returns-in-Other-clause-watches : goal.returns-in-Other-clause-watches
 returns-in-Other-clause-watches c =
     let there : position (is_under c.args.token.now) c.self.inside.standing.items ≡ Some c.in-Some.place = rw (← c.deref.ensures.value) (sym c.place_under.ensures ∙ c.in-Some.is) in
-    rw (← c.self.view_is, c.remove.ensures.items, c.in-Other.is) ((ending c.args.token.now c.in-Other.field-0 c.args.moment c.self.inside.standing.items c.in-Some.place c.index.result.now there c.index.ensures (rw c.in-Other.is at (sym c.counts.ensures ∙ c.if-not-counts.false))).watches)
+    rw (← c.self.view_is, c.remove-ended.ensures.items, c.in-Other.is) ((ending c.args.token.now c.in-Other.field-0 c.args.moment c.self.inside.standing.items c.in-Some.place c.index.result.now there c.index.ensures (rw c.in-Other.is at (sym c.counts.ensures ∙ c.if-not-counts.false))).watches)
 
 pub returns-in-Other-clause-told : goal.returns-in-Other-clause-told
 returns-in-Other-clause-told c =
     let there : position (is_under c.args.token.now) c.self.inside.standing.items ≡ Some c.in-Some.place = rw (← c.deref.ensures.value) (sym c.place_under.ensures ∙ c.in-Some.is) in
-    let same : c.remove.result ≡ c.index.result.now = one_read (is_under c.args.token.now) c.self.inside.standing.items c.in-Some.place _ _ there c.remove.ensures.value c.index.ensures in
+    let same : c.remove-ended.result ≡ c.index.result.now = one_read (is_under c.args.token.now) c.self.inside.standing.items c.in-Some.place _ _ there c.remove-ended.ensures.value c.index.ensures in
     rw (← c.self.view_is, same, c.in-Other.is) ((ending c.args.token.now c.in-Other.field-0 c.args.moment c.self.inside.standing.items c.in-Some.place c.index.result.now there c.index.ensures (rw c.in-Other.is at (sym c.counts.ensures ∙ c.if-not-counts.false))).told)
