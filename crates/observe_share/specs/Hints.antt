@@ -16,7 +16,8 @@ is_hinted hints rank = is_set (slice_get hints (rank / 65536 % 1024))
 
 -- Each watch's place has its hint.
 abbrev pub AreHinted : List Bool → List Registration → Type 0
-AreHinted hints rs = AllByRecursion (λ (r : Registration). is_hinted hints (rank_of r.key) ≡ true) rs
+AreHinted hints rs =
+    AllByRecursion (λ (r : Registration). is_hinted hints (rank_of r.key) ≡ true) rs
 
 -- There is no watch of the place.
 abbrev pub IsUnwatched : Place → List Registration → Type 0

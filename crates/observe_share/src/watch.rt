@@ -253,10 +253,11 @@ impl Watch {
         }
     }
 
-    /// What is read or changed, as watches are looked through for it; None where there is none of its
-    /// place.
+    /// What is read or changed, as watches are looked through for it; None where there is none of
+    /// its place.
     fn sought<'a>(&self, reading: &Reading<'a>) -> Option<Lookup<'a>>
-        ensures some { let key = key_of reading.now.peer reading.now.target.now reading.now.accept in
+        ensures some { let key =
+            key_of reading.now.peer reading.now.target.now reading.now.accept in
             IfSome result (λ lookup. lookup ≡ key) }
         ensures none { let place = place_of reading.now.peer reading.now.target.now in
             result ≡ None → IsUnwatched place self.now.standing }
@@ -272,8 +273,8 @@ impl Watch {
         }
     }
 
-    /// Among which the watches of the place are that is read or changed, in order: none, where it has
-    /// no hint.
+    /// Among which the watches of the place are that is read or changed, in order: none, where it
+    /// has no hint.
     pub fn among(&self, reading: &Reading<'_>) -> &[Registration]
         ensures at { let place = place_of reading.now.peer reading.now.target.now in
             filter (is_at place) result.now ≡ filter (is_at place) self.now.standing }
@@ -288,7 +289,8 @@ impl Watch {
 
     /// What is read was asked for at this moment.
     pub fn touched(&mut self, reading: &Reading<'_>, moment: u64)
-        ensures watches { let key = key_of reading.now.peer reading.now.target.now reading.now.accept in
+        ensures watches { let key =
+            key_of reading.now.peer reading.now.target.now reading.now.accept in
             self.new.standing ≡ map (asked_at key moment) self.old.standing }
         ensures room { self.new.room ≡ self.old.room }
     {
@@ -314,7 +316,8 @@ impl Watch {
 
     /// The watches of what is read are forgotten, since an exchange is opened for it.
     pub fn forget(&mut self, reading: &Reading<'_>)
-        ensures watches { let key = key_of reading.now.peer reading.now.target.now reading.now.accept in
+        ensures watches { let key =
+            key_of reading.now.peer reading.now.target.now reading.now.accept in
             self.new.standing ≡ without (is_of key) self.old.standing }
         ensures room { self.old.room ≡ true → self.new.room ≡ true }
     {
@@ -337,8 +340,8 @@ impl Watch {
         }
     }
 
-    /// Whether there is a watch for whose key nobody asked in the last 120,000 ms. No watch is looked
-    /// at for it.
+    /// Whether there is a watch for whose key nobody asked in the last 120,000 ms. No watch is
+    /// looked at for it.
     pub fn has_idle(&self, moment: u64) -> bool
         ensures { result ≡ list_any (is_idle moment) self.now.standing }
     {
