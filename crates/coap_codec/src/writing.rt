@@ -120,13 +120,24 @@ pub fn is_encodable(m: &Message) -> bool
     options_are_encodable(&m.options) && (m.code != 0 || empty)
 }
 
+/// How many bytes the message has, or some more: three for what stands before each value.
+fn size_of(m: &Message) -> usize {
+    let mut size = m.payload.len().saturating_add(m.token.len());
+    size = size.saturating_add(5);
+    'each: for option in &m.options {
+        size = size.saturating_add(option.value.len());
+        size = size.saturating_add(3);
+    }
+    size
+}
+
 /// The one spelling of the message. It takes each byte once.
 pub fn encode(alloc: Global, m: &Message) -> Result<Vec<u8>, CodecFault>
     requires { IsEncodable (content m.now) }
     ensures ok { IfOk result (λ bytes. Spells (content m.now) bytes.items) }
     ensures memory { IsOkUnless result CodecFault.Memory }
 {
-    let mut out = Vec::new(alloc);
+    let mut out = Vec::with_capacity(alloc, size_of(m))?;
     push_head(&mut out, m)?;
     push_options(&mut out, &m.options)?;
     push_payload(&mut out, &m.payload)?;
