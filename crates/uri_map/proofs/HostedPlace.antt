@@ -256,7 +256,7 @@ octets_fit a b c d fit (suc (suc zero)) = omega (arith, fit)
 octets_fit a b c d fit (suc (suc (suc zero))) = omega (arith, fit)
 octets_fit a b c d fit (suc (suc (suc (suc k)))) = omega arith
 
-dotted_bytes : (text octets : List ℕ) → IsDotted text octets → All IsDigitOrDot (ipv4_text octets)
+pub dotted_bytes : (text octets : List ℕ) → IsDotted text octets → All IsDigitOrDot (ipv4_text octets)
 dotted_bytes text octets h =
     All-ipv4_text octets (subst (λ o. (k : ℕ) → get_or o k 0 < 2 ^ 8) (sym h.value) (octets_fit h.a h.b h.c h.d h.fit))
 
@@ -287,7 +287,7 @@ dotted_same (b ∷ text) all =
     let low : to_ascii_lowercase b ≡ b = (lowercase_is b).1 (small_letter b first) in
     rw (percent_decode_not_percent b text (no_escape b first), low, others) refl
 
-address_named : (a : Ipv4Addr) (text : List ℕ) → is_name text ≡ true → ipv4_of text ≡ Some a → All IsDigitOrDot (ipv4_text (ipv4_octets a)) × (named_at (ipv4_text (ipv4_octets a)) ≡ Ok (V4 a))
+pub address_named : (a : Ipv4Addr) (text : List ℕ) → is_name text ≡ true → ipv4_of text ≡ Some a → All IsDigitOrDot (ipv4_text (ipv4_octets a)) × (named_at (ipv4_text (ipv4_octets a)) ≡ Ok (V4 a))
 address_named a text is e =
     let h = ipv4_written text a e in
     let same : text ≡ ipv4_text (ipv4_octets a) = h.spelled ∙ sym (ap ipv4_text h.value) in

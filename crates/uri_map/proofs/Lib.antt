@@ -15,4 +15,6 @@ mod HostedParts
 mod Groups
 mod Placed
 mod HostedPlace
+mod Numbered
+mod Shorts
 mod Hosted

@@ -9,3 +9,4 @@ pub mod Rooms
 pub mod Naming
 pub mod Hosting
 pub mod Peers
+pub mod Texts

@@ -77,6 +77,9 @@ pub(crate) enum Named {
 fn host_named(text: &[u8]) -> Result<Named, UriFault>
     ensures { Reads host_view result (spec.named_at text.now) }
 {
+    if let Some(address) = v4_of(text) {
+        return Ok(Named::V4(address));
+    }
     if check_escapes(text).is_err() {
         return Err(UriFault::Authority);
     }

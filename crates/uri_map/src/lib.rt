@@ -20,6 +20,7 @@ mod parts;
 mod peer;
 mod reading;
 mod room;
+mod short;
 mod target;
 mod text;
 mod utf8;

@@ -27,10 +27,7 @@ fn text_of(alloc: Global, part: Part, piece: &[u8]) -> Result<Text, UriFault>
     ensures { Gives result (text_at part piece.now) }
 {
     match percent_decode(piece).decode_utf8(alloc) {
-        Ok(text) => {
-            let text = text.into_owned(alloc)?;
-            Ok(Text::of(text))
-        }
+        Ok(text) => Ok(Text::copy_of(alloc, text.as_str())?),
         Err(fault) => match fault {
             DecodeError::OutOfMemory => Err(UriFault::Memory),
             DecodeError::Utf8(_) => Err(UriFault::Escape),

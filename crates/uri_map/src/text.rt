@@ -1,22 +1,30 @@
 //! Texts that contracts see as their bytes.
 
+use crate::short::ShortText;
 use std::alloc::{AllocError, AllocFailed, Global};
 use std::marker::Model;
 
+/// Where the bytes of a text are.
+#[derive(Debug, Drop)]
+enum Held {
+    Short(ShortText),
+    Long(String),
+}
+
 /// A text in UTF-8, such as the value of a Uri-Host, Uri-Path or Uri-Query. Contracts see its
-/// bytes.
+/// bytes. A short one takes no memory.
 #[derive(Debug, Drop)]
 pub struct Text {
-    text: String,
+    held: Held,
 }
 
 impl Model for Text {
     ghost use Rattle.std.specs.Prelude.{ℕ, List};
-    ghost use Rattle.std.specs.String.{string_bytes};
+    ghost use Rattle.uri_map.specs.Texts.{held_bytes};
 
     ghost Value = { List ℕ };
 
-    ghost view = { λ t. string_bytes t.text };
+    ghost view = { λ t. held_bytes t.held };
 }
 
 impl Text {
@@ -27,23 +35,39 @@ impl Text {
     pub fn copy_of(alloc: Global, text: &str) -> Result<Text, AllocError>
         ensures { IfOk result (λ t. t ≡ text.now) }
     {
-        let text = String::from_str(alloc, text)?;
-        Ok(Text { text })
+        if text.len() <= ShortText::ROOM {
+            let short = ShortText::of(text);
+            return Ok(Text {
+                held: Held::Short(short),
+            });
+        }
+        let long = String::from_str(alloc, text)?;
+        Ok(Text {
+            held: Held::Long(long),
+        })
     }
 
     /// The text that a string is.
     pub fn of(text: String) -> Text
         ensures { result ≡ string_bytes text }
     {
-        Text { text }
+        Text {
+            held: Held::Long(text),
+        }
     }
 
     /// A copy of the text.
     pub fn copy(&self) -> Result<Text, AllocError>
         ensures { IfOk result (λ t. t ≡ self.now) }
     {
-        let text = self.text.clone()?;
-        Ok(Text { text })
+        match &self.held {
+            Held::Short(short) => Ok(Text {
+                held: Held::Short(short.copy()),
+            }),
+            Held::Long(long) => Ok(Text {
+                held: Held::Long(long.clone()?),
+            }),
+        }
     }
 
     /// The text.
@@ -51,21 +75,27 @@ impl Text {
         ensures value { result.now ≡ self.now }
         ensures utf8 { IsUtf8 self.now }
     {
-        self.text.as_str()
+        match &self.held {
+            Held::Short(short) => short.as_str(),
+            Held::Long(long) => long.as_str(),
+        }
     }
 
     /// Its bytes.
     pub fn as_bytes(&self) -> &[u8]
         ensures { result.now ≡ self.now }
     {
-        self.text.as_bytes()
+        match &self.held {
+            Held::Short(short) => short.as_slice(),
+            Held::Long(long) => long.as_bytes(),
+        }
     }
 
     /// How many bytes it has.
     pub fn len(&self) -> usize
         ensures { result ≡ length self.now }
     {
-        self.text.len()
+        self.as_bytes().len()
     }
 }
 

@@ -9,7 +9,7 @@ returns-in-Utf8 c =
     let both : Utf8 c.in-Utf8.field-0 ≡ OutOfMemory = sym c.in-Utf8.is ∙ only in
     absurd cc
 
-pub returns-in_ok-text-in-Ok : goal.returns-in_ok-text-in-Ok
-returns-in_ok-text-in-Ok c =
+pub returns-in_ok-copy_of-in-Ok : goal.returns-in_ok-copy_of-in-Ok
+returns-in_ok-copy_of-in-Ok c =
     let decoded = ok_is_decoded c.args.part c.args.piece.now c.requires in
-    cc (decoded, c.of.ensures, c.in_ok-text-in-Ok.ensures.ok, c.in-Ok.ensures.value)
+    cc (decoded, c.in_ok-copy_of-in-Ok.ensures, c.as_str.ensures.value, c.in-Ok.ensures.value, c.percent_decode.ensures.bytes)
