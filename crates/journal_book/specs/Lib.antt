@@ -1,3 +1,4 @@
 pub mod Entries
 pub mod Segments
 pub mod Views
+pub mod Listing
