@@ -1,8 +1,10 @@
 //! Bytes that several owners share, which contracts see as a list of numbers.
 
 ghost use Rattle.std.specs.Prelude.{◌≡◌, ◌≤◌, List, ℕ, IfOk, length};
+ghost use Rattle.std.specs.Arc.{arc_value};
 ghost use Rattle.message_layer.specs.Sending.{with_mid};
 
+use coap_codec::Bytes as Whole;
 use std::alloc::{AllocError, Global};
 use std::marker::Model;
 use std::sync::Arc;
@@ -10,7 +12,7 @@ use std::sync::Arc;
 /// The bytes of a datagram. They are made once, and its copies share them.
 #[derive(Drop)]
 pub struct Bytes {
-    items: Arc<Vec<u8>>,
+    items: Arc<Whole>,
 }
 
 impl Model for Bytes {
@@ -19,7 +21,7 @@ impl Model for Bytes {
 
     ghost Value = { List ℕ };
 
-    ghost view = { λ b. (arc_value b.items).items };
+    ghost view = { λ b. arc_value b.items };
 }
 
 impl Bytes {
@@ -28,7 +30,7 @@ impl Bytes {
         ensures { IfOk result (λ b. b ≡ items.items) }
     {
         Ok(Bytes {
-            items: Arc::new(alloc, items)?,
+            items: Arc::new(alloc, Whole::of(items))?,
         })
     }
 
@@ -39,6 +41,13 @@ impl Bytes {
         Ok(Bytes {
             items: Arc::try_clone(&self.items)?,
         })
+    }
+
+    /// The bytes, for who keeps them longer than the link does.
+    pub fn shared(&self) -> &Arc<Whole>
+        ensures { arc_value result.now ≡ self.now }
+    {
+        &self.items
     }
 
     /// The bytes.
