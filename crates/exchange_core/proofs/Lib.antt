@@ -40,6 +40,7 @@ mod Heard
 mod Tolds
 mod Heeds
 mod HeardSteps
+mod Idles
 mod Restoring
 mod Watched
 mod Notified

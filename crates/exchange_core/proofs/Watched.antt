@@ -1,6 +1,9 @@
 -- What is observed, as the request of an ask and the end of exchanges change it.
-use Rattle.std.proofs.Common.{◌≡◌, ℕ, zero, suc, ◌+◌, ◌<◌, Bool, true, false, cond, not, ◌&&◌, ◌||◌, List, [], ◌∷◌, length, drop, get_or, Option, Some, None, refl, sym, ap, ◌∙◌, arith}
-use Rattle.std.specs.Prelude.{nat_lt, ◌==◌}
+use Rattle.std.proofs.Common.{◌≡◌, ℕ, zero, suc, ◌+◌, ◌<◌, Bool, true, false, cond, not, ◌&&◌, ◌||◌, List, [], ◌∷◌, ◌++◌, append-nil, length, map, drop, get_or, Option, Some, None, refl, sym, ap, ◌∙◌, arith}
+use Rattle.std.specs.Prelude.{filter, nat_lt, ◌==◌}
+use Rattle.std.specs.List.{list_any}
+use Rattle.std.proofs.lemmas.Bool.{false≢true}
+use Rattle.cache_key.specs.declared.place.Place.{Place}
 use Rattle.cache_key.specs.Keys.{CacheKey}
 use Rattle.observe_share.specs.declared.registration.Registration.{Registration}
 use Rattle.observe_share.specs.Watches.{is_at, is_idle, is_of, without}
@@ -9,7 +12,7 @@ use Rattle.ask_model.specs.Sharing.{asked_key, asked_place, is_get, key_read, pl
 use Rattle.journal_book.specs.Entries.{Written}
 use Rattle.exchange_model.specs.declared.kept.Exchange.{Exchange}
 use Rattle.exchange_model.specs.Steps.{asked_in, is_written_late, request_in}
-use Rattle.exchange_model.specs.Watching.{is_renewed_by, is_written_by}
+use Rattle.exchange_model.specs.Watching.{is_renewed_by, is_written_by, token_of, tokens_of}
 use Rattle.exchange_core.specs.Watching.{is_renewed_for, is_unwatched_by, may_watch}
 
 -- Where none passes, all stay.
@@ -127,3 +130,97 @@ unwatched-all t ws over i old now new end here last =
     ∙ (ap (λ (es : List Exchange). without (is_written_late ws es) now) (sym (drop-all over i end)) ∙ here))
     ∙ (sym (goes-either (is_written_late ws over) (is_idle t) old)
     ∙ goes-same (λ r. is_written_late ws over r || is_idle t r) (is_unwatched_by t ws over) old (λ r. or-turned (is_written_late ws over r) (is_idle t r)))
+
+-- the tokens of those that pass
+
+some-none : {X Y : Type 0} (f : X → Y) (p : X → Bool) (xs : List X) → ((x : X) → p x ≡ false) → [] ≡ map f (filter p xs)
+some-none f p [] none = refl
+some-none f p (x ∷ xs) none = rw (none x) (some-none f p xs none)
+
+some-same : {X : Type 0} (p q : X → Bool) (xs : List X) → ((x : X) → p x ≡ q x) → filter p xs ≡ filter q xs
+some-same p q [] same = refl
+some-same {X = X} p q (x ∷ xs) same =
+    ap (λ (ys : List X). cond (p x) (x ∷ ys) ys) (some-same p q xs same) ∙ ap (λ (b : Bool). cond b (x ∷ filter q xs) (filter q xs)) (same x)
+
+none-more : (ts us : List (List ℕ)) → [] ≡ us → ts ≡ ts ++ us
+none-more ts us e = sym (append-nil ts) ∙ ap (λ (vs : List (List ℕ)). ts ++ vs) e
+
+-- of what is read
+
+unread : (s : Sense) → None ≡ key_read s → (r : Registration) → is_renewed_for s r ≡ false
+unread (Refuses cause status) h r = refl
+unread (Requests q) h r = get (is_get q) h
+  where
+    get : (b : Bool) → None ≡ cond b (Some (asked_key q)) None → (b && is_of (asked_key q) r) ≡ false
+    get true k = absurd (none-key (asked_key q) k)
+    get false k = refl
+
+pub renewed-none : (s : Sense) (rs : List Registration) → None ≡ key_read s → [] ≡ tokens_of (is_renewed_for s) rs
+renewed-none s rs e = some-none token_of (is_renewed_for s) rs (unread s e)
+
+renews-by : (s : Sense) (key : CacheKey) → Some key ≡ key_read s → (r : Registration) → is_of key r ≡ is_renewed_for s r
+renews-by (Refuses cause status) key e r = absurd (none-key key (sym e))
+renews-by (Requests q) key e r = by (is_get q) e
+  where
+    by : (b : Bool) → Some key ≡ cond b (Some (asked_key q)) None → is_of key r ≡ (b && is_of (asked_key q) r)
+    by true k = ap (λ (l : CacheKey). is_of l r) (some-key key (asked_key q) k)
+    by false k = absurd (none-key key (sym k))
+
+pub renewed-some : (s : Sense) (key : CacheKey) (near rs : List Registration) → Some key ≡ key_read s → filter (is_of key) near ≡ filter (is_of key) rs
+    → tokens_of (is_of key) near ≡ tokens_of (is_renewed_for s) rs
+renewed-some s key near rs e among = ap (map token_of) (among ∙ some-same (is_of key) (is_renewed_for s) rs (renews-by s key e))
+
+-- of what was written
+
+some-place : (p q : Place) → Some p ≡ Some q → p ≡ q
+some-place p q e = cc
+
+none-place : (p : Place) → None ≡ Some p → ⊥
+none-place p e = cc
+
+unwritten : (s : Sense) → None ≡ place_written s → (r : Registration) → is_written_by (request_in s) r ≡ false
+unwritten (Refuses cause status) h r = refl
+unwritten (Requests q) h r = put (q.method == 1) h
+  where
+    put : (b : Bool) → None ≡ cond b None (Some (asked_place q)) → (not b && is_at (asked_place q) r) ≡ false
+    put true k = refl
+    put false k = absurd (none-place (asked_place q) k)
+
+pub written-none : (ws : List Written) (o : ℕ) (ts : List (List ℕ)) (rs : List Registration) → None ≡ asked_in ws o → ts ≡ ts ++ tokens_of (is_written_by (asked_in ws o)) rs
+written-none ws o ts rs e =
+    none-more ts (tokens_of (is_written_by (asked_in ws o)) rs) (some-none token_of (is_written_by (asked_in ws o)) rs (λ r. ap (λ (v : Option CoapRequest). is_written_by v r) (sym e)))
+
+pub written-nothing : (ws : List Written) (o : ℕ) (sense : Sense) (ts : List (List ℕ)) (rs : List Registration) → request_in sense ≡ asked_in ws o → None ≡ place_written sense
+    → ts ≡ ts ++ tokens_of (is_written_by (asked_in ws o)) rs
+written-nothing ws o sense ts rs is none =
+    none-more ts (tokens_of (is_written_by (asked_in ws o)) rs)
+    (some-none token_of (is_written_by (asked_in ws o)) rs (λ r. ap (λ (v : Option CoapRequest). is_written_by v r) (sym is) ∙ unwritten sense none r))
+
+writes-by : (s : Sense) (place : Place) → Some place ≡ place_written s → (r : Registration) → is_at place r ≡ is_written_by (request_in s) r
+writes-by (Refuses cause status) place e r = absurd (none-place place (sym e))
+writes-by (Requests q) place e r = by (q.method == 1) e
+  where
+    by : (b : Bool) → Some place ≡ cond b None (Some (asked_place q)) → is_at place r ≡ (not b && is_at (asked_place q) r)
+    by true k = absurd (none-place place (sym k))
+    by false k = ap (λ (p : Place). is_at p r) (some-place place (asked_place q) k)
+
+pub written-some : (ws : List Written) (o : ℕ) (sense : Sense) (place : Place) (near rs : List Registration) → request_in sense ≡ asked_in ws o → Some place ≡ place_written sense
+    → filter (is_at place) near ≡ filter (is_at place) rs → tokens_of (is_at place) near ≡ tokens_of (is_written_by (asked_in ws o)) rs
+written-some ws o sense place near rs is e among =
+    ap (map token_of) (among ∙ some-same (is_at place) (is_written_by (asked_in ws o)) rs (λ r. writes-by sense place e r ∙ ap (λ (v : Option CoapRequest). is_written_by v r) is))
+
+-- of what a tick ends
+
+idle-none : (t : ℕ) (ws : List Written) (rs : List Registration) → list_any (is_idle t) rs ≡ false → [] ≡ tokens_of (is_unwatched_by t ws []) rs
+idle-none t ws [] none = refl
+idle-none t ws (r ∷ rs) none = by (is_idle t r) refl none (idle-none t ws rs)
+  where
+    by : (b : Bool) → is_idle t r ≡ b → (b || list_any (is_idle t) rs) ≡ false → (list_any (is_idle t) rs ≡ false → [] ≡ tokens_of (is_unwatched_by t ws []) rs)
+        → [] ≡ tokens_of (is_unwatched_by t ws []) (r ∷ rs)
+    by true is h f = absurd (false≢true (sym h))
+    by false is h f = rw (is) (f h)
+
+pub unwatched-none : (t : ℕ) (ws : List Written) (over : List Exchange) (ts : List (List ℕ)) (rs : List Registration) → length over ≡ 0 → list_any (is_idle t) rs ≡ false
+    → ts ≡ ts ++ tokens_of (is_unwatched_by t ws over) rs
+unwatched-none t ws [] ts rs end none = none-more ts (tokens_of (is_unwatched_by t ws []) rs) (idle-none t ws rs none)
+unwatched-none t ws (e ∷ es) ts rs end none = absurd (omega (arith, end))

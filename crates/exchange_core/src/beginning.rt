@@ -369,7 +369,7 @@ pub fn begin<R: Relation>(
 {
     let token = token_of(s.issued, word);
     let first = first_of(alloc, s, moment, &mapped, &token)?;
-    let gone = tokens_renewed(alloc, s.watches.as_slice(), &mapped)?;
+    let gone = tokens_renewed(alloc, &s.watches, &mapped)?;
     match prepare(s, peer, token, first.text.as_slice(), moment, word) {
         Ok(submission) => {
             let message = Prepared {

@@ -15,7 +15,7 @@ use crate::state::State;
 use exchange_model::{Exchange, Reader};
 use exchange_table::read_by;
 use limits::MAX_TRANSMIT_WAIT;
-use observe_share::Registration;
+use observe_share::Watch;
 use transformers::Relation;
 
 /// Whether the exchange has been open for as long as it may.
@@ -49,15 +49,11 @@ fn earliest_deadline(exchanges: &[Exchange]) -> Option<u64>
 }
 
 /// The first moment at which nobody asked in a while for what is observed.
-fn earliest_idle(watches: &[Registration]) -> Option<u64>
-    requires early { AllByRecursion IsAskedEarly watches.now }
-    ensures { result ≡ earliest idle_from watches.now }
+fn earliest_idle(watches: &Watch) -> Option<u64>
+    requires early { AllByRecursion IsAskedEarly watches.now.standing }
+    ensures { result ≡ earliest idle_from watches.now.standing }
 {
-    let mut first = None;
-    'each: for watch in watches {
-        first = earlier(first, Some(watch.asked + 120_000));
-    }
-    first
+    watches.next_due()
 }
 
 /// When a tick has something to do, in a journal that isn't sealed.
@@ -66,7 +62,7 @@ pub fn next_due<R: Relation>(s: &State<R>) -> Option<u64>
     ensures { result ≡ next_due (state_of s.now) }
 {
     let deadline = earliest_deadline(s.exchanges.as_slice());
-    let idle = earliest_idle(s.watches.as_slice());
+    let idle = earliest_idle(&s.watches);
     earlier(s.endpoints.next_due(), earlier(deadline, idle))
 }
 

@@ -266,12 +266,7 @@ pub fn watching_of<R: Relation>(
         Matter::Goes(going) => watching_by(alloc, s, moment, notice, &going.exchange),
         Matter::Over(exchange, _) => {
             let mut watching = watching_by(alloc, s, moment, notice, exchange)?;
-            add_written(
-                &mut watching.gone,
-                s.watches.as_slice(),
-                &s.journal,
-                exchange,
-            )?;
+            add_written(&mut watching.gone, &s.watches, &s.journal, exchange)?;
             Ok(watching)
         }
     }

@@ -147,7 +147,7 @@ pub fn prepare<R: Relation>(
 {
     let over = find_over(alloc, s, moment)?;
     let mut gone = tokens_of(alloc, &over)?;
-    add_unwatched(&mut gone, s.watches.as_slice(), &s.journal, &over, moment)?;
+    add_unwatched(&mut gone, &s.watches, &s.journal, &over, moment)?;
     let turns = prepare_links(s, moment, &gone)?;
     let draft = draft_tick(alloc, s, &over, &turns, moment)?;
     Ok(Passing {

@@ -2,12 +2,14 @@
 
 ghost use Rattle.std.specs.Prelude.{◌≡◌, ◌≤◌, ◌++◌, IfOk, OnOk};
 ghost use Rattle.std.specs.List.{list_any};
-ghost use Rattle.observe_share.specs.Watches.{is_idle, without};
+ghost use Rattle.cache_key.specs.Keys.{key_of, place_of};
+ghost use Rattle.observe_share.specs.Watches.{is_at, is_idle, is_of, without};
 ghost use Rattle.exchange_model.specs.Steps.{asked_in, is_written_late};
 ghost use Rattle.exchange_model.specs.Watching.{is_written_by, tokens_of, touched};
 ghost use Rattle.exchange_core.specs.Watching.{is_renewed_for, is_unwatched_by, may_watch};
 
 use ask_model::Mapped;
+use cache_key::Reading;
 use coap_codec::Token;
 use exchange_model::Exchange;
 use exchange_table::asked;
@@ -35,30 +37,37 @@ pub fn may_watch<R: Relation>(watches: &Watch, mapped: &Mapped<R>) -> bool
     }
 }
 
-/// Whether the request opens an exchange for what this one observes.
-fn is_renewed<R: Relation>(watch: &Registration, mapped: &Mapped<R>) -> bool
-    ensures { result ≡ is_renewed_for mapped.now.sense watch.now }
+/// Adds the tokens of those of these that observe what is read.
+fn add_renewed(
+    tokens: &mut Vec<Token>,
+    near: &[Registration],
+    reading: &Reading<'_>,
+) -> Result<(), AllocError>
+    ensures { let key = key_of reading.now.peer reading.now.target.now reading.now.accept in
+        OnOk result (tokens.new.items ≡ tokens.old.items ++ tokens_of (is_of key) near.now) }
 {
-    match mapped.reading() {
-        Some(reading) => watch.key.is_of(&reading),
-        None => false,
+    'each: for watch in near {
+        if watch.key.is_of(reading) {
+            tokens.push(watch.token)?;
+        }
     }
+    Ok(())
 }
 
 /// The tokens of those that observe what the request reads.
 pub fn tokens_renewed<R: Relation>(
     alloc: Global,
-    watches: &[Registration],
+    watches: &Watch,
     mapped: &Mapped<R>,
 ) -> Result<Vec<Token>, AllocError>
-    ensures { IfOk result (λ v. v.items ≡ tokens_of (is_renewed_for mapped.now.sense) watches.now) }
+    ensures { IfOk result
+        (λ v. v.items ≡ tokens_of (is_renewed_for mapped.now.sense) watches.now.standing) }
 {
     let mut tokens = Vec::new(alloc);
-    'each: for watch in watches {
-        if is_renewed(watch, mapped) {
-            tokens.push(watch.token)?;
-        }
-    }
+    let Some(reading) = mapped.reading() else {
+        return Ok(tokens);
+    };
+    add_renewed(&mut tokens, watches.among(&reading), &reading)?;
     Ok(tokens)
 }
 
@@ -72,35 +81,41 @@ pub fn renew<R: Relation>(watches: &mut Watch, mapped: &Mapped<R>)
     }
 }
 
-/// Whether the exchange, which ends, is a write to the place of this one.
-fn is_written<R: Relation>(watch: &Registration, journal: &Journal<R>, ended: &Exchange) -> bool
-    ensures { result ≡ is_written_by (asked_in journal.now.entries ended.now.opening) watch.now }
+/// Adds the tokens of those of these that are at the place that is changed.
+fn add_at(
+    tokens: &mut Vec<Token>,
+    near: &[Registration],
+    writing: &Reading<'_>,
+) -> Result<(), AllocError>
+    ensures { let place = place_of writing.now.peer writing.now.target.now in
+        OnOk result (tokens.new.items ≡ tokens.old.items ++ tokens_of (is_at place) near.now) }
 {
-    let Some(mapped) = asked(journal, ended.opening) else {
-        return false;
-    };
-    match mapped.writing() {
-        Some(writing) => watch.key.place().is_of(&writing),
-        None => false,
+    'each: for watch in near {
+        if watch.key.place().is_of(writing) {
+            tokens.push(watch.token)?;
+        }
     }
+    Ok(())
 }
 
 /// Adds the tokens of those that end with the exchange.
 pub fn add_written<R: Relation>(
     tokens: &mut Vec<Token>,
-    watches: &[Registration],
+    watches: &Watch,
     journal: &Journal<R>,
     ended: &Exchange,
 ) -> Result<(), AllocError>
     ensures { OnOk result (tokens.new.items ≡ tokens.old.items
-        ++ tokens_of (is_written_by (asked_in journal.now.entries ended.now.opening)) watches.now) }
+        ++ tokens_of (is_written_by (asked_in journal.now.entries ended.now.opening))
+        watches.now.standing) }
 {
-    'each: for watch in watches {
-        if is_written(watch, journal, ended) {
-            tokens.push(watch.token)?;
-        }
-    }
-    Ok(())
+    let Some(mapped) = asked(journal, ended.opening) else {
+        return Ok(());
+    };
+    let Some(writing) = mapped.writing() else {
+        return Ok(());
+    };
+    add_at(tokens, watches.among(&writing), &writing)
 }
 
 /// Where the exchange that has ended was a write, those of its place end.
@@ -113,6 +128,19 @@ pub fn retire<R: Relation>(watches: &mut Watch, journal: &Journal<R>, ended: &Ex
     };
     if let Some(writing) = mapped.writing() {
         watches.retire(&writing);
+    }
+}
+
+/// Whether the exchange, which ends, is a write to the place of this one.
+fn is_written<R: Relation>(watch: &Registration, journal: &Journal<R>, ended: &Exchange) -> bool
+    ensures { result ≡ is_written_by (asked_in journal.now.entries ended.now.opening) watch.now }
+{
+    let Some(mapped) = asked(journal, ended.opening) else {
+        return false;
+    };
+    match mapped.writing() {
+        Some(writing) => watch.key.place().is_of(&writing),
+        None => false,
     }
 }
 
@@ -139,8 +167,8 @@ fn is_unwatched<R: Relation>(
     watch.is_idle(moment) || is_written_late(watch, journal, over)
 }
 
-/// Adds the tokens of those that a tick ends, at which these exchanges end.
-pub fn add_unwatched<R: Relation>(
+/// Adds the tokens of those of these that a tick ends, at which these exchanges end.
+fn add_ending<R: Relation>(
     tokens: &mut Vec<Token>,
     watches: &[Registration],
     journal: &Journal<R>,
@@ -156,6 +184,24 @@ pub fn add_unwatched<R: Relation>(
         }
     }
     Ok(())
+}
+
+/// Adds the tokens of those that a tick ends, at which these exchanges end. Where none of these ends
+/// and nothing is idle, no watch is looked at.
+pub fn add_unwatched<R: Relation>(
+    tokens: &mut Vec<Token>,
+    watches: &Watch,
+    journal: &Journal<R>,
+    over: &[Exchange],
+    moment: u64,
+) -> Result<(), AllocError>
+    ensures { OnOk result (tokens.new.items ≡ tokens.old.items
+        ++ tokens_of (is_unwatched_by moment journal.now.entries over.now) watches.now.standing) }
+{
+    if over.is_empty() && !watches.has_idle(moment) {
+        return Ok(());
+    }
+    add_ending(tokens, watches.as_slice(), journal, over, moment)
 }
 
 /// Those end that a tick ends, at which these exchanges end.

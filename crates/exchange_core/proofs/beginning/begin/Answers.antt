@@ -8,7 +8,6 @@ use Rattle.exchange_core.specs.Beginning.{MayBegin}
 use Rattle.exchange_core.specs.Wording.{IsTextFor, asks_for, keeps_for, wants_for}
 use Rattle.exchange_core.specs.States.{state_of}
 use Rattle.exchange_core.specs.Watching.{is_renewed_for}
-use Rattle.observe_share.specs.declared.registration.Registration.{Registration}
 use Rattle.exchange_model.specs.Watching.{tokens_of}
 use Rattle.exchange_core.proofs.Begins.{has-place, is-request}
 use Rattle.exchange_core.proofs.BeginSound.{same-sound, unnumbered}
@@ -22,7 +21,7 @@ pub first_of-requires-clause-askable : goal.first_of-requires-clause-askable
 first_of-requires-clause-askable g c = askable (state_of c.args.s.now) c.requires.sound.kept
 
 pub prepare-requires-clause-message : goal.prepare-requires-clause-message
-prepare-requires-clause-message g c = rw (c.as_slice-2.ensures) (unnumbered _ _ _ _ c.in_ok-first.ensures.first.text)
+prepare-requires-clause-message g c = rw (c.as_slice.ensures) (unnumbered _ _ _ _ c.in_ok-first.ensures.first.text)
 
 pub ask-requires-clause-sound : goal.ask-requires-clause-sound
 ask-requires-clause-sound g c = same-sound _ _ c.requires.sound c.prepare.ensures.same
@@ -48,7 +47,7 @@ ask-requires-clause-begins g c =
     })
 
 pub ask-requires-clause-message : goal.ask-requires-clause-message
-ask-requires-clause-message g c = rw (c.as_slice-2.ensures) at c.in-Ok.ensures.ok
+ask-requires-clause-message g c = rw (c.as_slice.ensures) at c.in-Ok.ensures.ok
 
 pub ask-requires-clause-observes : goal.ask-requires-clause-observes
 ask-requires-clause-observes g c =
@@ -65,6 +64,5 @@ ask-requires-clause-keeps g c =
 pub ask-requires-clause-gone : goal.ask-requires-clause-gone
 ask-requires-clause-gone g c =
     c.in_ok-gone.ensures
-    ∙ ap (λ (m : Mapping). tokens_of (is_renewed_for m.sense) c.as_slice.result.now) c.deref-2.ensures
-    ∙ ap (λ (rs : List Registration). tokens_of (is_renewed_for (arc_value c.args.mapped).sense) rs) c.as_slice.ensures.all
+    ∙ ap (λ (m : Mapping). tokens_of (is_renewed_for m.sense) c.args.s.now.watches.standing) c.deref-2.ensures
     ∙ ap (λ (S : State). tokens_of (is_renewed_for (arc_value c.args.mapped).sense) S.watches) (sym c.prepare.ensures.same.state)

@@ -13,5 +13,5 @@ earliest_deadline-deadline-requires-clause-ordered g c = rw (c.as_slice.ensures.
 
 pub earliest_idle-idle-requires : goal.earliest_idle-idle-requires
 earliest_idle-idle-requires g c = record {
-  early = rw (c.as_slice-2.ensures.all) (all-asked _ c.requires.kept.kept c.requires.early);
+  early = all-asked _ c.requires.kept.kept c.requires.early;
 }

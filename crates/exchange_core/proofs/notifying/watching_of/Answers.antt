@@ -36,5 +36,4 @@ returns-in_ok-add_written-in-Over-clause-is g c = λ m new x i noted.
     (subst (ReadsIn entries) c.in-Over.is c.requires)
     (h.more ∙ ap (λ (v : Notice). registered_by c.args.moment v e S.entries S.watches) (sym h.notice))
     (c.in_ok-add_written-in-Over.ensures
-    ∙ (ap (λ (ts : List (List ℕ)). ts ++ tokens_of (is_written_by (asked_in entries e.opening)) c.as_slice.result.now) h.gone
-    ∙ ap (λ (rs : List Registration). unless_more old.more e ++ tokens_of (is_written_by (asked_in entries e.opening)) rs) c.as_slice.ensures.all)))
+    ∙ ap (λ (ts : List (List ℕ)). ts ++ tokens_of (is_written_by (asked_in entries e.opening)) S.watches) h.gone))

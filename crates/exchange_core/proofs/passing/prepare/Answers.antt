@@ -1,5 +1,4 @@
 use Rattle.std.proofs.Common.{◌≡◌, ℕ, List, ◌++◌, map, sym, ap, subst, ◌∙◌}
-use Rattle.observe_share.specs.declared.registration.Registration.{Registration}
 use Rattle.exchange_model.specs.declared.kept.Exchange.{Exchange}
 use Rattle.exchange_model.specs.State.{State}
 use Rattle.exchange_model.specs.Entering.{all_deeds, all_going, gone_tokens, tick_deeds, token_of}
@@ -26,10 +25,9 @@ returns-clause-gone g c =
     let over : c.deref.result.now ≡ timed_out t S = c.deref.ensures.value ∙ c.in_ok-over.ensures.over in
     let again : c.deref-2.result.now ≡ timed_out t S = c.deref-2.ensures.value ∙ c.in_ok-over.ensures.over in
     c.in_ok-add_unwatched.ensures
-    ∙ ap (λ (ts : List (List ℕ)). ts ++ tokens_of (is_unwatched_by t U.entries c.deref-2.result.now) c.as_slice.result.now)
+    ∙ ap (λ (ts : List (List ℕ)). ts ++ tokens_of (is_unwatched_by t U.entries c.deref-2.result.now) U.watches)
     (c.in_ok-gone.ensures ∙ ap (map token_of) over)
-    ∙ ap (λ (es : List Exchange). map token_of (timed_out t S) ++ tokens_of (is_unwatched_by t U.entries es) c.as_slice.result.now) again
-    ∙ ap (λ (rs : List Registration). map token_of (timed_out t S) ++ tokens_of (is_unwatched_by t U.entries (timed_out t S)) rs) c.as_slice.ensures.all
+    ∙ ap (λ (es : List Exchange). map token_of (timed_out t S) ++ tokens_of (is_unwatched_by t U.entries es) U.watches) again
     ∙ ap (λ (V : State). map token_of (timed_out t S) ++ tokens_of (is_unwatched_by t V.entries (timed_out t S)) V.watches) same
 
 -- The same at the state after the sorting, which is the same one.
@@ -43,10 +41,9 @@ prepare_links-requires-clause-gone g c =
     let again : c.deref-2.result.now ≡ timed_out t S = c.deref-2.ensures.value ∙ c.in_ok-over.ensures.over in
     c.deref-3.ensures.value
     ∙ (c.in_ok-add_unwatched.ensures
-    ∙ ap (λ (ts : List (List ℕ)). ts ++ tokens_of (is_unwatched_by t U.entries c.deref-2.result.now) c.as_slice.result.now)
+    ∙ ap (λ (ts : List (List ℕ)). ts ++ tokens_of (is_unwatched_by t U.entries c.deref-2.result.now) U.watches)
     (c.in_ok-gone.ensures ∙ ap (map token_of) over)
-    ∙ ap (λ (es : List Exchange). map token_of (timed_out t S) ++ tokens_of (is_unwatched_by t U.entries es) c.as_slice.result.now) again
-    ∙ ap (λ (rs : List Registration). map token_of (timed_out t S) ++ tokens_of (is_unwatched_by t U.entries (timed_out t S)) rs) c.as_slice.ensures.all
+    ∙ ap (λ (es : List Exchange). map token_of (timed_out t S) ++ tokens_of (is_unwatched_by t U.entries es) U.watches) again
     ∙ ap (λ (V : State). map token_of (timed_out t S) ++ tokens_of (is_unwatched_by t V.entries (timed_out t S)) V.watches) same
     ∙ ap (gone_tokens t) (sym same))
 
