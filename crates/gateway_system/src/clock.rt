@@ -3,6 +3,7 @@
 ghost use Rattle.std.specs.Prelude.{◌≡◌, ◌<◌, ◌≤◌};
 
 use gateway_desk::Clock as DeskClock;
+use random_words::Words;
 use std::random::RandomSource;
 use std::rt::Clock;
 use std::time::Instant;
@@ -12,6 +13,7 @@ use std::time::Instant;
 pub struct SystemClock<W: Clock + RandomSource + Drop> {
     rt: W,
     begin: Instant,
+    words: Words,
     /// the moment that was read last
     last: u64,
     /// the word that was given last
@@ -25,6 +27,7 @@ impl<W: Clock + RandomSource + Drop> SystemClock<W> {
         SystemClock {
             rt,
             begin,
+            words: Words::new(),
             last: 0,
             word: 0,
             faults: 0,
@@ -52,11 +55,13 @@ impl<W: Clock + RandomSource + Drop> DeskClock for SystemClock<W> {
     }
 
     fn word(&mut self) -> u64 {
-        let mut bytes = [0u8; 8];
-        if self.rt.fill_bytes(&mut bytes).is_err() {
-            self.faults = self.faults.saturating_add(1);
+        match self.words.next(&self.rt) {
+            Some(word) => self.word = word,
+            None => {
+                self.faults = self.faults.saturating_add(1);
+                self.word = 0;
+            }
         }
-        self.word = u64::from_le_bytes(bytes);
         self.word
     }
 }

@@ -3,11 +3,11 @@
 ghost use Rattle.std.specs.Prelude.{◌≡◌};
 
 use crate::client::Client;
-use crate::words::Words;
 use gateway_loop::{Accepted, Host, Sign};
 use mio::event::Event;
 use mio::net::{TcpListener, UdpSocket};
 use mio::{Events, Interest, Poll, Token, Waker};
+use random_words::Words;
 use std::alloc::Global;
 use std::io::{self, ErrorKind};
 use std::net::{Net, SocketAddr};
@@ -148,6 +148,6 @@ impl<W: Clock + RandomSource + Drop> Host<Client> for System<W> {
     }
 
     fn word(&mut self) -> u64 {
-        self.words.next(&self.rt)
+        self.words.next(&self.rt).unwrap_or(0)
     }
 }

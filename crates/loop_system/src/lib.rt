@@ -15,7 +15,6 @@ mod notes;
 mod ports;
 mod server;
 mod shelf;
-mod words;
 
 pub use gateway_window::{Options, Payloads};
 pub use journal_archive::{Archive, NoArchive};

@@ -21,17 +21,17 @@ impl Words {
         }
     }
 
-    /// The next 64 random bits, each of which is given once; 0 where the system gives none.
-    pub fn next<W: RandomSource>(&mut self, rt: &W) -> u64 {
+    /// The next 64 random bits, each of which is given once; none where the system gives none.
+    pub fn next<W: RandomSource>(&mut self, rt: &W) -> Option<u64> {
         if self.given >= BYTES || BYTES - self.given < 8 {
             if rt.fill_bytes(&mut self.bytes).is_err() {
-                self.bytes = [0u8; BYTES];
+                return None;
             }
             self.given = 0;
         }
         let mut word = [0u8; 8];
         word.copy_from_slice(&self.bytes[self.given..self.given + 8]);
         self.given += 8;
-        u64::from_le_bytes(word)
+        Some(u64::from_le_bytes(word))
     }
 }
