@@ -1,5 +1,6 @@
 -- A reply to a GET shows what the writes did that were answered before its message was sent.
 use Rattle.std.proofs.Common.{◌≡◌, ◌≢◌, ℕ, ◌/◌, ◌<◌, ◌≤◌, inl, inr, List, [], Option, Some, refl, arith}
+use Rattle.std.specs.List.{Contains}
 use Rattle.uri_map.specs.declared.peer.Peer.{Peer}
 use Rattle.coap_codec.specs.Spelling.{Content}
 use Rattle.coap_codec.specs.Values.{values}
@@ -11,7 +12,7 @@ use Rattle.journal_book.specs.Entries.{Live, Answers, Written}
 use Rattle.history_laws.specs.Justified.{Stands}
 use Rattle.history_laws.specs.Progress.{first_point}
 use Rattle.history_laws.specs.Responses.{Response, whole_of}
-use Rattle.history_claims.specs.Headline.{AreHeardFor, IsEntry, IsHeardFor, IsSentFor, RestsOn}
+use Rattle.history_claims.specs.Headline.{AreHeardFor, IsEntry, IsFirstSending, IsHeardFor, IsSentFor, RestsOn}
 use Rattle.demo_origin.specs.Calls.{Call}
 use Rattle.demo_origin.specs.Origins.{fresh}
 use Rattle.demo_origin.specs.Values.{Relation}
@@ -26,22 +27,22 @@ use Rattle.story_laws.proofs.Showing.{replies-show}
 use Rattle.story_laws.proofs.Wholes.{whole-shown}
 
 module _ (R : Relation) (h : List Written) (device proxy : Peer) (block : ℕ) (resources : List Held) (cs : List Call)
-    (calls_before : ℕ → ℕ) (k : ℕ) (q : CoapRequest) (s : Stands h)
+    (calls_before : ℕ → ℕ) (s : Stands h)
     (net : Networks R s.reading device proxy (fresh block resources) cs)
     (order : IsOrdered s.reading device proxy (fresh block resources) cs calls_before) where
   given : AreGiven s.reading device proxy (fresh block resources) cs
   given n t bytes note e = (order.given n t bytes note e).0
 
-  -- a message for it, and what it shows
-  module _ (b : Option Block) (i : ℕ) (m : Content) (state : List ℕ) (x : IsSentFor h k q b i m)
-      (shown : ShowsHeld x.moment proxy (fresh block resources) cs m state) where
+  -- a message that was sent, and what it shows
+  module _ (i t : ℕ) (p : Peer) (m : Content) (state : List ℕ) (f : IsFirstSending h i t p m)
+      (shown : ShowsHeld t proxy (fresh block resources) cs m state) where
     -- it was sent before the device heard it
     pub sent-first : calls_before i ≤ shown.place
     sent-first =
-        let first = first-sent s.reading h i x.moment q.peer m s.legal s.entries_are x.first in
+        let first = first-sent s.reading h i t p m s.legal s.entries_are f in
         elim (order.brought shown.place shown.moment shown.datagram shown.taken shown.call shown.stands shown.comes) [
           | inl came ↦
-              let after = sent-after s.reading x.moment first.0 i came.0.number came.0.moment q.peer device m s.legal first.1 (record {
+              let after = sent-after s.reading t first.0 i came.0.number came.0.moment p device m s.legal first.1 (record {
                 bytes = shown.datagram;
                 timeout = came.0.timeout;
                 note = came.0.note;
@@ -51,11 +52,14 @@ module _ (R : Relation) (h : List Written) (device proxy : Peer) (block : ℕ) (
               let rise = order.rises i came.0.number after in
               let late = came.1 in
               omega (arith, rise, late)
-          | inr other ↦ absurd (other x.moment first.0 i q.peer m m first.1 (message_again m shown.datagram shown.spelled) refl)
+          | inr other ↦ absurd (other t first.0 i p m m first.1 (message_again m shown.datagram shown.spelled) refl)
         ]
 
-    done-first : AreDoneBefore h device proxy cs k shown.place
-    done-first n t c o js answered r changes to class le =
+    -- A write was done by then whose replies were heard before.
+    pub done-since : (n u c o : ℕ) (js : List ℕ) → (r : RestsOn h n c o js) → r.request.method ≢ 1 → r.request.peer ≡ device
+        → r.response.code / 32 ≡ 2 → ((j : ℕ) → Contains js j → j < i)
+        → (done : IsDoneOnce h r.opening r.request proxy cs) × (done.place < shown.place)
+    done-since n u c o js r changes to class early_ones =
         let its = last R h device proxy block resources cs n c o js s net r changes to class in
         let noted = entry R h device proxy block resources cs n c o js s net r changes to class in
         let g = order.given its.number its.heard.response.moment its.heard.response.heard.bytes noted.note noted.stands in
@@ -63,30 +67,37 @@ module _ (R : Relation) (h : List Written) (device proxy : Peer) (block : ℕ) (
         (executed R h device proxy block resources cs n c o js s net r changes to class g.0) in
         let early = done.1 in
         let gave = g.1 in
-        let before = r.before its.number its.among in
-        let after = x.after in
-        let rise = order.rises its.number i (omega (arith, before, le, after)) in
+        let before = early_ones its.number its.among in
+        let rise = order.rises its.number i (omega (arith, before)) in
         let came = sent-first in
         (done.0, omega (arith, early, gave, rise, came))
 
-  pub shows-both : (b : Option Block) (j : ℕ) (m : Content) (x : IsHeardFor h k q b j m) → q.method ≡ 1 → q.peer ≡ device
-      → m.code ≡ 69 → values 23 m.options ≡ [] → values 6 x.sent.options ≡ []
-      → (shown : ShowsHeld x.sent_for.moment proxy (fresh block resources) cs x.sent m.payload) × AreDoneBefore h device proxy cs k shown.place
-  shows-both b j m x get to content whole quiet =
-      let shown = replies-show R h device proxy block resources cs k q b j m s net given x get to content whole quiet in
-      (shown, done-first b x.sending x.sent m.payload x.sent_for shown)
+  module _ (k : ℕ) (q : CoapRequest) where
+    done-first : (b : Option Block) (i : ℕ) (m : Content) (state : List ℕ) (x : IsSentFor h k q b i m)
+        → (shown : ShowsHeld x.moment proxy (fresh block resources) cs m state) → AreDoneBefore h device proxy cs k shown.place
+    done-first b i m state x shown n t c o js answered r changes to class le =
+        let after = x.after in
+        done-since i x.moment q.peer m state x.first shown n t c o js r changes to class
+        (λ j has. let below = r.before j has in omega (arith, below, le, after))
 
-  pub whole-both : DownloadsJoin → AreNew resources → (js : List ℕ) (ms : List Content) (w : Response) → AreHeardFor h k q (first_point q) js ms
-      → whole_of q ms ≡ Some w → q.method ≡ 1 → q.peer ≡ device → w.code ≡ 69 → AskQuietly h q
-      → (shown : ShowsWhole h k q proxy (fresh block resources) cs w.body) × AreDoneBefore h device proxy cs k shown.shown.place
-  whole-both join new js ms w heard whole get to content quiet =
-      let x = whole-shown R h device proxy block resources cs s net given new q get to quiet join k js ms w heard whole content in
-      (x, done-first x.block x.sending x.message w.body x.sent x.shown)
+    pub shows-both : (b : Option Block) (j : ℕ) (m : Content) (x : IsHeardFor h k q b j m) → q.method ≡ 1 → q.peer ≡ device
+        → m.code ≡ 69 → values 23 m.options ≡ [] → values 6 x.sent.options ≡ []
+        → (shown : ShowsHeld x.sent_for.moment proxy (fresh block resources) cs x.sent m.payload) × AreDoneBefore h device proxy cs k shown.place
+    shows-both b j m x get to content whole quiet =
+        let shown = replies-show R h device proxy block resources cs k q b j m s net given x get to content whole quiet in
+        (shown, done-first b x.sending x.sent m.payload x.sent_for shown)
+
+    pub whole-both : DownloadsJoin → AreNew resources → (js : List ℕ) (ms : List Content) (w : Response) → AreHeardFor h k q (first_point q) js ms
+        → whole_of q ms ≡ Some w → q.method ≡ 1 → q.peer ≡ device → w.code ≡ 69 → AskQuietly h q
+        → (shown : ShowsWhole h k q proxy (fresh block resources) cs w.body) × AreDoneBefore h device proxy cs k shown.shown.place
+    whole-both join new js ms w heard whole get to content quiet =
+        let x = whole-shown R h device proxy block resources cs s net given new q get to quiet join k js ms w heard whole content in
+        (x, done-first x.block x.sending x.message w.body x.sent x.shown)
 
 pub writes-show : (R : Relation) → WritesShow R
 writes-show R h device proxy block resources cs calls_before k q b j m s net order x get to content whole quiet =
-    shows-both R h device proxy block resources cs calls_before k q s net order b j m x get to content whole quiet
+    shows-both R h device proxy block resources cs calls_before s net order k q b j m x get to content whole quiet
 
 pub wholes-show : (R : Relation) → DownloadsJoin → WholesShow R
 wholes-show R join h device proxy block resources cs calls_before k q js ms w s net order new heard whole get to content quiet =
-    whole-both R h device proxy block resources cs calls_before k q s net order join new js ms w heard whole get to content quiet
+    whole-both R h device proxy block resources cs calls_before s net order k q join new js ms w heard whole get to content quiet

@@ -8,6 +8,7 @@ use Rattle.coap_codec.specs.Values.{values}
 use Rattle.coap_codec.specs.declared.block.Block.{Block}
 use Rattle.blockwise.specs.Uploads.{next_block}
 use Rattle.uri_map.specs.Limits.{host_options, option_with, options_with}
+use Rattle.uri_map.specs.declared.peer.Peer.{Peer}
 use Rattle.uri_map.specs.declared.target.Host.{Host}
 use Rattle.uri_map.specs.declared.target.Host.TheVariants as H
 use Rattle.ask_model.specs.Requests.{CoapRequest, asking, validating_options, block_message, block_option, block_value, optional, request_options, uint_bytes}
@@ -21,7 +22,7 @@ use Rattle.history_laws.specs.Observing.{manner_by, observes, tag_of, unless_rep
 use Rattle.history_laws.specs.Progress.{Reply, Progress, Fetches, Gives, Ends, block_after, next_message, progress}
 use Rattle.history_laws.specs.Readings.{Noted, Note, Begins, at, before, entries}
 use Rattle.history_laws.proofs.CallerLemmas.{at-before, at-entries, none-some, sent-for, some-is}
-use Rattle.history_claims.specs.Headline.{AreNotified, IsEntry, IsSentFor}
+use Rattle.history_claims.specs.Headline.{AreNotified, IsEntry, IsFirstSending, IsSentFor}
 use Rattle.story_laws.proofs.Posting.{first-sent}
 
 -- ---- messages without Observe
@@ -139,17 +140,20 @@ module _ (h : List Written) (none : NoneObserved h) where
           wants-not (before (before l i) o) o x.written x.note
           (subst (λ (h : List Written). slice_get h o ≡ Some x.written) e (at-entries l o x (at-before l i o x is)))
 
-  pub sent-quietly : (s : Stands h) (k : ℕ) (q : CoapRequest) (b : Option Block) (i : ℕ) (m : Content) → IsSentFor h k q b i m
-      → values 6 m.options ≡ []
-  sent-quietly s k q b i m x =
+  pub first-quietly : (s : Stands h) (i t : ℕ) (p : Peer) (m : Content) → IsFirstSending h i t p m → values 6 m.options ≡ []
+  first-quietly s i t p m f =
       let l = s.reading in
-      let first = first-sent l h i x.moment q.peer m s.legal s.entries_are x.first in
-      let it = sent-for l x.moment first.0 i q.peer m s.legal first.1 in
+      let first = first-sent l h i t p m s.legal s.entries_are f in
+      let it = sent-for l t first.0 i p m s.legal first.1 in
       let asked = it.exchange.request in
       let w = progress asked (replies (before l i) first.0) in
       let tag = tag_of (kept (before l i) first.0) (replies (before l i) first.0) in
       next-quiet tag asked w m.mid m.token m
       (subst (λ (f : Bool). next_message (manner_by tag f) asked w m.mid m.token ≡ Some m) (observes-not l i first.0 s.entries_are) it.next)
+
+  pub sent-quietly : (s : Stands h) (k : ℕ) (q : CoapRequest) (b : Option Block) (i : ℕ) (m : Content) → IsSentFor h k q b i m
+      → values 6 m.options ≡ []
+  sent-quietly s k q b i m x = first-quietly s i x.moment q.peer m x.first
 
   pub none-notified : (o : ℕ) (q : CoapRequest) (js : List ℕ) (ms : List Content) → AreNotified h o q js ms → ⊥
   none-notified o q [] ms x = x

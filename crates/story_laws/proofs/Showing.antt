@@ -14,7 +14,7 @@ use Rattle.history_laws.specs.Justified.{Stands}
 use Rattle.history_laws.specs.Laws.{IsFirst}
 use Rattle.history_laws.specs.Readings.{Noted, noted, at}
 use Rattle.history_laws.proofs.CallerLemmas.{all-of, none-some, some-is}
-use Rattle.history_claims.specs.Headline.{IsHeardFor}
+use Rattle.history_claims.specs.Headline.{IsFirstSending, IsHeard, IsHeardFor}
 use Rattle.demo_origin.specs.Answers.{with_observe, shown_part, Describes}
 use Rattle.demo_origin.specs.Arrivals.{is_request}
 use Rattle.demo_origin.specs.Asked.{IsAskedFor}
@@ -76,7 +76,7 @@ names-block : (version : List ℕ) (observed : Bool) (observe format max_age val
 names-block version true observe format max_age value f = cc
 names-block version false observe format max_age value f = cc
 
-described-whole : (h : Held) (observed : Bool) (b : Option Block) (options : List Entry) → Describes h observed b options
+pub described-whole : (h : Held) (observed : Bool) (b : Option Block) (options : List Entry) → Describes h observed b options
     → values 23 options ≡ [] → b ≡ None
 described-whole h observed None options d e = refl
 described-whole h observed (Some b) options d e =
@@ -196,7 +196,27 @@ by-making R l device proxy block resources cs count t o i a p m answer c d n f g
     (sym by.token ∙ (sym its ∙ token)) in
     absurd (no-wish (values 6 by.message.options) (subst (λ (k : Content). values 6 k.options ≡ []) (sym it.0) quiet) by.wish)
 
--- The reply to a GET shows the state of the resource, or a piece of it.
+-- What was heard under the token of a GET that didn't ask to observe shows the state of the resource, or a piece of it.
+pub answer-part : (R : Relation) (h : List Written) (device proxy : Peer) (block : ℕ) (resources : List Held) (cs : List Call)
+    (p : Peer) (i t j u : ℕ) (sent m : Content) (s : Stands h)
+    → Networks R s.reading device proxy (fresh block resources) cs
+    → AreGiven s.reading device proxy (fresh block resources) cs
+    → p ≡ device → IsFirstSending h i t p sent → IsHeard h p j u m → m.token ≡ sent.token → sent.code ≡ 1
+    → m.code ≡ 69 → values 6 sent.options ≡ [] → ShowsPart t proxy cs sent m
+answer-part R h device proxy block resources cs p i t j u sent m s net given to first_sent came token get content quiet =
+    let l = s.reading in
+    let first = first-sent l h i t p sent s.legal s.entries_are first_sent in
+    let entry = noted-at l h j u _ s.entries_are came.stands in
+    let g = given j u came.bytes entry.note
+    (subst (λ (p : Peer). at l j ≡ Some (noted u (Hears p came.bytes) entry.note)) to entry.stands) in
+    let start = fresh block resources in
+    let made = all-of (IsMade R (take g.count cs)) (left_by start (take g.count cs)).out g.datagram
+    (answers_are_made R block resources (take g.count cs) (follow-take R cs start g.count net.follow)) g.given in
+    let place = at-contained (take g.count cs) made.call made.among in
+    by-making R l device proxy block resources cs g.count t first.0 i place.0 p sent m made.call g.datagram net first.1 get quiet place.1 g.to
+    (subst (λ (b : List ℕ). Spells m b) (sym g.has) came.spelled) token content made.makes
+
+-- So does the reply to one.
 pub replies-part : (R : Relation) (h : List Written) (device proxy : Peer) (block : ℕ) (resources : List Held) (cs : List Call)
     (k : ℕ) (q : CoapRequest) (b : Option Block) (j : ℕ) (m : Content) (s : Stands h)
     → Networks R s.reading device proxy (fresh block resources) cs
@@ -204,20 +224,10 @@ pub replies-part : (R : Relation) (h : List Written) (device proxy : Peer) (bloc
     → (x : IsHeardFor h k q b j m) → q.method ≡ 1 → q.peer ≡ device
     → m.code ≡ 69 → values 6 x.sent.options ≡ [] → ShowsPart x.sent_for.moment proxy cs x.sent m
 replies-part R h device proxy block resources cs k q b j m s net given x get to content quiet =
-    let l = s.reading in
     let for_it = x.sent_for in
-    let first = first-sent l h x.sending for_it.moment q.peer x.sent s.legal s.entries_are for_it.first in
     let code : x.sent.code ≡ 1 = ap (λ (m : Content). m.code) for_it.asks.1 ∙ (code-of for_it.asks.0 q b x.sent.mid x.sent.token ∙ get) in
-    let heard = x.response.heard in
-    let entry = noted-at l h j x.response.moment _ s.entries_are heard.stands in
-    let g = given j x.response.moment heard.bytes entry.note
-    (subst (λ (p : Peer). at l j ≡ Some (noted x.response.moment (Hears p heard.bytes) entry.note)) to entry.stands) in
-    let start = fresh block resources in
-    let made = all-of (IsMade R (take g.count cs)) (left_by start (take g.count cs)).out g.datagram
-    (answers_are_made R block resources (take g.count cs) (follow-take R cs start g.count net.follow)) g.given in
-    let place = at-contained (take g.count cs) made.call made.among in
-    by-making R l device proxy block resources cs g.count for_it.moment first.0 x.sending place.0 q.peer x.sent m made.call g.datagram net first.1 code quiet place.1 g.to
-    (subst (λ (b : List ℕ). Spells m b) (sym g.has) heard.spelled) x.response.token content made.makes
+    answer-part R h device proxy block resources cs q.peer x.sending for_it.moment j x.response.moment x.sent m s net given to for_it.first x.response.heard
+    x.response.token code content quiet
 
 -- What is shown is what the resource held, and what the executions before left it with.
 pub held-shown : (R : Relation) (proxy : Peer) (block : ℕ) (resources : List Held) (cs : List Call) (since : ℕ) (m answer : Content) (state : List ℕ)
@@ -240,6 +250,12 @@ held-shown R proxy block resources cs since m answer state follow p shown = reco
   left = λ i first before.
       shown ∙ held-left R cs (fresh block resources) p.place p.call (values 11 m.options) p.number i p.held first follow p.stands p.there before;
 }
+
+pub held-shown-is : (R : Relation) (proxy : Peer) (block : ℕ) (resources : List Held) (cs : List Call) (since : ℕ) (m answer : Content) (state : List ℕ)
+    (follow : Follow R (fresh block resources) cs) (p : ShowsPart since proxy cs m answer) (shown : state ≡ p.held.state)
+    → (held-shown R proxy block resources cs since m answer state follow p shown).place ≡ p.place
+unfolding held-shown
+held-shown-is R proxy block resources cs since m answer state follow p shown = refl
 
 pub replies-show : (R : Relation) (h : List Written) (device proxy : Peer) (block : ℕ) (resources : List Held) (cs : List Call)
     (k : ℕ) (q : CoapRequest) (b : Option Block) (j : ℕ) (m : Content) (s : Stands h)

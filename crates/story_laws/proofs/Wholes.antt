@@ -24,9 +24,9 @@ use Rattle.history_laws.specs.Justified.{Stands}
 use Rattle.history_laws.specs.Progress.{Point, block_for, first_point, point_after}
 use Rattle.history_laws.specs.Responses.{Response, is_tellable, joined, last_of, whole_fetched, whole_given, whole_of}
 use Rattle.history_laws.proofs.CallerLemmas.{none-some, some-is}
-use Rattle.history_claims.specs.Headline.{AreHeardFor, IsHeardFor}
+use Rattle.history_claims.specs.Headline.{AreHeardFor, IsHeardFor, IsSentFor}
 use Rattle.demo_origin.specs.Answers.{shown_part}
-use Rattle.demo_origin.specs.Calls.{Call}
+use Rattle.demo_origin.specs.Calls.{Call, Follow}
 use Rattle.demo_origin.specs.Origins.{fresh}
 use Rattle.demo_origin.specs.Requests.{IsAt}
 use Rattle.demo_origin.specs.Values.{Device, Relation}
@@ -34,8 +34,8 @@ use Rattle.demo_origin.specs.Versions.{IsLater}
 use Rattle.demo_origin.specs.declared.state.Held.{Held}
 use Rattle.demo_origin.proofs.Stating.{states_are_told}
 use Rattle.demo_origin.proofs.Versioning.{as_many, same_version, versions_tell}
-use Rattle.story_laws.specs.Networks.{AreGiven, Networks}
-use Rattle.story_laws.specs.Reads.{AreNew, AskQuietly, ShowsWhole}
+use Rattle.story_laws.specs.Networks.{AreGiven, AreTimed, Networks}
+use Rattle.story_laws.specs.Reads.{AreNew, AskQuietly, ShowsHeld, ShowsWhole}
 use Rattle.story_laws.proofs.Calling.{HearsAt, runs-to}
 use Rattle.story_laws.proofs.Pacing.{got-all, got-below}
 use Rattle.story_laws.proofs.Pieces.{ArePartsOf, EndsBy, block-named, part-ends, parts-join, tag-named}
@@ -43,7 +43,7 @@ use Rattle.story_laws.proofs.Showing.{ShowsPart, held-shown, replies-part, same-
 
 -- ---- all messages for a request ask for one path
 
-values-both : (n : ℕ) (xs ys : List Entry) → values n (xs ++ ys) ≡ values n xs ++ values n ys
+pub values-both : (n : ℕ) (xs ys : List Entry) → values n (xs ++ ys) ≡ values n xs ++ values n ys
 values-both n [] ys = refl
 values-both n (x ∷ xs) ys = by (eqb x.number n) (values-both n xs ys)
   where
@@ -52,7 +52,7 @@ values-both n (x ∷ xs) ys = by (eqb x.number n) (values-both n xs ys)
     by true e = ap (λ (vs : List (List ℕ)). x.value ∷ vs) e
     by false e = e
 
-path-of : (f : Manner) (q : CoapRequest) (b : Option Block) (mid : ℕ) (token : List ℕ)
+pub path-of : (f : Manner) (q : CoapRequest) (b : Option Block) (mid : ℕ) (token : List ℕ)
     → values 11 (asking f q b mid token).options ≡ values 11 (request_options q)
 path-of Plainly q None mid token = refl
 path-of Observing q None mid token = values-both 11 (host_options q.target.host) _ ∙ sym (values-both 11 (host_options q.target.host) _)
@@ -106,10 +106,29 @@ got-in (x ∷ xs) (suc n) lt = got-in xs n (omega (arith, lt))
 
 -- ---- all pieces show one state
 
-module _ (R : Relation) (h : List Written) (device proxy : Peer) (block : ℕ) (resources : List Held) (cs : List Call)
-    (s : Stands h) (net : Networks R s.reading device proxy (fresh block resources) cs)
-    (given : AreGiven s.reading device proxy (fresh block resources) cs) (new : AreNew resources)
-    (q : CoapRequest) (get : q.method ≡ 1) (to : q.peer ≡ device) (quiet : AskQuietly h q) where
+-- the message shows a piece of what the resource of a path held, as it is known of it
+pub record IsShown (proxy : Peer) (cs : List Call) (path : List (List ℕ)) (P : ℕ → Content → ℕ → Type 0) (m : Content) : Type 0 where
+  pub since : ℕ
+  pub sent : Content
+  pub part : ShowsPart since proxy cs sent m
+  pub asks : values 11 sent.options ≡ path
+  pub known : P since sent part.place
+
+-- So does each 2.05 of these.
+abbrev pub AreShown : Peer → List Call → List (List ℕ) → (ℕ → Content → ℕ → Type 0) → List Content → Type 0
+AreShown proxy cs path P ms = AllByRecursion (λ (m : Content). m.code ≡ 69 → IsShown proxy cs path P m) ms
+
+-- and this is what it held
+pub record ShowsBody (proxy : Peer) (cs : List Call) (P : ℕ → Content → ℕ → Type 0) (state : List ℕ) : Type 0 where
+  pub since : ℕ
+  pub sent : Content
+  pub message : Content
+  pub part : ShowsPart since proxy cs sent message
+  pub known : P since sent part.place
+  pub is : state ≡ part.held.state
+
+module _ (R : Relation) (proxy : Peer) (block : ℕ) (resources : List Held) (cs : List Call) (follow : Follow R (fresh block resources) cs)
+    (timed : AreTimed 0 cs) (new : AreNew resources) where
   abbrev first : Device
   first = fresh block resources
 
@@ -117,7 +136,7 @@ module _ (R : Relation) (h : List Written) (device proxy : Peer) (block : ℕ) (
   small : (since : ℕ) (m answer : Content) (p : ShowsPart since proxy cs m answer) → p.held.version < 2 ^ 64
   small since m answer p =
       let at : HearsAt p.moment p.call = record { peer = proxy; datagram = p.datagram; taken = p.taken; comes = p.comes } in
-      let ran = runs-to R cs first 0 p.moment p.place p.call net.follow net.timed p.stands at in
+      let ran = runs-to R cs first 0 p.moment p.place p.call follow timed p.stands at in
       let many = as_many R ran.events first p.call.before ran.runs in
       let below = got-below p.call.before.resources p.number p.held p.there.stands in
       let old = got-in resources p.number (omega (arith, many, below)) in
@@ -131,7 +150,7 @@ module _ (R : Relation) (h : List Written) (device proxy : Peer) (block : ℕ) (
       → values 11 m.options ≡ values 11 n.options → to_be_bytes w64 a.held.version ≡ to_be_bytes w64 b.held.version
       → a.place ≤ b.place → b.held.state ≡ a.held.state
   state-later t u m n answer other a b path tag le =
-      let it = states_are_told R (fresh block resources) cs a.place b.place a.call b.call (values 11 m.options) a.number a.held net.follow a.stands b.stands le a.there in
+      let it = states_are_told R (fresh block resources) cs a.place b.place a.call b.call (values 11 m.options) a.number a.held follow a.stands b.stands le a.there in
       let there = subst (λ (vs : List (List ℕ)). IsAt vs b.call.before.resources b.number b.held) (sym path) b.there in
       let same = same-place (values 11 m.options) b.call.before.resources a.number b.number it.held b.held it.stands there in
       let later : IsLater a.held b.held = subst (λ (x : Held). IsLater a.held x) same it.later in
@@ -146,81 +165,124 @@ module _ (R : Relation) (h : List Written) (device proxy : Peer) (block : ℕ) (
         | inr w ↦ let lt = w.1 in sym (state-later u t n m other answer b a (sym path) (sym tag) (omega (arith, lt)))
       ]
 
+  module _ (path : List (List ℕ)) (P : ℕ → Content → ℕ → Type 0) where
+    module _ (t : ℕ) (n other : Content) (a : ShowsPart t proxy cs n other) (asks : values 11 n.options ≡ path) where
+      all-parts : (ms : List Content) → AreShown proxy cs path P ms → AllByRecursion (IsAlike (to_be_bytes w64 a.held.version)) ms
+          → ArePartsOf a.held.state ms
+      all-parts [] shown alike = tt
+      all-parts (m ∷ ms) shown alike =
+          let x = shown.0 alike.0.content in
+          let p = x.part in
+          let tag : to_be_bytes w64 a.held.version ≡ to_be_bytes w64 p.held.version =
+          some-is _ _ (sym alike.0.tagged ∙ tag-named p.held p.observed p.part m p.describes) in
+          let same : p.held.state ≡ a.held.state = same-state t x.since n x.sent other m a p (asks ∙ sym x.asks) tag in (
+            record {
+              part = p.part;
+              named = block-named p.held p.observed p.part m p.describes alike.0.forwarded;
+              shown = p.shown ∙ ap (shown_part p.part) same;
+              ends = subst (λ (state : List ℕ). EndsBy (length state) p.part) same
+                  (part-ends (values 23 x.sent.options) p.call.before.block (length p.held.state) p.part p.chosen);
+            },
+            all-parts ms shown.1 alike.1,
+          )
+
+    -- ---- the whole
+
+    pub body-shown : DownloadsJoin → (q : CoapRequest) → q.method ≡ 1 → (ms : List Content) (w : Response) → AreShown proxy cs path P ms
+        → whole_of q ms ≡ Some w → w.code ≡ 69 → ShowsBody proxy cs P w.body
+    body-shown join q get [] w shown whole content = absurd (none-some w whole)
+    body-shown join q get (m ∷ ms) w shown whole content = by ((list_all is_tellable (m ∷ ms)) && (is_some (given_by_pieces nothing (m ∷ ms)))) refl (fetched (eqb q.method 1) refl whole)
+      where
+        fetched : (b : Bool) → eqb q.method 1 ≡ b → cond b (whole_fetched m ms) (whole_given (begun (length q.body) 6) (m ∷ ms)) ≡ Some w → whole_fetched m ms ≡ Some w
+        fetched true e f = f
+        fetched false e f = elim (eqb_tells q.method 1) [
+          | inl v ↦ absurd (false≢true (sym e ∙ v.0))
+          | inr v ↦ absurd (v.1 get)
+        ]
+
+        joins : (o : Option (List ℕ)) → given_by_pieces nothing (m ∷ ms) ≡ o → is_some o ≡ true → (body : List ℕ) × AreWhole m ms body
+        joins None e f = absurd (false≢true f)
+        joins (Some body) e f = (body, (join m ms body).0 e)
+
+        shows : list_all is_tellable (m ∷ ms) ≡ true → AreFollowing (representation_of m) 0 6 (m ∷ ms) → joined m ms ≡ w
+            → ShowsBody proxy cs P w.body
+        shows tell following is =
+            let of = representation_of m in
+            let code : of.code ≡ 69 =
+            ap (λ (r : Representation). r.code) (sym (last-is of m ms 0 6 following)) ∙ (ap (λ (v : Response). v.code) is ∙ content) in
+            let x = shown.0 code in
+            let p = x.part in
+            let tag = tag-named p.held p.observed p.part m p.describes in
+            let alike = all-alike of (to_be_bytes w64 p.held.version) 0 6 m ms following tell code (ap (option_map tag_by) tag) in
+            let parts = all-parts x.since x.sent m p x.asks (m ∷ ms) shown alike in
+            record {
+              since = x.since;
+              sent = x.sent;
+              message = m;
+              part = p;
+              known = x.known;
+              is = ap (λ (v : Response). v.body) (sym is) ∙ parts-join p.held.state of 0 6 m ms following parts;
+            }
+
+        by : (b : Bool) → ((list_all is_tellable (m ∷ ms)) && (is_some (given_by_pieces nothing (m ∷ ms)))) ≡ b
+            → cond b (Some (joined m ms)) None ≡ Some w → ShowsBody proxy cs P w.body
+        by false e f = absurd (none-some w f)
+        by true e f =
+            let both = and_parts (list_all is_tellable (m ∷ ms)) (is_some (given_by_pieces nothing (m ∷ ms))) e in
+            let all = joins (given_by_pieces nothing (m ∷ ms)) refl both.1 in
+            shows both.0 all.1.following (some-is (joined m ms) w f)
+
+-- ---- the replies of one journal
+
+module _ (R : Relation) (h : List Written) (device proxy : Peer) (block : ℕ) (resources : List Held) (cs : List Call)
+    (s : Stands h) (net : Networks R s.reading device proxy (fresh block resources) cs)
+    (given : AreGiven s.reading device proxy (fresh block resources) cs) (new : AreNew resources)
+    (q : CoapRequest) (get : q.method ≡ 1) (to : q.peer ≡ device) (quiet : AskQuietly h q) where
   asks-path : (k j : ℕ) (b : Option Block) (m : Content) (x : IsHeardFor h k q b j m) → values 11 x.sent.options ≡ values 11 (request_options q)
   asks-path k j b m x =
       ap (λ (c : Content). values 11 c.options) x.sent_for.asks.1 ∙ path-of x.sent_for.asks.0 q b x.sent.mid x.sent.token
 
-  part-at : (k j : ℕ) (b : Option Block) (m : Content) (x : IsHeardFor h k q b j m) → m.code ≡ 69 → ShowsPart x.sent_for.moment proxy cs x.sent m
-  part-at k j b m x content =
-      replies-part R h device proxy block resources cs k q b j m s net given x get to content (quiet k x.sending b x.sent x.sent_for)
+  -- a message that was sent for it, after this entry
+  abbrev IsSentSince : ℕ → ℕ → Content → ℕ → Type 0
+  IsSentSince k t m place = (b : Option Block) × (i : ℕ) × (x : IsSentFor h k q b i m) × (x.moment ≡ t)
 
-  module _ (t : ℕ) (n other : Content) (a : ShowsPart t proxy cs n other) (path : values 11 n.options ≡ values 11 (request_options q)) where
-    all-parts : (k : ℕ) (point : Point) (js : List ℕ) (ms : List Content) → AreHeardFor h k q point js ms
-        → AllByRecursion (IsAlike (to_be_bytes w64 a.held.version)) ms → ArePartsOf a.held.state ms
-    all-parts k point [] [] heard alike = tt
-    all-parts k point [] (m ∷ ms) heard alike = absurd heard
-    all-parts k point (j ∷ js) [] heard alike = absurd heard
-    all-parts k point (j ∷ js) (m ∷ ms) heard alike =
-        let x = heard.0 in
-        let p = part-at k j (block_for point) m x alike.0.content in
-        let tag : to_be_bytes w64 a.held.version ≡ to_be_bytes w64 p.held.version =
-        some-is _ _ (sym alike.0.tagged ∙ tag-named p.held p.observed p.part m p.describes) in
-        let same : p.held.state ≡ a.held.state =
-        same-state t x.sent_for.moment n x.sent other m a p (path ∙ sym (asks-path k j (block_for point) m x)) tag in (
-          record {
-            part = p.part;
-            named = block-named p.held p.observed p.part m p.describes alike.0.forwarded;
-            shown = p.shown ∙ ap (shown_part p.part) same;
-            ends = subst (λ (state : List ℕ). EndsBy (length state) p.part) same
-                (part-ends (values 23 x.sent.options) p.call.before.block (length p.held.state) p.part p.chosen);
-          },
-          all-parts j (point_after point m) js ms heard.1 alike.1,
-        )
+  sent-since : (k o : ℕ) (b : Option Block) (i : ℕ) (m : Content) → k ≤ o → (x : IsSentFor h o q b i m)
+      → (y : IsSentFor h k q b i m) × (y.moment ≡ x.moment)
+  sent-since k o b i m le x =
+      let after = x.after in
+      (record { after = omega (arith, le, after); moment = x.moment; first = x.first; asks = x.asks; issued = x.issued }, refl)
 
-  -- ---- the whole
+  all-shown : (k o : ℕ) → k ≤ o → (point : Point) (js : List ℕ) (ms : List Content) → AreHeardFor h o q point js ms
+      → AreShown proxy cs (values 11 (request_options q)) (IsSentSince k) ms
+  all-shown k o le point [] [] heard = tt
+  all-shown k o le point [] (m ∷ ms) heard = absurd heard
+  all-shown k o le point (j ∷ js) [] heard = absurd heard
+  all-shown k o le point (j ∷ js) (m ∷ ms) heard =
+      let x = heard.0 in
+      let sent = x.sent_for.after in
+      let came = x.response.after in (
+        λ content. record {
+          since = x.sent_for.moment;
+          sent = x.sent;
+          part = replies-part R h device proxy block resources cs o q (block_for point) j m s net given x get to content
+              (quiet o x.sending (block_for point) x.sent x.sent_for);
+          asks = asks-path o j (block_for point) m x;
+          known = let y = sent-since k o (block_for point) x.sending x.sent le x.sent_for in (block_for point, x.sending, y.0, y.1);
+        },
+        all-shown k j (omega (arith, le, sent, came)) (point_after point m) js ms heard.1,
+      )
 
   pub whole-shown : DownloadsJoin → (k : ℕ) (js : List ℕ) (ms : List Content) (w : Response) → AreHeardFor h k q (first_point q) js ms
       → whole_of q ms ≡ Some w → w.code ≡ 69 → ShowsWhole h k q proxy (fresh block resources) cs w.body
-  whole-shown join k js [] w heard whole content = absurd (none-some w whole)
-  whole-shown join k [] (m ∷ ms) w heard whole content = absurd heard
-  whole-shown join k (j ∷ js) (m ∷ ms) w heard whole content = by ((list_all is_tellable (m ∷ ms)) && (is_some (given_by_pieces nothing (m ∷ ms)))) refl (fetched (eqb q.method 1) refl whole)
-    where
-      fetched : (b : Bool) → eqb q.method 1 ≡ b → cond b (whole_fetched m ms) (whole_given (begun (length q.body) 6) (m ∷ ms)) ≡ Some w → whole_fetched m ms ≡ Some w
-      fetched true e f = f
-      fetched false e f = elim (eqb_tells q.method 1) [
-        | inl v ↦ absurd (false≢true (sym e ∙ v.0))
-        | inr v ↦ absurd (v.1 get)
-      ]
-
-      joins : (o : Option (List ℕ)) → given_by_pieces nothing (m ∷ ms) ≡ o → is_some o ≡ true → (body : List ℕ) × AreWhole m ms body
-      joins None e f = absurd (false≢true f)
-      joins (Some body) e f = (body, (join m ms body).0 e)
-
-      shows : list_all is_tellable (m ∷ ms) ≡ true → AreFollowing (representation_of m) 0 6 (m ∷ ms) → joined m ms ≡ w
-          → ShowsWhole h k q proxy (fresh block resources) cs w.body
-      shows tell following is =
-          let x = heard.0 in
-          let of = representation_of m in
-          let code : of.code ≡ 69 =
-          ap (λ (r : Representation). r.code) (sym (last-is of m ms 0 6 following)) ∙ (ap (λ (v : Response). v.code) is ∙ content) in
-          let p = part-at k j (block_for (first_point q)) m x code in
-          let tag = tag-named p.held p.observed p.part m p.describes in
-          let alike = all-alike of (to_be_bytes w64 p.held.version) 0 6 m ms following tell code (ap (option_map tag_by) tag) in
-          let parts = all-parts x.sent_for.moment x.sent m p (asks-path k j (block_for (first_point q)) m x) k (first_point q) (j ∷ js) (m ∷ ms) heard alike in
-          let body : w.body ≡ p.held.state =
-          ap (λ (v : Response). v.body) (sym is) ∙ parts-join p.held.state of 0 6 m ms following parts in
-          record {
-            block = block_for (first_point q);
-            sending = x.sending;
-            message = x.sent;
-            sent = x.sent_for;
-            shown = held-shown R proxy block resources cs x.sent_for.moment x.sent m w.body net.follow p body;
-          }
-
-      by : (b : Bool) → ((list_all is_tellable (m ∷ ms)) && (is_some (given_by_pieces nothing (m ∷ ms)))) ≡ b
-          → cond b (Some (joined m ms)) None ≡ Some w → ShowsWhole h k q proxy (fresh block resources) cs w.body
-      by false e f = absurd (none-some w f)
-      by true e f =
-          let both = and_parts (list_all is_tellable (m ∷ ms)) (is_some (given_by_pieces nothing (m ∷ ms))) e in
-          let all = joins (given_by_pieces nothing (m ∷ ms)) refl both.1 in
-          shows both.0 all.1.following (some-is (joined m ms) w f)
+  whole-shown join k js ms w heard whole content =
+      let it =
+      body-shown R proxy block resources cs net.follow net.timed new (values 11 (request_options q)) (IsSentSince k) join q get ms w
+      (all-shown k k (omega arith) (first_point q) js ms heard) whole content in
+      record {
+        block = it.known.0;
+        sending = it.known.1;
+        message = it.sent;
+        sent = it.known.2;
+        shown = subst (λ (t : ℕ). ShowsHeld t proxy (fresh block resources) cs it.sent w.body) (sym it.known.3)
+            (held-shown R proxy block resources cs it.since it.sent it.message w.body net.follow it.part it.is);
+      }

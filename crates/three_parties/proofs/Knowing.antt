@@ -1,7 +1,6 @@
--- What is known after some turns: their tale, its order, that no moment is ahead, and that a first journal has no copies.
+-- What is known after some turns: their tale, its order, and that no moment is ahead.
 use Rattle.std.proofs.Common.{◌≡◌, inl, inr, ℕ, ◌≤◌, List, [], ◌∷◌, ◌++◌, append-nil, length, map, Option, Some, refl, subst, sym, ap, ◌∙◌, arith}
 use Rattle.std.specs.Prelude.{slice_get}
-use Rattle.std.proofs.lemmas.List.{append_cancel_left}
 use Rattle.limits.specs.declared.TheConstants.{LAST_MOMENT}
 use Rattle.media_map.specs.declared.form.Form.{Form}
 use Rattle.ask_model.specs.Views.{Rules}
@@ -33,8 +32,8 @@ use Rattle.three_parties.proofs.Giving.{AllHeard, tale-gave, tale-gave-is}
 use Rattle.three_parties.proofs.Bearing.{Issued}
 use Rattle.three_parties.proofs.Moments.{Counts}
 use Rattle.three_parties.proofs.Ordering.{order-called}
-use Rattle.three_parties.proofs.Orders.{IsTimely, Order, given-both, given-more, given_in, no-order, order-as, order-gave, order-later, order-turned}
-use Rattle.three_parties.proofs.Stamping.{AreOwn, IsSentIn, Stamps, all-stamp, goes-stand, own-both}
+use Rattle.three_parties.proofs.Orders.{IsTimely, Order, given-both, given_in, no-order, order-as, order-gave, order-later, order-turned}
+use Rattle.three_parties.proofs.Stamping.{IsSentIn, Stamps, all-stamp, goes-stand}
 use Rattle.three_parties.proofs.Tales.{Tale, no-tale, no-tale-is, tale-later, tale-later-is}
 use Rattle.three_parties.proofs.Tokens.{all-issue, turned-issued}
 use Rattle.three_parties.proofs.Turning.{tale-turned, tale-turned-is}
@@ -43,7 +42,6 @@ pub record Known (R : Relation) (first : Device) (s : Scene) : Type 0 where
   pub tale : Tale R first s
   pub order : Order first s tale.calls tale.places
   pub timely : IsTimely s
-  pub own : given_in s.out ≡ [] → AreOwn s.world.core.state.entries
 
 pub known-none : (R : Relation) (rules : Rules) (first : Device) → Known R first (opening rules first)
 known-none R rules first = record {
@@ -52,7 +50,6 @@ known-none R rules first = record {
       let is = no-tale-is R rules first in
       order-as first (opening rules first) (no-tale R rules first).calls [] (no-tale R rules first).places [] is.0 is.1 (no-order rules first);
   timely = record { entries = omega arith; world = omega arith; last = omega arith };
-  own = λ none. tt;
 }
 
 pub known-later : (R : Relation) (first : Device) (s : Scene) (t : ℕ) → s.moment ≤ t → t ≤ LAST_MOMENT → Known R first s → Known R first (later t s)
@@ -66,7 +63,6 @@ known-later R first s t le top k =
           let is = tale-later-is R first s t le k.tale in
           order-as first (later t s) tale.calls k.tale.calls tale.places k.tale.places is.0 is.1 (order-later first s t k.tale.calls k.tale.places k.order);
       timely = record { entries = omega (arith, a, le); world = omega (arith, b, le); last = top };
-      own = k.own;
     }
 
 pub known-called : (R : Relation) (first : Device) (s : Scene) (t n : ℕ) (e : Event) (d : Device) (told : Option Taken) → s.moment ≤ t → t ≤ LAST_MOMENT
@@ -82,7 +78,6 @@ known-called R first s t n e d told le top k c =
           order-as first (answered t d (executed t n told) s) tale.calls (k.tale.calls ++ a_call e s.device d ∷ gives d d.out) tale.places
           (k.tale.places ++ told-places (length k.tale.calls) told) is.0 is.1 (order-called R first s t n e d told k.tale c k.order);
       timely = record { entries = omega (arith, a, le); world = omega (arith, b, le); last = top };
-      own = k.own;
     }
 
 -- The moment of an input is that of its turn.
@@ -100,9 +95,9 @@ counts-below t S S1 le (inr e) = omega (arith, e)
 pub known-gave : (R : Relation) (first : Device) (t : ℕ) (s : Scene) (given : List Emission) (w : WorldValue) (more : List Written) → s.moment ≤ t → t ≤ LAST_MOMENT
     → (k : Known R first s) → w.core.state.entries ≡ s.world.core.state.entries ++ more → AllHeard first k.tale.calls more
     → ((n : ℕ) (d : Outgoing) → slice_get (goes_in given) n ≡ Some d → IsSentIn t more d) → AreNoJournals given
-    → ((lo : ℕ) → Issued lo s.world.core.state → Issued lo w.core.state) → AreOwn more → w.core.state.moment ≤ t → w.moment ≤ t
+    → ((lo : ℕ) → Issued lo s.world.core.state → Issued lo w.core.state) → w.core.state.moment ≤ t → w.moment ≤ t
     → Known R first (gave_out t w given s)
-known-gave R first t s given w more le top k added all sends silent issues own entries world = record {
+known-gave R first t s given w more le top k added all sends silent issues entries world = record {
   tale = tale-gave R first s t w given more le k.tale added all;
   order =
       let tale = tale-gave R first s t w given more le k.tale added all in
@@ -110,8 +105,6 @@ known-gave R first t s given w more le top k added all sends silent issues own e
       order-as first (gave_out t w given s) tale.calls k.tale.calls tale.places k.tale.places is.0 is.1
       (order-gave first s t w given more k.tale.calls k.tale.places k.order added all sends silent issues);
   timely = record { entries = entries; world = world; last = top };
-  own = λ none.
-      subst AreOwn (sym added) (own-both s.world.core.state.entries more (k.own (sym (given-more s.out given silent) ∙ none)) own);
 }
 
 module _ (holds : Form → Form → List ℕ → List ℕ → Type 0) (takes : Form → Form → List ℕ → Type 0) (R : Relation) (first : Device) where
@@ -130,7 +123,6 @@ module _ (holds : Form → Form → List ℕ → List ℕ → Type 0) (takes : F
         (handled-none (terms_of holds takes s.world.rules) (record i { moment = t }) s.world w given a.handles)
         (λ lo. all-issue lo (terms_of holds takes s.world.rules) (when_in s.world (record i { moment = t })) a.handles.acts.acts (served_in s.world) a.handles.acts.given
         (served_in w) a.handles.acts.done)
-        (subst AreOwn (append_cancel_left s.world.core.state.entries stamps.more a.shows.more (sym stamps.added ∙ a.shows.added)) stamps.own)
         (counts-below t s.world.core.state w.core.state early stamps.counts)
         (let m = a.handles.moment ∙ counted-is s.world.moment t below top in omega (arith, m))
       where
@@ -149,7 +141,7 @@ module _ (holds : Form → Form → List ℕ → List ℕ → Type 0) (takes : F
     known-refused i given w r u =
         known-gave R first t s given w [] le top k (ap (λ (S : State). S.entries) same ∙ sym (append-nil s.world.core.state.entries)) (λ k u b e. absurd (none-some _ e))
         (λ n d e. absurd (none-some d (subst (λ (es : List Emission). slice_get (goes_in es) n ≡ Some d) u.given e)))
-        (subst AreNoJournals (sym u.given) (tt, tt)) (λ lo h. subst (Issued lo) (sym same) h) tt
+        (subst AreNoJournals (sym u.given) (tt, tt)) (λ lo h. subst (Issued lo) (sym same) h)
         (let m = ap (λ (S : State). S.moment) same in let e = early in omega (arith, m, e))
         (let m = r.moment ∙ counted-is s.world.moment t below top in omega (arith, m))
       where
@@ -170,7 +162,6 @@ module _ (holds : Form → Form → List ℕ → List ℕ → Type 0) (takes : F
         world = let m = r.moment ∙ counted-is s.world.moment t below top in omega (arith, m);
         last = top;
       };
-      own = λ none. absurd (not-none (given_in s.out) s.world.core.state.entries (sym out ∙ none));
     }
       where
         u : ℕ
@@ -196,10 +187,6 @@ module _ (holds : Form → Form → List ℕ → List ℕ → Type 0) (takes : F
 
         out : given_in new.out ≡ given_in s.out ++ s.world.core.state.entries ∷ []
         out = given-both s.out given ∙ ap (λ (es : List Emission). given_in s.out ++ given_in es) x.given
-
-        not-none : (hs : List (List Written)) (h : List Written) → hs ++ h ∷ [] ≡ [] → ⊥
-        not-none [] h e = cc
-        not-none (g ∷ hs) h e = cc
 
         tale : Tale R first new
         tale = tale-turned R first s t w given le k.tale flights copies

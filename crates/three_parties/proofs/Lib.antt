@@ -22,8 +22,17 @@ pub mod Looking
 pub mod Parts
 pub mod Executing
 pub mod Timing
+pub mod Copies
+pub mod Carrying
+pub mod Outrunning
+pub mod Linked
+pub mod Paths
 pub mod Pages
 pub mod Reading
+pub mod Inherited
+pub mod Walking
+pub mod Carried
+pub mod Answering
 pub mod Wholes
 pub mod Sending
 pub mod Running

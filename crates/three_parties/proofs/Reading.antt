@@ -1,28 +1,24 @@
 -- An answer to a GET shows what the resource held, and no less than what was confirmed before.
-use Rattle.std.proofs.Common.{◌≡◌, ◌≢◌, ◌⊎◌, false, ℕ, ◌<◌, ◌≤◌, inl, inr, List, [], ◌∷◌, length, take, Option, Some, sym, ap, subst, ◌∙◌, arith}
+use Rattle.std.proofs.Common.{◌≡◌, ◌≢◌, ◌⊎◌, ℕ, ◌<◌, ◌≤◌, inl, inr, List, [], ◌∷◌, length, take, Option, Some, sym, ap, subst, ◌∙◌, arith}
 use Rattle.std.specs.Prelude.{slice_get, unwrap_or}
 use Rattle.std.specs.List.{AllByRecursion}
-use Rattle.std.proofs.lemmas.Bool.{false≢true}
 use Rattle.std.proofs.lemmas.Bool.Decides.{leb_tells}
 use Rattle.coap_codec.specs.Spelling.{Content}
 use Rattle.coap_codec.specs.Values.{values}
 use Rattle.coap_codec.specs.declared.block.Block.{Block}
-use Rattle.media_map.specs.declared.form.Form.{Form}
 use Rattle.ask_model.specs.Requests.{CoapRequest, Plainly}
-use Rattle.ask_model.specs.Views.{Rules}
 use Rattle.journal_book.specs.Entries.{Live, Fault, Answers, Written}
 use Rattle.ask_model.specs.declared.cause.Cause.TheVariants as C
 use Rattle.resp_cache.specs.Stored.{Stored}
-use Rattle.history_laws.specs.Readings.{carries}
 use Rattle.history_laws.specs.Justified.{Stands}
 use Rattle.history_laws.specs.Progress.{Point, block_for, first_point}
 use Rattle.history_claims.specs.Headline.{AreHeardFor, IsEntry, IsHeardFor, IsJoined, IsSentFor, IsWriteAnswer, RestsOn}
-use Rattle.history_claims.specs.Stored.{RestsOnRenewed, WasStored, WasWhole}
+use Rattle.history_claims.specs.Stored.{RestsOnRenewed, WasHeardHere, WasStored, WasWhole}
 use Rattle.demo_origin.specs.Calls.{Call}
 use Rattle.demo_origin.specs.Done.{left_with, told_by, told_in}
 use Rattle.demo_origin.specs.Once.{heard}
 use Rattle.demo_origin.specs.Origins.{fresh}
-use Rattle.demo_origin.specs.Values.{Device, Relation}
+use Rattle.demo_origin.specs.Values.{Relation}
 use Rattle.demo_origin.specs.declared.state.Held.{Held}
 use Rattle.story_laws.specs.Lateness.{ArePunctual}
 use Rattle.story_laws.specs.Networks.{moment_after}
@@ -31,23 +27,17 @@ use Rattle.story_laws.specs.Reads.{ShowsHeld as ShowsSo}
 use Rattle.story_laws.proofs.Ordering.{sent-first}
 use Rattle.story_laws.proofs.Posting.{last as reply-of, entry as entry-of, executed as executed-of, done-by}
 use Rattle.story_laws.proofs.Quiet.{NoneObserved, none-notified, sent-quietly}
-use Rattle.gateway_model.specs.Emissions.{Emission}
-use Rattle.three_parties.specs.Flights.{Going, device_at, proxy_at}
-use Rattle.three_parties.specs.Promises.{KeepsJournal}
-use Rattle.three_parties.specs.Reads.{AreAllDone, AreDone, EachAfter, GetsShow, GetsShowInTime, IsHeardHere, IsHeldAt, KeptShow, NoneCarried, ObservesNothing, RenewedShow, ShowsHeld, journals}
+use Rattle.three_parties.specs.Flights.{device_at, proxy_at}
+use Rattle.three_parties.specs.Reads.{AreAllDone, AreDone, IsHeldAt, ShowsHeld}
 use Rattle.three_parties.specs.Scenes.{Scene}
-use Rattle.three_parties.specs.Stories.{IsStory, opening}
+use Rattle.three_parties.specs.Stories.{opening}
 use Rattle.three_parties.specs.declared.story.Execution.{Execution}
-use Rattle.three_parties.specs.declared.turn.Turn.{Turn}
-use Rattle.three_parties.proofs.Executing.{Book, at_end, book-of, calls-least, calls_before, done-at, known-then, networks, ordered}
+use Rattle.three_parties.proofs.Executing.{Book, book-of, calls-least, calls_before, done-at, networks, ordered}
 use Rattle.three_parties.proofs.Knowing.{Known}
 use Rattle.three_parties.proofs.Lists.{got-below, got-in}
-use Rattle.three_parties.proofs.Mapped.{all-at}
 use Rattle.three_parties.proofs.Chapters.{IsPast}
-use Rattle.three_parties.proofs.Stamping.{AreOwn}
 use Rattle.three_parties.proofs.Tales.{IsDoneBy}
-use Rattle.three_parties.proofs.Telling.{turns-none}
-use Rattle.three_parties.proofs.Pages.{IsEarlier, each-after, end, known_end}
+use Rattle.three_parties.proofs.Pages.{IsEarlier, end}
 use Rattle.three_parties.proofs.Timing.{timed-then, heard-at, more-told, no-less-told, told-before}
 
 -- ---- a reply
@@ -153,7 +143,7 @@ module _ (R : Relation) (block : ℕ) (resources : List Held) (s : Scene) (known
       (ap told_by done.0.executes.comes) in
       (own.0, omega (arith, rank, more))
 
-  all-earlier : (q : CoapRequest) → q.peer ≡ device_at → (place : ℕ) → page.begun ≤ place → (js : List (List Written))
+  pub all-earlier : (q : CoapRequest) → q.peer ≡ device_at → (place : ℕ) → page.begun ≤ place → (js : List (List Written))
       → AllByRecursion (IsEarlier R (fresh block resources) s known top page.begun) js → AreAllDone js s.flights s.taken q (count place)
   all-earlier q of place from [] e = tt
   all-earlier q of place from (j ∷ js) e = (done-earlier j e.0 q of place from, all-earlier q of place from js e.1)
@@ -165,18 +155,20 @@ module _ (R : Relation) (block : ℕ) (resources : List Held) (s : Scene) (known
     sending = i;
     message = m;
     sent = x;
-    moment = it.0.moment;
-    not_before = it.0.not_before;
-    count = count it.0.place;
-    held = held-at x.moment m state it.0;
-    written = done;
-    written_before = all-earlier q of it.0.place since before earlier_ones;
+    shows = record {
+      moment = it.0.moment;
+      not_before = it.0.not_before;
+      count = count it.0.place;
+      held = held-at x.moment m state it.0;
+      written = done;
+      written_before = all-earlier q of it.0.place since before earlier_ones;
+    };
   }
     where
       since : page.begun ≤ it.0.place
       since =
-          let sent = sent-first R h device_at proxy_at block resources calls (calls_before R (fresh block resources) s h book stands punctual) o r stands
-          (networks R (fresh block resources) s h book stands punctual) (ordered R (fresh block resources) s h book stands punctual) b i m state x it.0 in
+          let sent = sent-first R h device_at proxy_at block resources calls (calls_before R (fresh block resources) s h book stands punctual) stands
+          (networks R (fresh block resources) s h book stands punctual) (ordered R (fresh block resources) s h book stands punctual) i x.moment r.peer m state x.first it.0 in
           let least = calls-least R (fresh block resources) s h book stands punctual i in
           omega (arith, sent, least)
 
@@ -188,7 +180,7 @@ module _ (R : Relation) (block : ℕ) (resources : List Held) (s : Scene) (known
           let more = more-told calls call.0.place it.0.place call.0.call call.0.executes.taken call.1 call.0.stands (ap told_by call.0.executes.comes) in
           (own.0, omega (arith, rank, more))
 
-  shows : Law R → NoneObserved h → (k o : ℕ) (q r : CoapRequest) (b : Option Block) (j : ℕ) (m : Content) → (x : IsHeardFor h o r b j m) → r.method ≡ 1
+  pub shows : Law R → NoneObserved h → (k o : ℕ) (q r : CoapRequest) (b : Option Block) (j : ℕ) (m : Content) → (x : IsHeardFor h o r b j m) → r.method ≡ 1
       → r.peer ≡ device_at → q.peer ≡ device_at → m.code ≡ 69 → values 23 m.options ≡ [] → GoesBack h k o q
       → ShowsHeld before h k o q r resources s.flights s.taken m.payload
   shows law none k o q r b j m x get to of content whole back =
@@ -200,7 +192,7 @@ module _ (R : Relation) (block : ℕ) (resources : List Held) (s : Scene) (known
 -- ---- an answer
 
 -- one reply alone
-one-heard : (w : List Written) (k : ℕ) (q : CoapRequest) (point : Point) (js : List ℕ) (ms : List Content) (m : Content) → ms ≡ m ∷ []
+pub one-heard : (w : List Written) (k : ℕ) (q : CoapRequest) (point : Point) (js : List ℕ) (ms : List Content) (m : Content) → ms ≡ m ∷ []
     → AreHeardFor w k q point js ms → (j : ℕ) × IsHeardFor w k q (block_for point) j m
 one-heard w k q point js ms m e all = by js (subst (AreHeardFor w k q point js) e all)
   where
@@ -260,7 +252,8 @@ renewed-back h n c k js r m t d w is answered y changes peer path lt =
     early (inr joined) write = joined.0.fresh m write lt
 
 -- It was heard as a reply, where nothing is notified.
-pub heard-kept : (h : List Written) → NoneObserved h → (q : CoapRequest) (first : Stored) → (w : WasWhole h q first) → IsHeardHere h q first w
+pub heard-kept : (h : List Written) → NoneObserved h → (q : CoapRequest) (first : Stored) → (w : WasWhole h q first)
+    → WasHeardHere h first.opening w.other first.list w.messages first.heard
     → AreHeardFor h first.opening w.other (first_point w.other) first.list w.messages
 heard-kept h none q first w here =
     elim here.heard [ inl x ↦ x | inr x ↦ absurd (none-notified h none first.opening w.other first.list w.messages x) ]
@@ -268,73 +261,3 @@ heard-kept h none q first w here =
 -- What it was heard for is a GET too.
 pub other-gets : (h : List Written) (q : CoapRequest) (first : Stored) → (w : WasWhole h q first) → w.other.method ≡ 1
 other-gets h q first w = sym (ap (λ (m : Content). m.code) (w.same.2 Plainly 0 [])) ∙ w.same.0
-
-module _ (R : Relation) (law : Law R) (block : ℕ) (resources : List Held) (s : Scene) (known : Known R (fresh block resources) s) (top : ℕ)
-    (before : List (List Written)) (h : List Written) (page : IsPast (fresh block resources) s.flights known.tale.calls top h)
-    (punctual : ArePunctual page.stands.reading) (none : NoneObserved h)
-    (earlier : AllByRecursion (IsEarlier R (fresh block resources) s known top page.begun) before) where
-  gets-show : GetsShow before resources h s.flights s.taken
-  gets-show n t c k js m answered r one get to content whole =
-      let x = one-heard h r.opening r.request (first_point r.request) js r.messages m one r.heard in
-      shows R block resources s known top h page punctual before earlier law none k r.opening r.request r.request (block_for (first_point r.request)) x.0 m x.1 get
-      to to content whole (live-back h n c k js r)
-
-  -- what was heard first of what is stored
-  first-shows : (k : ℕ) (q : CoapRequest) (first : Stored) (w : WasWhole h q first) (m : Content) → IsHeardHere h q first w → w.messages ≡ m ∷ [] → q.peer ≡ device_at
-      → m.code ≡ 69 → values 23 m.options ≡ [] → GoesBack h k first.opening q
-      → ShowsHeld before h k first.opening q w.other resources s.flights s.taken m.payload
-  first-shows k q first w m here one to content whole back =
-      let heard = heard-kept h none q first w here in
-      let x = one-heard h first.opening w.other (first_point w.other) first.list w.messages m one heard in
-      shows R block resources s known top h page punctual before earlier law none k first.opening q w.other (block_for (first_point w.other)) x.0 m x.1
-      (other-gets h q first w) (sym w.same.1 ∙ to) to content whole back
-
-  renewed-show : RenewedShow before resources h s.flights s.taken
-  renewed-show n t c k js m answered r here one to content whole =
-      first-shows k r.request r.was.first r.was.whole m here one to content whole (renewed-back h n c k js r)
-
-  kept-show : KeptShow before resources h s.flights s.taken
-  kept-show n t c k js m answered r here one to content whole =
-      first-shows k r.request r.is.first r.is.whole m here one to content whole (stored-back h k r.request r.stored r.is)
-
-  pub all-show : GetsShow before resources h s.flights s.taken × RenewedShow before resources h s.flights s.taken
-      × KeptShow before resources h s.flights s.taken
-  all-show = (gets-show, renewed-show, kept-show)
-
--- A journal without copies carries nothing.
-none-carried : (h : List Written) → AreOwn h → NoneCarried h
-none-carried h own o q js ms since x = false≢true (sym (all-at (λ (w : Written). carries w.deed ≡ false) h own o _ x.asked.stands))
-
--- what is said of one journal, and what of all
-abbrev ReadsOne : List Held → List Going → List Execution → List (List Written) → List Written → Type 0
-ReadsOne resources flights taken before h =
-    GetsShow before resources h flights taken × RenewedShow before resources h flights taken × KeptShow before resources h flights taken
-
-abbrev ReadsAll : List Turn → List Held → List Emission → List Going → List Execution → List Written → Type 0
-ReadsAll turns resources out flights taken w =
-    EachAfter (ReadsOne resources flights taken) [] (journals out w) × (AllByRecursion KeepsJournal turns → NoneCarried w)
-
--- a story of a device that is a new one
-pub reads-of : (R : Relation) → Law R → (holds : Form → Form → List ℕ → List ℕ → Type 0) (takes : Form → Form → List ℕ → Type 0)
-    (rules : Rules) (first : Device) (turns : List Turn) (out : List Emission) (flights : List Going) (h : List Written) (last : Device)
-    (taken : List Execution) → IsStory holds takes R rules first turns out flights h last taken → Stands h
-    → (block : ℕ) (resources : List Held) → first ≡ fresh block resources → ObservesNothing rules
-    → GetsShowInTime turns resources out h flights taken
-reads-of R law holds takes rules first turns out flights h last taken story stands block resources e nothing looks =
-    subst (λ (w : List Written). Stands w → ReadsAll turns resources out flights taken w) (sym new.journal) shown stands
-  where
-    new : IsStory holds takes R rules (fresh block resources) turns out flights h last taken
-    new = subst (λ (d : Device). IsStory holds takes R rules d turns out flights h last taken) e story
-
-    shown : Stands new.world.core.state.entries → ReadsAll turns resources out flights taken new.world.core.state.entries
-    shown stands = (
-      each-after R holds takes rules block resources turns out flights h last taken new nothing (ReadsOne resources flights taken) stands looks
-          (λ top before w page punctual none earlier.
-          all-show R law block resources (end R holds takes rules block resources turns out flights h last taken new nothing)
-          (known_end R holds takes rules block resources turns out flights h last taken new nothing) top before w page punctual none earlier),
-      λ keeps.
-          none-carried new.world.core.state.entries
-          ((known-then holds takes R rules block resources turns out flights h last taken new).own
-          (turns-none holds takes R turns (opening rules (fresh block resources)) (at_end holds takes R rules block resources turns out flights h last taken new) keeps
-          new.is)),
-    )

@@ -1,8 +1,7 @@
 -- What holds after some turns holds after one more.
-use Rattle.std.proofs.Common.{◌≡◌, ℕ, zero, suc, ◌+◌, ◌≤◌, Bool, true, false, cond, ltb, inl, inr, List, [], ◌∷◌, ◌++◌, Option, Some, None, refl, sym, ap, subst, ◌∙◌, arith}
+use Rattle.std.proofs.Common.{◌≡◌, ℕ, zero, suc, ◌+◌, ◌≤◌, Bool, true, false, cond, ltb, inl, inr, List, [], ◌∷◌, Option, Some, None, refl, sym, ap, subst, ◌∙◌, arith}
 use Rattle.std.specs.Prelude.{slice_get}
 use Rattle.std.specs.Borrow.{Bor}
-use Rattle.std.specs.List.{AllByRecursion}
 use Rattle.std.proofs.lemmas.Bool.{ltb-false}
 use Rattle.limits.specs.declared.TheConstants.{LAST_MOMENT}
 use Rattle.media_map.specs.declared.form.Form.{Form}
@@ -20,20 +19,16 @@ use Rattle.gateway_model.specs.declared.input.Happening.{Happening}
 use Rattle.gateway_model.specs.declared.input.Happening.TheVariants as H
 use Rattle.gateway_model.specs.declared.input.Input.{Input}
 use Rattle.gateway_model.specs.Hearing.{AreUnheard, BeginsBy, ShowsWhatCame}
-use Rattle.gateway_model.specs.Tellings.{terms_of}
 use Rattle.gateway_world.specs.Inputs.{Takes}
 use Rattle.gateway_world.specs.Worlds.{WorldValue, Shows, counted}
-use Rattle.gateway_world.proofs.Parted.{handled-none}
 use Rattle.story_laws.specs.declared.TheConstants.{LONGEST_WAY}
 use Rattle.three_parties.specs.Flights.{Going, Sender, ByProxy, ByDevice, device_at, proxy_at, Reach, ToProxy, ToDevice, Nowhere, reach, reach_by}
-use Rattle.three_parties.specs.Promises.{KeepsJournal}
 use Rattle.three_parties.specs.Scenes.{Scene, answered, executed, gave as gave_out, ProxyTakes, ProxyHears, Reaches, TakesInput, TakesTurn, TakesTurns}
 use Rattle.three_parties.specs.declared.turn.Turn.{Turn}
 use Rattle.three_parties.specs.declared.turn.Turn.TheVariants as T
 use Rattle.three_parties.proofs.Calls.{WasGiven}
 use Rattle.three_parties.proofs.Giving.{AllHeard, none-heard}
 use Rattle.three_parties.proofs.Knowing.{Known, known-acted, known-called, known-later, known-refused, known-rotated}
-use Rattle.three_parties.proofs.Orders.{given-more, given_in}
 
 -- what an input shows that is no datagram
 hush : (i : Input) (a b : WorldValue) (x : Happening) → i.happening ≡ x
@@ -233,40 +228,3 @@ module _ (holds : Form → Form → List ℕ → List ℕ → Type 0) (takes : F
   pub turns-told : (xs : List Turn) (old new : Scene) → TakesTurns holds takes R xs old new → Known R first old → Known R first new
   turns-told [] old new e h = subst (Known R first) (sym e) h
   turns-told (x ∷ xs) old new e h = turns-told xs e.0 new e.2 (turn x old e.0 e.1 h)
-
--- ---- turns that ask for no journal
-
-module _ (holds : Form → Form → List ℕ → List ℕ → Type 0) (takes : Form → Form → List ℕ → Type 0) (R : Relation) where
-  proxy-none : (t : ℕ) (i : Input) (old new : Scene) → (i.happening ≡ H.Rotate → ⊥) → ProxyTakes holds takes R t i old new → given_in new.out ≡ given_in old.out
-  proxy-none t i old new stays p = ap (λ (s : Scene). given_in s.out) p.is ∙ by p.takes_it
-    where
-      by : Takes holds takes (record i { moment = t }) old.world p.given p.world → given_in (old.out ++ p.given) ≡ given_in old.out
-      by (inl a) = given-more old.out p.given (handled-none (terms_of holds takes old.world.rules) (record i { moment = t }) old.world p.world p.given a.handles)
-      by (inr r) = absurd (stays r.wants)
-
-  input-none : (t : ℕ) (i : Input) (old new : Scene) (x : Happening) → i.happening ≡ x → (i.happening ≡ H.Rotate → ⊥) → TakesInput holds takes R t i x old new
-      → given_in new.out ≡ given_in old.out
-  input-none t i old new (H.Datagram p b) is stays e = ap (λ (s : Scene). given_in s.out) e
-  input-none t i old new H.Open is stays e = proxy-none t i old new stays e
-  input-none t i old new (H.Bytes c b) is stays e = proxy-none t i old new stays e
-  input-none t i old new H.Tick is stays e = proxy-none t i old new stays e
-  input-none t i old new (H.Close c) is stays e = proxy-none t i old new stays e
-  input-none t i old new H.Rotate is stays e = absurd (stays is)
-
-  reach-none : (t word n : ℕ) (r : Reach) (old new : Scene) → Reaches holds takes R t word n r old new → given_in new.out ≡ given_in old.out
-  reach-none t word n (ToProxy bytes) old new e =
-      proxy-none t (record { moment = t; word = word; happening = H.Datagram device_at e.datagram }) old new not-rotate e.takes_it
-    where
-      not-rotate : H.Datagram device_at e.datagram ≡ H.Rotate → ⊥
-      not-rotate k = cc
-  reach-none t word n (ToDevice bytes) old new e = ap (λ (s : Scene). given_in s.out) e.is
-  reach-none t word n Nowhere old new e = ap (λ (s : Scene). given_in s.out) e
-
-  turn-none : (x : Turn) (old new : Scene) → KeepsJournal x → TakesTurn holds takes R x old new → given_in new.out ≡ given_in old.out
-  turn-none (T.Proxy i) old new keeps e = input-none (counted old.moment i.moment) i old new i.happening refl keeps e
-  turn-none (T.Device m) old new keeps e = ap (λ (s : Scene). given_in s.out) e.is
-  turn-none (T.Deliver w n) old new keeps e = reach-none (counted old.moment w.moment) w.word n _ old new e
-
-  pub turns-none : (xs : List Turn) (old new : Scene) → AllByRecursion KeepsJournal xs → TakesTurns holds takes R xs old new → given_in new.out ≡ given_in old.out
-  turns-none [] old new keeps e = ap (λ (s : Scene). given_in s.out) e
-  turns-none (x ∷ xs) old new keeps e = turns-none xs e.0 new keeps.1 e.2 ∙ turn-none x old e.0 keeps.0 e.1

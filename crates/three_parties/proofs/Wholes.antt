@@ -2,16 +2,18 @@
 use Rattle.std.proofs.Common.{◌≡◌, ℕ, List, [], Some, refl, sym, subst, ◌∙◌}
 use Rattle.std.specs.List.{AllByRecursion}
 use Rattle.media_map.specs.declared.form.Form.{Form}
-use Rattle.ask_model.specs.Requests.{CoapRequest}
+use Rattle.ask_model.specs.Requests.{CoapRequest, request_options}
 use Rattle.ask_model.specs.Views.{Rules}
 use Rattle.coap_codec.specs.Spelling.{Content}
+use Rattle.coap_codec.specs.Values.{values}
+use Rattle.blockwise.specs.Joins.{DownloadsJoin}
 use Rattle.journal_book.specs.Entries.{Written}
 use Rattle.resp_cache.specs.Stored.{Stored}
 use Rattle.history_laws.specs.Justified.{Stands}
 use Rattle.history_laws.specs.Progress.{first_point}
 use Rattle.history_laws.specs.Responses.{Response, whole_of}
 use Rattle.history_claims.specs.Headline.{AreHeardFor}
-use Rattle.history_claims.specs.Stored.{WasRenewed, WasWhole, never, again}
+use Rattle.history_claims.specs.Stored.{WasCarried, WasHeardHere, WasRenewed, WasWhole, never, again}
 use Rattle.demo_origin.specs.Origins.{fresh}
 use Rattle.demo_origin.specs.Values.{Device, Relation}
 use Rattle.demo_origin.specs.declared.state.Held.{Held}
@@ -19,17 +21,21 @@ use Rattle.story_laws.specs.Lateness.{ArePunctual}
 use Rattle.story_laws.specs.Orders.{WholesShow as Law}
 use Rattle.story_laws.specs.Reads.{AreNew}
 use Rattle.story_laws.proofs.Quiet.{NoneObserved, sent-quietly}
+use Rattle.story_laws.proofs.Wholes.{body-shown}
 use Rattle.gateway_model.specs.Emissions.{Emission}
 use Rattle.three_parties.specs.Flights.{Going, device_at, proxy_at}
-use Rattle.three_parties.specs.Reads.{EachAfter, GetsShowWhole, IsHeardHere, KeptShowWhole, ObservesNothing, RenewedShowWhole, ShowsHeld, WholesShowInTime, journals}
+use Rattle.three_parties.specs.Reads.{EachAfter, GetsShowWhole, KeptShowWhole, ObservesNothing, RenewedShowWhole, ShowsCarried, ShowsFirst, ShowsHeld, WholesShowInTime, journals}
 use Rattle.three_parties.specs.Scenes.{Scene}
 use Rattle.three_parties.specs.Stories.{IsStory}
 use Rattle.three_parties.specs.declared.story.Execution.{Execution}
 use Rattle.three_parties.specs.declared.turn.Turn.{Turn}
 use Rattle.three_parties.proofs.Executing.{Book, book-of, calls_before, networks, ordered}
 use Rattle.three_parties.proofs.Knowing.{Known}
+use Rattle.three_parties.proofs.Carried.{IsKnownBefore, all-carried, carried-shown}
 use Rattle.three_parties.proofs.Chapters.{IsPast}
-use Rattle.three_parties.proofs.Pages.{IsEarlier, each-after, end, known_end}
+use Rattle.three_parties.proofs.Inherited.{IsInherited}
+use Rattle.three_parties.proofs.Pages.{IsEarlier}
+use Rattle.three_parties.proofs.Walking.{at_last, each-after, known_last}
 use Rattle.three_parties.proofs.Reading.{GoesBack, heard-kept, live-back, other-gets, renewed-back, shows-so, stored-back}
 
 -- A 2.03 renews no body.
@@ -38,10 +44,11 @@ body-stays : (h : List Written) (q : CoapRequest) (first : Stored) (n : ℕ) (s 
 body-stays h q first n s (never before) = refl
 body-stays h q first n s (again {s = old} o c t j r m asked same was it before) = body-stays h q first o old was
 
-module _ (R : Relation) (law : Law R) (block : ℕ) (resources : List Held) (new : AreNew resources) (s : Scene) (known : Known R (fresh block resources) s) (top : ℕ)
+module _ (R : Relation) (law : Law R) (join : DownloadsJoin) (block : ℕ) (resources : List Held) (new : AreNew resources) (s : Scene) (known : Known R (fresh block resources) s) (top : ℕ)
     (before : List (List Written)) (h : List Written) (page : IsPast (fresh block resources) s.flights known.tale.calls top h)
     (punctual : ArePunctual page.stands.reading) (none : NoneObserved h)
-    (earlier : AllByRecursion (IsEarlier R (fresh block resources) s known top page.begun) before) where
+    (earlier : AllByRecursion (IsEarlier R (fresh block resources) s known top page.begun) before)
+    (inherited : IsInherited R block resources s known top before h) where
   abbrev its : Book R (fresh block resources) s h
   its = book-of R (fresh block resources) s known top h page
 
@@ -60,24 +67,40 @@ module _ (R : Relation) (law : Law R) (block : ℕ) (resources : List Held) (new
       whole-shows k r.opening r.request r.request js r.messages r.response r.heard r.whole get to to content
       (live-back h n c k js r)
 
-  first-whole : (k : ℕ) (q : CoapRequest) (first : Stored) (w : WasWhole h q first) → IsHeardHere h q first w → q.peer ≡ device_at
-      → GoesBack h k first.opening q
-      → ShowsHeld before h k first.opening q w.other resources s.flights s.taken first.response.body
-  first-whole k q first w here to back =
+  here-whole : (k : ℕ) (q : CoapRequest) (first : Stored) (w : WasWhole h q first)
+      → WasHeardHere h first.opening w.other first.list w.messages first.heard → q.peer ≡ device_at
+      → GoesBack h k first.opening q → ShowsHeld before h k first.opening q w.other resources s.flights s.taken first.response.body
+  here-whole k q first w here to back =
       whole-shows k first.opening q w.other first.list w.messages first.response (heard-kept h none q first w here) w.whole (other-gets h q first w)
       (sym w.same.1 ∙ to) to w.content back
 
+  copies-whole : (k : ℕ) (q : CoapRequest) (first : Stored) (w : WasWhole h q first)
+      → WasCarried h first.opening w.other first.list w.messages first.heard → q.peer ≡ device_at
+      → GoesBack h k first.opening q → ShowsCarried before h k q w.other resources s.flights s.taken first.response.body
+  copies-whole k q first w copied to back =
+      let get = other-gets h q first w in
+      let all = all-carried R block resources s known top before h page punctual earlier inherited first.opening w.other first.list w.messages copied.asked get
+      (sym w.same.1 ∙ to) copied.heard in
+      let it = body-shown R proxy_at block resources known.tale.calls known.tale.follow known.tale.timed new (values 11 (request_options w.other))
+      (IsKnownBefore R block resources s known top before h page punctual earlier inherited w.other) join w.other get w.messages first.response all w.whole w.content in
+      carried-shown R block resources s known top before h page punctual earlier inherited k first.opening q w.other it.since it.sent it.message it.part it.known
+      first.response.body it.is copied.asked w.same to back
+
+  first-whole : (k : ℕ) (q : CoapRequest) (first : Stored) (w : WasWhole h q first) → q.peer ≡ device_at → GoesBack h k first.opening q
+      → ShowsFirst before h k q first w resources s.flights s.taken first.response.body
+  first-whole k q first w to back = (λ here. here-whole k q first w here to back, λ copied. copies-whole k q first w copied to back)
+
   renewed-whole : RenewedShowWhole before resources h s.flights s.taken
-  renewed-whole n t c k js answered r here to =
-      subst (ShowsHeld before h k r.was.first.opening r.request r.was.whole.other resources s.flights s.taken)
+  renewed-whole n t c k js answered r to =
+      subst (ShowsFirst before h k r.request r.was.first r.was.whole resources s.flights s.taken)
       (sym (body-stays h r.request r.was.first r.opening r.stored r.was.renewed))
-      (first-whole k r.request r.was.first r.was.whole here to (renewed-back h n c k js r))
+      (first-whole k r.request r.was.first r.was.whole to (renewed-back h n c k js r))
 
   kept-whole : KeptShowWhole before resources h s.flights s.taken
-  kept-whole n t c k js answered r here to =
-      subst (ShowsHeld before h k r.is.first.opening r.request r.is.whole.other resources s.flights s.taken)
+  kept-whole n t c k js answered r to =
+      subst (ShowsFirst before h k r.request r.is.first r.is.whole resources s.flights s.taken)
       (sym (body-stays h r.request r.is.first k r.stored r.is.renewed))
-      (first-whole k r.request r.is.first r.is.whole here to (stored-back h k r.request r.stored r.is))
+      (first-whole k r.request r.is.first r.is.whole to (stored-back h k r.request r.stored r.is))
 
   pub all-whole : GetsShowWhole before resources h s.flights s.taken × RenewedShowWhole before resources h s.flights s.taken
       × KeptShowWhole before resources h s.flights s.taken
@@ -89,12 +112,12 @@ WholesOne resources flights taken before h =
     GetsShowWhole before resources h flights taken × RenewedShowWhole before resources h flights taken × KeptShowWhole before resources h flights taken
 
 -- a story of a device that is a new one
-pub wholes-of : (R : Relation) → Law R → (holds : Form → Form → List ℕ → List ℕ → Type 0) (takes : Form → Form → List ℕ → Type 0)
+pub wholes-of : (R : Relation) → Law R → DownloadsJoin → (holds : Form → Form → List ℕ → List ℕ → Type 0) (takes : Form → Form → List ℕ → Type 0)
     (rules : Rules) (first : Device) (turns : List Turn) (out : List Emission) (flights : List Going) (h : List Written) (last : Device)
     (taken : List Execution) → IsStory holds takes R rules first turns out flights h last taken → Stands h
     → (block : ℕ) (resources : List Held) → first ≡ fresh block resources → AreNew resources → ObservesNothing rules
     → WholesShowInTime turns resources out h flights taken
-wholes-of R law holds takes rules first turns out flights h last taken story stands block resources e fresh_ones nothing looks =
+wholes-of R law join holds takes rules first turns out flights h last taken story stands block resources e fresh_ones nothing looks =
     subst (λ (w : List Written). Stands w → EachAfter (WholesOne resources flights taken) [] (journals out w)) (sym new.journal) shown stands
   where
     new : IsStory holds takes R rules (fresh block resources) turns out flights h last taken
@@ -103,6 +126,6 @@ wholes-of R law holds takes rules first turns out flights h last taken story sta
     shown : Stands new.world.core.state.entries → EachAfter (WholesOne resources flights taken) [] (journals out new.world.core.state.entries)
     shown stands =
         each-after R holds takes rules block resources turns out flights h last taken new nothing (WholesOne resources flights taken) stands looks
-        (λ top before w page punctual none earlier.
-        all-whole R law block resources fresh_ones (end R holds takes rules block resources turns out flights h last taken new nothing)
-        (known_end R holds takes rules block resources turns out flights h last taken new nothing) top before w page punctual none earlier)
+        (λ top before w page punctual none earlier inherited.
+        all-whole R law join block resources fresh_ones (at_last R holds takes rules block resources turns out flights h last taken new nothing)
+        (known_last R holds takes rules block resources turns out flights h last taken new nothing) top before w page punctual none earlier inherited)

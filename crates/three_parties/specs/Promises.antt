@@ -1,5 +1,5 @@
 -- What a story promises of the requests that change something.
-use Rattle.std.specs.Prelude.{◌≡◌, ℕ, ◌≤◌, ◌/◌, List, slice_get, Option, Some, ⊤}
+use Rattle.std.specs.Prelude.{◌≡◌, ℕ, ◌≤◌, ◌/◌, List, slice_get, Option, Some}
 use Rattle.coap_codec.specs.Spelling.{Content, Spells}
 use Rattle.coap_codec.specs.declared.block.Block.{Block}
 use Rattle.ask_model.specs.Requests.{CoapRequest}
@@ -13,11 +13,6 @@ use Rattle.three_parties.specs.Ticks.{LooksInTime}
 use Rattle.three_parties.specs.declared.story.Execution.{Execution}
 use Rattle.three_parties.specs.declared.turn.Turn.{Turn}
 use Rattle.three_parties.specs.declared.turn.Turn.TheVariants as T
-
--- The turn asks for no journal, so that one journal has all entries.
-abbrev pub KeepsJournal : Turn → Type 0
-KeepsJournal (T.Proxy i) = i.happening ≡ H.Rotate → ⊥
-KeepsJournal x = ⊤
 
 -- The execution is of this message: the datagram that was delivered spells it.
 pub record IsOf (flights : List Going) (m : Content) (x : Execution) : Type 0 where

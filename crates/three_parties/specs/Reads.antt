@@ -1,6 +1,6 @@
 -- What a story promises of answers to GETs.
 use Rattle.std.specs.Prelude.{◌≡◌, ◌≢◌, ℕ, ◌<◌, ◌≤◌, ◌/◌, ⊤, List, [], ◌∷◌, ◌++◌, length, map, take, slice_get, Option, Some}
-use Rattle.std.specs.List.{AllByRecursion}
+use Rattle.std.specs.List.{AllByRecursion, Contains}
 use Rattle.coap_codec.specs.Spelling.{Content}
 use Rattle.coap_codec.specs.Values.{values}
 use Rattle.coap_codec.specs.declared.block.Block.{Block}
@@ -8,7 +8,7 @@ use Rattle.ask_model.specs.Requests.{CoapRequest}
 use Rattle.ask_model.specs.Views.{Rules}
 use Rattle.journal_book.specs.Entries.{Live, Kept, Answers, Written}
 use Rattle.resp_cache.specs.Stored.{Stored}
-use Rattle.history_claims.specs.Headline.{IsEntry, IsSentFor, RestsOn}
+use Rattle.history_claims.specs.Headline.{AsksFor, IsEntry, IsFirstSending, IsSentFor, RestsOn}
 use Rattle.history_claims.specs.Stored.{IsServed, RestsOnRenewed, WasCarried, WasHeardHere, WasWhole}
 use Rattle.demo_origin.specs.Done.{left_with}
 use Rattle.demo_origin.specs.Requests.{IsAt}
@@ -16,7 +16,7 @@ use Rattle.demo_origin.specs.declared.state.Held.{Held}
 use Rattle.gateway_model.specs.Emissions.{Emission}
 use Rattle.gateway_world.specs.Journals.{journal_in, parts_of}
 use Rattle.three_parties.specs.Flights.{Going, device_at}
-use Rattle.three_parties.specs.Promises.{IsExecutedOnce, KeepsJournal}
+use Rattle.three_parties.specs.Promises.{IsExecutedOnce}
 use Rattle.three_parties.specs.Ticks.{LooksInTime}
 use Rattle.three_parties.specs.declared.story.Execution.{Execution}
 use Rattle.three_parties.specs.declared.turn.Turn.{Turn}
@@ -47,9 +47,19 @@ abbrev pub AreAllDone
 AreAllDone before flights taken q count =
     AllByRecursion (λ (h : List Written). AreDone h flights taken (length h) q count) before
 
--- For the GET q of the ask k a message was sent that asks r, after the entry o. The resource held
--- this state after that was first sent, and after each write that was answered before the ask, in
--- this journal or in one of those before.
+-- The resource held this state after the message was first sent, at that moment, and after each
+-- write that was answered before the ask k for q, in this journal or in one of those before.
+pub record ShowsSince (before : List (List Written)) (h : List Written) (k : ℕ) (q : CoapRequest)
+    (message : Content) (sent_at : ℕ) (resources : List Held) (flights : List Going)
+    (taken : List Execution) (state : List ℕ) : Type 0 where
+  pub moment : ℕ
+  pub not_before : sent_at ≤ moment
+  pub count : ℕ
+  pub held : IsHeldAt moment (values 11 message.options) resources taken count state
+  pub written : AreDone h flights taken k q count
+  pub written_before : AreAllDone before flights taken q count
+
+-- It is a message that asks r, for the GET q of the ask k: it was sent after the entry o,
 pub record ShowsHeld (before : List (List Written)) (h : List Written) (k o : ℕ) (q r : CoapRequest)
     (resources : List Held) (flights : List Going) (taken : List Execution) (state : List ℕ)
     : Type 0 where
@@ -57,17 +67,37 @@ pub record ShowsHeld (before : List (List Written)) (h : List Written) (k o : �
   pub sending : ℕ
   pub message : Content
   pub sent : IsSentFor h o r block sending message
-  pub moment : ℕ
-  pub not_before : sent.moment ≤ moment
-  pub count : ℕ
-  pub held : IsHeldAt moment (values 11 message.options) resources taken count state
-  pub written : AreDone h flights taken k q count
-  pub written_before : AreAllDone before flights taken q count
+  pub shows : ShowsSince before h k q message sent.moment resources flights taken state
 
--- What was stored first so was heard in this journal, not in one before, with copies of which this
--- one would begin.
-abbrev pub IsHeardHere : (h : List Written) (q : CoapRequest) (s : Stored) → WasWhole h q s → Type 0
-IsHeardHere h q s w = WasHeardHere h s.opening w.other s.list w.messages s.heard
+-- or in one of the journals before.
+pub record WasSentFor (journals : List (List Written)) (r : CoapRequest) (m : Content)
+    : Type 0 where
+  pub block : Option Block
+  pub asks : AsksFor r block m
+  pub journal : List Written
+  pub among : Contains journals journal
+  pub number : ℕ
+  pub moment : ℕ
+  pub first : IsFirstSending journal number moment r.peer m
+
+pub record ShowsCarried (before : List (List Written)) (h : List Written) (k : ℕ)
+    (q r : CoapRequest) (resources : List Held) (flights : List Going) (taken : List Execution)
+    (state : List ℕ) : Type 0 where
+  pub message : Content
+  pub sent : WasSentFor before r message
+  pub shows : ShowsSince before h k q message sent.moment resources flights taken state
+
+-- What was heard first of what is stored for q shows such a state, where it was heard in this
+-- journal; and where that was in one before, with copies of which this one begins. It was in one of
+-- the two (WasWhole).
+abbrev pub ShowsFirst : (before : List (List Written)) (h : List Written) (k : ℕ) (q : CoapRequest)
+    (first : Stored) → WasWhole h q first → List Held → List Going → List Execution → List ℕ
+    → Type 0
+ShowsFirst before h k q first w resources flights taken state =
+    (WasHeardHere h first.opening w.other first.list w.messages first.heard
+    → ShowsHeld before h k first.opening q w.other resources flights taken state)
+    × (WasCarried h first.opening w.other first.list w.messages first.heard
+    → ShowsCarried before h k q w.other resources flights taken state)
 
 -- Each answer to a GET that rests on one 2.05 (69), in one piece which names no block (23), shows
 -- such a state: an answer to replies that came after the ask,
@@ -84,28 +114,18 @@ abbrev pub RenewedShow : List (List Written) → List Held → List Written → 
     → List Execution → Type 0
 RenewedShow before resources h flights taken =
     (n t c k : ℕ) (js : List ℕ) (m : Content) → IsEntry h n t (Answers c k (Live js))
-    → (r : RestsOnRenewed h n c k js) → IsHeardHere h r.request r.was.first r.was.whole
-    → r.was.whole.messages ≡ m ∷ []
+    → (r : RestsOnRenewed h n c k js) → r.was.whole.messages ≡ m ∷ []
     → r.request.peer ≡ device_at → m.code ≡ 69 → values 23 m.options ≡ []
-    → ShowsHeld before h k r.was.first.opening r.request r.was.whole.other resources flights taken
-    m.payload
+    → ShowsFirst before h k r.request r.was.first r.was.whole resources flights taken m.payload
 
 -- and one of a response that was stored.
 abbrev pub KeptShow : List (List Written) → List Held → List Written → List Going → List Execution
     → Type 0
 KeptShow before resources h flights taken =
     (n t c k : ℕ) (js : List ℕ) (m : Content) → IsEntry h n t (Answers c k (Kept js))
-    → (s : IsServed h t c k js) → IsHeardHere h s.request s.is.first s.is.whole
-    → s.is.whole.messages ≡ m ∷ []
+    → (s : IsServed h t c k js) → s.is.whole.messages ≡ m ∷ []
     → s.request.peer ≡ device_at → m.code ≡ 69 → values 23 m.options ≡ []
-    → ShowsHeld before h k s.is.first.opening s.request s.is.whole.other resources flights taken
-    m.payload
-
--- None rests on what a journal begins with: all that is stored was heard in this one.
-abbrev pub NoneCarried : List Written → Type 0
-NoneCarried h =
-    (o : ℕ) (q : CoapRequest) (js : List ℕ) (ms : List Content) (since : ℕ)
-    → WasCarried h o q js ms since → ⊥
+    → ShowsFirst before h k s.request s.is.first s.is.whole resources flights taken m.payload
 
 -- The rules name no host whose resources may be observed (RFC 7641 section 1.2).
 abbrev pub ObservesNothing : Rules → Type 0
@@ -121,17 +141,14 @@ EachAfter P before (h ∷ hs) = P before h × EachAfter P (before ++ h ∷ []) h
 abbrev pub journals : List Emission → List Written → List (List Written)
 journals out last = map journal_in (parts_of out last)
 
--- So it is of each journal, where the proxy looks at its timers each second. Where one journal has
--- all entries no answer rests on copies.
+-- So it is of each journal, where the proxy looks at its timers each second.
 abbrev pub GetsShowInTime : List Turn → List Held → List Emission → List Written → List Going
     → List Execution → Type 0
 GetsShowInTime turns resources out last flights taken =
     LooksInTime turns
     → EachAfter (λ (before : List (List Written)) (h : List Written).
     GetsShow before resources h flights taken × RenewedShow before resources h flights taken
-    × KeptShow before resources h flights taken) []
-    (journals out last)
-    × (AllByRecursion KeepsJournal turns → NoneCarried last)
+    × KeptShow before resources h flights taken) [] (journals out last)
 
 -- ---- a state in one piece or in several (RFC 7959)
 
@@ -149,9 +166,8 @@ abbrev pub RenewedShowWhole : List (List Written) → List Held → List Written
     → List Execution → Type 0
 RenewedShowWhole before resources h flights taken =
     (n t c k : ℕ) (js : List ℕ) → IsEntry h n t (Answers c k (Live js))
-    → (r : RestsOnRenewed h n c k js) → IsHeardHere h r.request r.was.first r.was.whole
-    → r.request.peer ≡ device_at
-    → ShowsHeld before h k r.was.first.opening r.request r.was.whole.other resources flights taken
+    → (r : RestsOnRenewed h n c k js) → r.request.peer ≡ device_at
+    → ShowsFirst before h k r.request r.was.first r.was.whole resources flights taken
     r.stored.response.body
 
 -- and one of a response that was stored.
@@ -159,8 +175,8 @@ abbrev pub KeptShowWhole : List (List Written) → List Held → List Written �
     → List Execution → Type 0
 KeptShowWhole before resources h flights taken =
     (n t c k : ℕ) (js : List ℕ) → IsEntry h n t (Answers c k (Kept js)) → (s : IsServed h t c k js)
-    → IsHeardHere h s.request s.is.first s.is.whole → s.request.peer ≡ device_at
-    → ShowsHeld before h k s.is.first.opening s.request s.is.whole.other resources flights taken
+    → s.request.peer ≡ device_at
+    → ShowsFirst before h k s.request s.is.first s.is.whole resources flights taken
     s.stored.response.body
 
 -- So it is of each journal, where the proxy looks at its timers each second.

@@ -6,6 +6,7 @@ use Rattle.demo_origin.specs.Values.{Device, Relation}
 use Rattle.demo_origin.specs.Hearing.{Hears}
 use Rattle.demo_origin.specs.Origins.{Ticks}
 use Rattle.demo_origin.specs.declared.execution.Taken.{Taken}
+use Rattle.exchange_model.specs.Room.{KeptInRoom}
 use Rattle.gateway_model.specs.declared.input.Happening.{Happening}
 use Rattle.gateway_model.specs.declared.input.Happening.TheVariants as H
 use Rattle.gateway_model.specs.declared.input.Input.{Input}
@@ -58,10 +59,11 @@ executed t n (Some x) = record { moment = t; number = n; taken = x } ∷ []
 
 module _ (holds : Form → Form → List ℕ → List ℕ → Type 0)
     (takes : Form → Form → List ℕ → Type 0) (R : Relation) where
-  -- The proxy takes an input at this moment.
+  -- The proxy takes an input at this moment. What it keeps until then is what its journal says.
   pub record ProxyTakes (t : ℕ) (i : Input) (old new : Scene) : Type 0 where
     pub given : List Emission
     pub world : WorldValue
+    pub kept : KeptInRoom old.world.core.state
     pub takes_it : Takes holds takes (record i { moment = t }) old.world given world
     pub is : new ≡ gave t world given old
 

@@ -18,6 +18,7 @@ use crate::stage::Stage;
 use crate::story::Story;
 use crate::turn::Turn;
 use ask_model::Settings;
+use blockwise::downloads_join;
 use demo_origin::{Behaviour, Origin};
 use gateway_world::WorldFault;
 use std::alloc::Global;
@@ -31,8 +32,8 @@ use transformers::{Bank, Relation};
 /// its timers each second, each POST to it that was answered by success was executed exactly once
 /// (`posts`). Where the settings observe nothing, too, each answer to a GET that rests on one reply
 /// (`reads`), or on several (`wholes`), shows a state that the resource held, and no less than what
-/// was confirmed before it was asked for. So it is of each journal; an answer that rests on what a
-/// journal began with, as copies, isn't spoken of.
+/// was confirmed before it was asked for. So it is of each journal, also of an answer that rests on
+/// what the journal began with, as copies of one before.
 pub fn three_run<R: Relation, H: Behaviour>(
     alloc: Global,
     settings: Settings,
@@ -65,6 +66,8 @@ pub fn three_run<R: Relation, H: Behaviour>(
     posts_once::<H>();
     writes_show::<H>();
     wholes_show::<H>();
+    // And this one what the pieces of a representation join to.
+    downloads_join();
     play(alloc, settings, bank, origin, turns)
 }
 

@@ -2,6 +2,7 @@
 
 ghost use Rattle.std.specs.Prelude.{◌≡◌, ◌++◌, [], map, Err, IfOk, OnOk, IsOkUnless};
 ghost use Rattle.demo_origin.specs.Origins.{Sound, device};
+ghost use Rattle.exchange_model.specs.Room.{KeptInRoom};
 ghost use Rattle.gateway_model.specs.Emissions.{emission_of, emissions};
 ghost use Rattle.gateway_model.specs.Going.{goes_by, goes_in};
 ghost use Rattle.gateway_world.specs.Worlds.{IsTooMuch, counted, served_in};
@@ -38,6 +39,13 @@ fn counted(last: u64, moment: u64) -> u64
     ensures { result ≡ counted last moment }
 {
     last.max(moment.min(LAST_MOMENT))
+}
+
+/// Does nothing: its contract says that the core of a proxy keeps what its journal says.
+fn keeps<R: Relation>(world: &World<R>)
+    ensures { KeptInRoom world.now.core.state }
+{
+    world.core().journal();
 }
 
 /// Sends what the proxy gave out, if it is a datagram.
@@ -182,6 +190,7 @@ impl<R: Relation, H: Behaviour> Stage<R, H> {
             word: input.word,
             happening: input.happening,
         };
+        keeps(&self.world);
         let mut given = self.world.input(bank, input)?;
         send_given(moment, &given, &mut self.flights)?;
         self.outputs.append(&mut given)?;

@@ -11,7 +11,7 @@ use Rattle.three_parties.specs.Promises.{PostsOnceInTime}
 use Rattle.three_parties.specs.Reads.{GetsShowInTime, ObservesNothing, WholesShowInTime}
 use Rattle.three_parties.specs.Stories.{IsStory}
 use Rattle.three_parties.proofs.Executing.{if-ok, posts-of}
-use Rattle.three_parties.proofs.Reading.{reads-of}
+use Rattle.three_parties.proofs.Answering.{reads-of}
 use Rattle.three_parties.proofs.Wholes.{wholes-of}
 use Rattle.three_parties.proofs.run.three_run.Goals as goal
 
@@ -44,6 +44,6 @@ returns-clause-wholes g c =
     (λ s. Stands s.journal.entries)
     (λ s. (block : ℕ) (resources : List Held) → device c.args.origin ≡ fresh block resources → AreNew resources → ObservesNothing (rules_of c.args.settings)
     → WholesShowInTime c.args.turns.now resources (emissions s.outputs.items) s.journal.entries (map going s.flights.items) s.taken.items)
-    (λ s is stands. wholes-of g.H.Behaviour.relation c.wholes_show.ensures g.R.Relation.holds g.R.Relation.takes (rules_of c.args.settings) (device c.args.origin)
+    (λ s is stands. wholes-of g.H.Behaviour.relation c.wholes_show.ensures c.downloads_join.ensures g.R.Relation.holds g.R.Relation.takes (rules_of c.args.settings) (device c.args.origin)
     c.args.turns.now (emissions s.outputs.items) (map going s.flights.items) s.journal.entries (device s.origin) s.taken.items is stands)
     c.play.result c.play.ensures.is c.play.ensures.stands
