@@ -1,6 +1,6 @@
 -- What contracts see of a world, and what inputs do to it.
-use Rattle.limits.specs.declared.TheConstants.{LAST_MOMENT}
-use Rattle.std.specs.Prelude.{◌≡◌, ℕ, length, min, max, ⊤, List, [], ◌++◌}
+use Rattle.limits.specs.declared.TheConstants.{LAST_MOMENT, MAX_UNREAD}
+use Rattle.std.specs.Prelude.{◌≡◌, ℕ, false, length, min, max, ⊤, List, [], ◌++◌}
 use Rattle.ask_model.specs.Views.{Rules}
 use Rattle.journal_book.specs.Entries.{Written}
 use Rattle.exchange_model.specs.Keeping.{start}
@@ -16,7 +16,7 @@ use Rattle.gateway_model.specs.Hearing.{ShowsWhatCame, DoesWhatIsDue}
 use Rattle.gateway_model.specs.Resting.{AllRest}
 use Rattle.gateway_model.specs.Waiting.{IsDrained}
 use Rattle.gateway_model.specs.Emissions.{Emission}
-use Rattle.gateway_connections.specs.Inlets.{Inlet}
+use Rattle.gateway_connections.specs.Inlets.{Inlet, is_full_at}
 use Rattle.gateway_model.specs.Backlog.{PassesLimit}
 use Rattle.gateway_model.specs.Unasked.{unasked_in}
 use Rattle.gateway_world.specs.declared.engine.Engine.{Engine}
@@ -78,3 +78,8 @@ new_world rules = record { core = core_of start [] []; inlets = []; rules = rule
 abbrev pub IsTooMuch : Happening → Served → Type 0
 IsTooMuch (H.Bytes c bytes) s = PassesLimit c (length bytes.now) s
 IsTooMuch _ s = ⊥
+
+-- All that came of the connection was asked: beside what waits of it there is room for as many bytes
+-- as may wait, so none does. Or its last request was read, after which none counts.
+abbrev pub IsAllAsked : ℕ → WorldValue → Type 0
+IsAllAsked c w = is_full_at c false MAX_UNREAD w.inlets ≡ false

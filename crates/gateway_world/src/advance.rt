@@ -1,7 +1,7 @@
 //! What one needs who drives a world for good: inputs that aren't taken back, and what there is to
 //! wait for.
 
-ghost use Rattle.std.specs.Prelude.{◌≡◌, ◌↔◌, None, IfOk, IsTrue, sum_by};
+ghost use Rattle.std.specs.Prelude.{◌≡◌, ◌↔◌, true, None, IfOk, IsTrue, sum_by};
 ghost use Rattle.journal_book.specs.Entries.{entry_size};
 ghost use Rattle.exchange_core.specs.Due.{next_tick, IsNextTick};
 ghost use Rattle.exchange_model.specs.Resting.{HasConn};
@@ -12,7 +12,7 @@ use crate::state::World;
 use exchange_core::Core;
 use gateway_model::{Input, Output, When};
 use http_edge::Memory;
-use limits::LAST_MOMENT;
+use limits::{LAST_MOMENT, MAX_UNREAD};
 use transformers::{Bank, Relation};
 
 /// A world after an input, and the number of the connection that opened with it.
@@ -25,7 +25,7 @@ pub struct Advanced<R: Relation> {
 impl<R: Relation> World<R> {
     ghost use Rattle.gateway_world.specs.Inputs.{Takes};
     ghost use Rattle.gateway_world.specs.Openings.{IsCounted};
-    ghost use Rattle.gateway_world.specs.Worlds.{IsTooMuch, served_in};
+    ghost use Rattle.gateway_world.specs.Worlds.{IsAllAsked, IsTooMuch, served_in};
     ghost use Rattle.transformers.specs.Suits.{Suits};
 
     /// The moment of the next tick that has something to do, if any has: none before it changes the
@@ -56,6 +56,19 @@ impl<R: Relation> World<R> {
         ensures { IsTrue result ↔ HasConn self.now.core.state.conns number None }
     {
         self.engine.core.is_idle(number)
+    }
+
+    /// Whether the connection is open between two requests: it waits for no answer, and all that came
+    /// of it was asked.
+    pub fn is_between(&self, number: u32) -> bool
+        ensures idle { result ≡ true → HasConn self.now.core.state.conns number None }
+        ensures asked { result ≡ true → IsAllAsked number self.now }
+    {
+        let engine: &Engine<R> = &*self.engine;
+        if engine.table.passes_limit(number, false, MAX_UNREAD) {
+            return false;
+        }
+        engine.core.is_idle(number)
     }
 
     /// Takes an input for good, and puts what it leads to in place of what was in `outputs`.
