@@ -6,8 +6,9 @@ ghost use Rattle.transformers.specs.Suits.{Suits};
 use crate::gateway::Gateway;
 use crate::host::Host;
 use crate::sockets::{Stream, Wire};
-use crate::turns::{Loop, Stop};
+use crate::turns::Loop;
 use crate::waits::{On, Waits};
+use http_edge::Memory;
 use transformers::{Bank, Relation};
 
 /// How often connections are looked at, in milliseconds.
@@ -110,7 +111,7 @@ impl<R: Relation, S: Stream + Drop, W: Wire + Drop> Loop<R, S, W> {
         self,
         bank: &Bank<R>,
         host: &mut H,
-    ) -> Result<Loop<R, S, W>, Stop>
+    ) -> Result<Loop<R, S, W>, Memory>
         requires suits { Suits R.holds R.takes self.gateway.world.rules.routes bank.now }
         ensures rules { IfOk result (λ l. l.gateway.world.rules ≡ self.gateway.world.rules) }
     {
@@ -132,7 +133,7 @@ impl<R: Relation, S: Stream + Drop, W: Wire + Drop> Loop<R, S, W> {
         bank: &Bank<R>,
         host: &mut H,
         number: u32,
-    ) -> Result<Loop<R, S, W>, Stop>
+    ) -> Result<Loop<R, S, W>, Memory>
         requires suits { Suits R.holds R.takes self.gateway.world.rules.routes bank.now }
         ensures rules { IfOk result (λ l. l.gateway.world.rules ≡ self.gateway.world.rules) }
     {
@@ -152,7 +153,7 @@ impl<R: Relation, S: Stream + Drop, W: Wire + Drop> Loop<R, S, W> {
         self,
         bank: &Bank<R>,
         host: &mut H,
-    ) -> Result<Loop<R, S, W>, Stop>
+    ) -> Result<Loop<R, S, W>, Memory>
         requires suits { Suits R.holds R.takes self.gateway.world.rules.routes bank.now }
         ensures rules { IfOk result (λ l. l.gateway.world.rules ≡ self.gateway.world.rules) }
     {

@@ -6,7 +6,8 @@ ghost use Rattle.transformers.specs.Suits.{Suits};
 use crate::connections::Due;
 use crate::host::Host;
 use crate::sockets::{Stream, Wire};
-use crate::turns::{AT_ONCE, Loop, Stop};
+use crate::turns::{AT_ONCE, Loop};
+use http_edge::Memory;
 use transformers::{Bank, Relation};
 
 /// How many steps a connection has at once, before others have theirs.
@@ -18,7 +19,7 @@ impl<R: Relation, S: Stream + Drop, W: Wire + Drop> Loop<R, S, W> {
         self,
         bank: &Bank<R>,
         host: &mut H,
-    ) -> Result<Loop<R, S, W>, Stop>
+    ) -> Result<Loop<R, S, W>, Memory>
         requires suits { Suits R.holds R.takes self.gateway.world.rules.routes bank.now }
         ensures rules { IfOk result (λ l. l.gateway.world.rules ≡ self.gateway.world.rules) }
     {
@@ -38,7 +39,7 @@ impl<R: Relation, S: Stream + Drop, W: Wire + Drop> Loop<R, S, W> {
         bank: &Bank<R>,
         host: &mut H,
         number: u32,
-    ) -> Result<Loop<R, S, W>, Stop>
+    ) -> Result<Loop<R, S, W>, Memory>
         requires suits { Suits R.holds R.takes self.gateway.world.rules.routes bank.now }
         ensures rules { IfOk result (λ l. l.gateway.world.rules ≡ self.gateway.world.rules) }
     {
@@ -71,7 +72,7 @@ impl<R: Relation, S: Stream + Drop, W: Wire + Drop> Loop<R, S, W> {
         self,
         bank: &Bank<R>,
         host: &mut H,
-    ) -> Result<Loop<R, S, W>, Stop>
+    ) -> Result<Loop<R, S, W>, Memory>
         requires suits { Suits R.holds R.takes self.gateway.world.rules.routes bank.now }
         ensures rules { IfOk result (λ l. l.gateway.world.rules ≡ self.gateway.world.rules) }
     {

@@ -9,9 +9,10 @@ use crate::host::Host;
 use crate::rotation::{Padded, Rotated};
 use crate::sockets::{Stream, Wire};
 use crate::stage::Stage;
-use crate::turns::{Loop, Stop};
+use crate::turns::Loop;
 use crate::waits::Bearing;
 use gateway_world::{Output, RotateFault};
+use http_edge::Memory;
 use journal_book::Journal;
 use transformers::{Bank, Relation};
 
@@ -71,7 +72,7 @@ impl<R: Relation, S: Stream + Drop, W: Wire + Drop> Loop<R, S, W> {
         self,
         bank: &Bank<R>,
         host: &mut H,
-    ) -> Result<Loop<R, S, W>, Stop>
+    ) -> Result<Loop<R, S, W>, Memory>
         requires suits { Suits R.holds R.takes self.gateway.world.rules.routes bank.now }
         ensures rules { IfOk result (λ l. l.gateway.world.rules ≡ self.gateway.world.rules) }
     {
@@ -126,7 +127,7 @@ impl<R: Relation, S: Stream + Drop, W: Wire + Drop> Loop<R, S, W> {
         bank: &Bank<R>,
         host: &mut H,
         bearing: Bearing,
-    ) -> Result<Loop<R, S, W>, Stop>
+    ) -> Result<Loop<R, S, W>, Memory>
         requires suits { Suits R.holds R.takes self.gateway.world.rules.routes bank.now }
         ensures rules { IfOk result (λ l. l.gateway.world.rules ≡ self.gateway.world.rules) }
     {
@@ -145,7 +146,7 @@ impl<R: Relation, S: Stream + Drop, W: Wire + Drop> Loop<R, S, W> {
     }
 
     /// Brings the journal to its seal by connections that are opened and closed at once, for nobody.
-    fn fill_up<H: Host<S>>(self, bank: &Bank<R>, host: &mut H) -> Result<Loop<R, S, W>, Stop>
+    fn fill_up<H: Host<S>>(self, bank: &Bank<R>, host: &mut H) -> Result<Loop<R, S, W>, Memory>
         requires suits { Suits R.holds R.takes self.gateway.world.rules.routes bank.now }
         ensures rules { IfOk result (λ l. l.gateway.world.rules ≡ self.gateway.world.rules) }
     {
@@ -163,7 +164,7 @@ impl<R: Relation, S: Stream + Drop, W: Wire + Drop> Loop<R, S, W> {
     }
 
     /// Turns the journal over, where that may be now.
-    fn turn_over<H: Host<S>>(self, bank: &Bank<R>, host: &mut H) -> Result<Loop<R, S, W>, Stop>
+    fn turn_over<H: Host<S>>(self, bank: &Bank<R>, host: &mut H) -> Result<Loop<R, S, W>, Memory>
         requires suits { Suits R.holds R.takes self.gateway.world.rules.routes bank.now }
         ensures rules { IfOk result (λ l. l.gateway.world.rules ≡ self.gateway.world.rules) }
     {
@@ -177,7 +178,10 @@ impl<R: Relation, S: Stream + Drop, W: Wire + Drop> Loop<R, S, W> {
                 it.turning = None;
                 Ok(it)
             }
-            Some(Output::Unrotated(RotateFault::Spent)) => Err(Stop::Spent),
+            Some(Output::Unrotated(RotateFault::Spent)) => {
+                it.spent = true;
+                Ok(it)
+            }
             _ => {
                 it.turning = Some(Turning {
                     since: when.moment,

@@ -33,29 +33,15 @@ const ROOM: usize = 8192;
 /// The longest wait, in milliseconds.
 const LONGEST: u64 = 60_000;
 
-/// Why the loop ends.
+/// Why the loop goes on no more.
 #[derive(Clone, Copy, Debug, PartialEq, Eq)]
 pub enum Stop {
-    /// Memory was refused.
-    Memory,
     /// The clock failed.
     Clock,
     /// Signs can't be waited for.
     Wait,
     /// No numbers are left for the next journal.
     Spent,
-}
-
-impl From<Memory> for Stop {
-    fn from(_e: Memory) -> Stop {
-        Stop::Memory
-    }
-}
-
-impl From<AllocError> for Stop {
-    fn from(_e: AllocError) -> Stop {
-        Stop::Memory
-    }
 }
 
 /// The earlier of two moments, of those that there are.
@@ -89,6 +75,8 @@ pub struct Loop<R: Relation, S: Stream, W: Wire> {
     pub(crate) turning: Option<Turning>,
     /// The journal that was turned over last.
     pub(crate) journal: Option<Journal<R>>,
+    /// No numbers are left for the next journal.
+    pub(crate) spent: bool,
 }
 
 impl<R: Relation, S: Stream + Drop, W: Wire + Drop> Loop<R, S, W> {
@@ -111,22 +99,35 @@ impl<R: Relation, S: Stream + Drop, W: Wire + Drop> Loop<R, S, W> {
             sweeps: 0,
             turning: None,
             journal: None,
+            spent: false,
         })
     }
 
-    /// One turn: waits for signs, and lets all go on that may have something to do.
-    pub fn turn<H: Host<S>>(self, bank: &Bank<R>, host: &mut H) -> Result<Loop<R, S, W>, Stop>
+    /// Waits until there may be something to do, and looks what moment it is then: a turn is due. Where
+    /// it can't, the loop goes on no more, and may still be looked at.
+    pub fn wait<H: Host<S>>(&mut self, host: &mut H) -> Result<(), Stop>
+        ensures { self.new.gateway ≡ self.old.gateway }
+    {
+        if self.spent {
+            return Err(Stop::Spent);
+        }
+        if !host.wait(self.longest_wait()) {
+            return Err(Stop::Wait);
+        }
+        match host.moment() {
+            Some(moment) => self.moment = moment,
+            None => return Err(Stop::Clock),
+        }
+        Ok(())
+    }
+
+    /// One turn: looks at the signs, and lets all go on that may have something to do. Where memory is
+    /// refused, the loop is gone.
+    pub fn turn<H: Host<S>>(self, bank: &Bank<R>, host: &mut H) -> Result<Loop<R, S, W>, Memory>
         requires suits { Suits R.holds R.takes self.gateway.world.rules.routes bank.now }
         ensures rules { IfOk result (λ l. l.gateway.world.rules ≡ self.gateway.world.rules) }
     {
         let mut it = self;
-        if !host.wait(it.longest_wait()) {
-            return Err(Stop::Wait);
-        }
-        it.moment = match host.moment() {
-            Some(moment) => moment,
-            None => return Err(Stop::Clock),
-        };
         it.take_signs(host)?;
         let it = it.take_clients(bank, host)?;
         let it = it.hear_all(bank, host)?;
@@ -177,7 +178,7 @@ impl<R: Relation, S: Stream + Drop, W: Wire + Drop> Loop<R, S, W> {
     }
 
     /// Takes those who want connections, some of them.
-    fn take_clients<H: Host<S>>(self, bank: &Bank<R>, host: &mut H) -> Result<Loop<R, S, W>, Stop>
+    fn take_clients<H: Host<S>>(self, bank: &Bank<R>, host: &mut H) -> Result<Loop<R, S, W>, Memory>
         requires suits { Suits R.holds R.takes self.gateway.world.rules.routes bank.now }
         ensures rules { IfOk result (λ l. l.gateway.world.rules ≡ self.gateway.world.rules) }
     {
@@ -207,7 +208,7 @@ impl<R: Relation, S: Stream + Drop, W: Wire + Drop> Loop<R, S, W> {
         bank: &Bank<R>,
         host: &mut H,
         stream: S,
-    ) -> Result<Loop<R, S, W>, Stop>
+    ) -> Result<Loop<R, S, W>, Memory>
         requires suits { Suits R.holds R.takes self.gateway.world.rules.routes bank.now }
         requires written { Are (S.written stream) [] }
         requires gave { Are (S.gave stream) [] }
@@ -228,7 +229,7 @@ impl<R: Relation, S: Stream + Drop, W: Wire + Drop> Loop<R, S, W> {
     }
 
     /// Hears the datagrams that are there, some of them.
-    fn hear_all<H: Host<S>>(self, bank: &Bank<R>, host: &mut H) -> Result<Loop<R, S, W>, Stop>
+    fn hear_all<H: Host<S>>(self, bank: &Bank<R>, host: &mut H) -> Result<Loop<R, S, W>, Memory>
         requires suits { Suits R.holds R.takes self.gateway.world.rules.routes bank.now }
         ensures rules { IfOk result (λ l. l.gateway.world.rules ≡ self.gateway.world.rules) }
         ensures all { IfOk result (λ l. l.wire ≡ false
@@ -251,7 +252,7 @@ impl<R: Relation, S: Stream + Drop, W: Wire + Drop> Loop<R, S, W> {
     }
 
     /// Lets time go on, where something is due.
-    fn pass<H: Host<S>>(self, bank: &Bank<R>, host: &mut H) -> Result<Loop<R, S, W>, Stop>
+    fn pass<H: Host<S>>(self, bank: &Bank<R>, host: &mut H) -> Result<Loop<R, S, W>, Memory>
         requires suits { Suits R.holds R.takes self.gateway.world.rules.routes bank.now }
         ensures rules { IfOk result (λ l. l.gateway.world.rules ≡ self.gateway.world.rules) }
     {

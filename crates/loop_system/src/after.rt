@@ -95,9 +95,9 @@ impl<'a, A: Archive<Profile> + Drop + Send + Sync + 'static> After<'a, A> {
         }
     }
 
-    /// The loop ends, and the last journal that was turned over is kept before.
-    pub fn end<V: Threads>(&mut self, rt: &V) {
-        self.shelf.end(rt);
+    /// The loop ends: the archive has kept the last journal that was turned over then, and this one.
+    pub fn end<V: Threads>(&mut self, rt: &V, journal: Option<&Journal<Profile>>) {
+        self.shelf.end(rt, &self.archive, journal);
     }
 
     /// Answers who looks, if anybody does.

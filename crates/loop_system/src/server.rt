@@ -14,6 +14,7 @@ use ask_model::Settings;
 use gateway_loop::{Gateway, Loop, Stop};
 use gateway_window::{Options, Watch, show_all};
 use gateway_world::RotateFault;
+use http_edge::Memory;
 use journal_archive::Archive;
 use log::{Log, info, warn};
 use mio::Poll;
@@ -32,8 +33,8 @@ use transformers::{Bank, Stored};
 /// for, memory is refused or the numbers of its journals are spent.
 ///
 /// Each time that the journal is nearly full it is turned over and given to the archive, with the
-/// number of those before it and it, in a thread of its own. Where there is a window, those who look are
-/// served by threads too.
+/// number of those before it and it, in a thread of its own; so is the last one as the gateway stops,
+/// unless memory is refused. Where there is a window, those who look are served by threads too.
 pub fn run<
     N: Net,
     W: Threads + Wait + Log + Clock + RandomSource + Copy + Drop + Send + Sync + 'static,
@@ -48,20 +49,12 @@ pub fn run<
     archive: A,
 ) -> ServeFault {
     match run_with_bank(net, rt, alloc, ports, settings, options, archive) {
-        Ok(stop) => fault_of(stop),
-        Err(fault) => fault,
+        Ok(fault) | Err(fault) => fault,
     }
 }
 
-/// How an end of the loop is told.
-fn fault_of(stop: Stop) -> ServeFault {
-    match stop {
-        Stop::Memory => ServeFault::Memory,
-        Stop::Clock | Stop::Wait | Stop::Spent => ServeFault::Stopped,
-    }
-}
-
-/// Runs the gateway with the transformers that the routes of the settings ask for.
+/// Runs the gateway with the transformers that the routes of the settings ask for: by which fault it
+/// ended, or else didn't begin.
 fn run_with_bank<
     N: Net,
     W: Threads + Wait + Log + Clock + RandomSource + Copy + Drop + Send + Sync + 'static,
@@ -74,7 +67,7 @@ fn run_with_bank<
     settings: Settings,
     options: Options,
     archive: A,
-) -> Result<Stop, ServeFault> {
+) -> Result<ServeFault, ServeFault> {
     let mut all: Vec<Stored<Profile>> = Vec::new(alloc);
     'each: for route in settings.routes.as_slice() {
         store_for!(alloc, all, route);
@@ -105,7 +98,7 @@ fn run_on<
     bank: &Bank<Profile>,
     options: Options,
     archive: A,
-) -> Result<Stop, ServeFault>
+) -> Result<ServeFault, ServeFault>
     requires { Suits profile_holds profile_takes (rules_of settings).routes bank.now }
 {
     note_ports(&rt, &ports);
@@ -184,7 +177,7 @@ fn start_window<W: Threads + Wait + Clock + Copy + Drop + Send + Sync + 'static>
     }
 }
 
-/// Turns until it can't go on.
+/// Turns until it can't go on, and tells why.
 fn go_on<
     V: Threads + Wait + Log + Clock,
     W: Clock + RandomSource + Drop,
@@ -195,25 +188,29 @@ fn go_on<
     bank: &Bank<Profile>,
     host: &mut System<W>,
     after: After<'_, A>,
-) -> Stop
+) -> ServeFault
     requires { Suits profile_holds profile_takes it.gateway.world.rules.routes bank.now }
 {
     let mut it = it;
     let mut after = after;
     after.begin(&mut it);
     'each: for _ in 0..u64::MAX {
+        if let Err(stop) = it.wait(host) {
+            note_stop(rt, stop);
+            after.end(rt, Some(it.core().journal()));
+            return ServeFault::Stopped;
+        }
         it = match it.turn(bank, host) {
             Ok(it) => it,
-            Err(stop) => {
-                note_stop(rt, stop);
-                after.end(rt);
-                return stop;
+            Err(Memory) => {
+                after.end(rt, None);
+                return ServeFault::Memory;
             }
         };
         after.look(rt, &mut it, &host.arrivals);
         host.arrivals.clear();
     }
-    Stop::Wait
+    ServeFault::Stopped
 }
 
 /// Notes why the loop ends, where its end doesn't tell.

@@ -53,7 +53,7 @@ impl Shelf {
         journal: Journal<Profile>,
     ) {
         self.note(rt, &journal);
-        self.end(rt);
+        self.await_keeper(rt);
         let number = self.number;
         self.keeper = start_keeper(rt, archive, number, journal);
         if self.keeper.is_none() {
@@ -63,8 +63,21 @@ impl Shelf {
         self.noted = false;
     }
 
-    /// Waits until the last journal is kept.
-    pub fn end<V: Threads>(&mut self, rt: &V) {
+    /// The loop ends: has the archive keep what there is of this journal, after those before it.
+    pub fn end<V: Threads, A: Archive<Profile>>(
+        &mut self,
+        rt: &V,
+        archive: &Arc<A>,
+        journal: Option<&Journal<Profile>>,
+    ) {
+        self.await_keeper(rt);
+        if let Some(journal) = journal {
+            archive.keep(self.number, journal);
+        }
+    }
+
+    /// Waits until the last journal that was turned over is kept.
+    fn await_keeper<V: Threads>(&mut self, rt: &V) {
         if let Some(keeper) = self.keeper.take() {
             keeper.join(rt);
         }

@@ -74,6 +74,9 @@ fn goes<R: Relation, S: Stream + Drop, W: Wire + Drop, H: Host<S> + Hears>(
     let mut it = it;
     it.keep_told();
     'each: for _ in 0..turns {
+        if it.wait(host).is_err() {
+            return false;
+        }
         it = match it.turn(bank, host) {
             Ok(it) => it,
             Err(_) => return false,
