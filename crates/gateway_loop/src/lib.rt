@@ -29,6 +29,7 @@ mod waits;
 
 pub use gateway::Gateway;
 pub use host::{Accepted, Host, Sign};
+pub use patience::{GivenUp, Why};
 pub use sockets::{Moved, Received, Stream, Wire};
 pub use told::Told;
 pub use turns::{Loop, Stop};

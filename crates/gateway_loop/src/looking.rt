@@ -4,6 +4,7 @@ ghost use Rattle.std.specs.Prelude.{◌≡◌, [], length, map};
 ghost use Rattle.gateway_loop.specs.Telling.{forgotten, telling, told_in, Kept};
 
 use crate::gateway::Gateway;
+use crate::patience::GivenUp;
 use crate::sockets::{Stream, Wire};
 use crate::told::Told;
 use crate::turns::Loop;
@@ -48,6 +49,11 @@ impl<R: Relation, S: Stream + Drop, W: Wire + Drop> Loop<R, S, W> {
         ensures { result ≡ length self.now.gateway.clients.places }
     {
         self.gateway.count()
+    }
+
+    /// The connections that were given up in the last turn, in their order.
+    pub fn given_up(&self) -> &[GivenUp] {
+        &self.given_up
     }
 
     /// Keeps from now on what tells of the bytes that are given out, until it is forgotten.

@@ -93,7 +93,33 @@ pub struct Readiness {
     time: u64,
 }
 
+/// A connection that was closed though its client said nothing of it, since others wait.
+#[derive(Clone, Copy, Debug, PartialEq, Eq)]
+pub struct GivenUp {
+    pub number: u32,
+    pub why: Why,
+}
+
+/// Why it was.
+#[derive(Clone, Copy, Debug, PartialEq, Eq)]
+pub enum Why {
+    /// Its client stood still in a request, or before an answer.
+    Still,
+    /// One more came, and its client had left before its answer was there.
+    Gone,
+    /// One more came, and no request had come on it for so many milliseconds.
+    Idle(u64),
+}
+
 impl Readiness {
+    /// Why a connection is closed for another one.
+    fn why(self) -> Why {
+        match self.kind {
+            Kind::Gone => Why::Gone,
+            Kind::Request | Kind::Rest => Why::Idle(self.time),
+        }
+    }
+
     /// Whether a connection is closed before the other one.
     fn is_before(self, other: Readiness) -> bool {
         match (self.kind, other.kind) {
@@ -142,8 +168,24 @@ impl<R: Relation, S: Stream + Drop, W: Wire + Drop> Loop<R, S, W> {
         if !it.gateway.stands_still(number, it.moment, it.idle) {
             return Ok(it);
         }
+        it.give_up(bank, host, number, Why::Still)
+    }
+
+    /// Closes the connection, and keeps why until the next turn.
+    fn give_up<H: Host<S>>(
+        self,
+        bank: &Bank<R>,
+        host: &mut H,
+        number: u32,
+        why: Why,
+    ) -> Result<Loop<R, S, W>, Memory>
+        requires suits { Suits R.holds R.takes self.gateway.world.rules.routes bank.now }
+        ensures rules { IfOk result (λ l. l.gateway.world.rules ≡ self.gateway.world.rules) }
+    {
+        let mut it = self;
         let when = it.when(host);
         it.gateway = it.gateway.end(bank, when, number)?;
+        let _ = it.given_up.push(GivenUp { number, why });
         Ok(it)
     }
 
@@ -157,20 +199,17 @@ impl<R: Relation, S: Stream + Drop, W: Wire + Drop> Loop<R, S, W> {
         requires suits { Suits R.holds R.takes self.gateway.world.rules.routes bank.now }
         ensures rules { IfOk result (λ l. l.gateway.world.rules ≡ self.gateway.world.rules) }
     {
-        let mut it = self;
-        if it.gateway.open() < MOST_OPEN {
-            return Ok(it);
+        if self.gateway.open() < MOST_OPEN {
+            return Ok(self);
         }
-        let Some(number) = it.readiest() else {
-            return Ok(it);
-        };
-        let when = it.when(host);
-        it.gateway = it.gateway.end(bank, when, number)?;
-        Ok(it)
+        match self.readiest() {
+            Some((number, readiness)) => self.give_up(bank, host, number, readiness.why()),
+            None => Ok(self),
+        }
     }
 
     /// The connection that is closed for another one, if one may be.
-    fn readiest(&self) -> Option<u32> {
+    fn readiest(&self) -> Option<(u32, Readiness)> {
         let mut found: Option<(u32, Readiness)> = None;
         'each: for number in self.gateway.first_number()..self.gateway.next_number() {
             let Some(readiness) = self.gateway.readiness(number, self.moment, self.idle) else {
@@ -184,7 +223,6 @@ impl<R: Relation, S: Stream + Drop, W: Wire + Drop> Loop<R, S, W> {
                 found = Some((number, readiness));
             }
         }
-        let (number, _) = found?;
-        Some(number)
+        found
     }
 }

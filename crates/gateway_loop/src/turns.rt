@@ -8,7 +8,7 @@ use crate::farewells::Farewells;
 use crate::gateway::Gateway;
 use crate::hearing::Listened;
 use crate::host::{Accepted, Host, Sign};
-use crate::patience::SWEEP;
+use crate::patience::{GivenUp, SWEEP};
 use crate::sockets::{Stream, Wire};
 use crate::turning::{LOOK, Turning};
 use gateway_world::When;
@@ -77,6 +77,8 @@ pub struct Loop<R: Relation, S: Stream, W: Wire> {
     pub(crate) journal: Option<Journal<R>>,
     /// No numbers are left for the next journal.
     pub(crate) spent: bool,
+    /// Those that were given up in the last turn.
+    pub(crate) given_up: Vec<GivenUp>,
 }
 
 impl<R: Relation, S: Stream + Drop, W: Wire + Drop> Loop<R, S, W> {
@@ -87,6 +89,7 @@ impl<R: Relation, S: Stream + Drop, W: Wire + Drop> Loop<R, S, W> {
     {
         let buffer = vec![in gateway.alloc; 0u8; ROOM]?;
         let farewells = Farewells::new(gateway.alloc);
+        let given_up = Vec::new(gateway.alloc);
         Ok(Loop {
             gateway,
             farewells,
@@ -100,6 +103,7 @@ impl<R: Relation, S: Stream + Drop, W: Wire + Drop> Loop<R, S, W> {
             turning: None,
             journal: None,
             spent: false,
+            given_up,
         })
     }
 
@@ -128,6 +132,7 @@ impl<R: Relation, S: Stream + Drop, W: Wire + Drop> Loop<R, S, W> {
         ensures rules { IfOk result (λ l. l.gateway.world.rules ≡ self.gateway.world.rules) }
     {
         let mut it = self;
+        it.given_up.clear();
         it.take_signs(host)?;
         let it = it.take_clients(bank, host)?;
         let it = it.hear_all(bank, host)?;

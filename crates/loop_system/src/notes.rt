@@ -4,7 +4,7 @@ use crate::client::Client;
 use crate::devices::Devices;
 use crate::host::Arrival;
 use answer_log::{Given, Line, heading_of};
-use gateway_loop::{Loop, Told};
+use gateway_loop::{GivenUp, Loop, Told, Why};
 use gateway_window::Watch;
 use journal_book::{Event, Journal};
 use log::{Log, info, warn};
@@ -69,6 +69,9 @@ impl<'a> Notes<'a> {
         arrivals: &[Arrival],
         journal: &Journal<R>,
     ) {
+        'given_up: for given_up in it.given_up() {
+            note_given_up(rt, *given_up);
+        }
         self.seat_all(rt, arrivals, it.count());
         if !self.wants_told() {
             return;
@@ -231,6 +234,29 @@ impl<'a> Notes<'a> {
                 given,
             };
             info!(rt; target: "access", "{line}");
+        }
+    }
+}
+
+/// Notes that a connection was closed since its client didn't go on.
+fn note_given_up<V: Log>(rt: &V, given_up: GivenUp) {
+    let number = given_up.number;
+    match given_up.why {
+        Why::Still => {
+            info!(rt; target: "hcproxy", "connection {number} is closed: its client stood still");
+        }
+        Why::Gone => info!(
+            rt;
+            target: "hcproxy",
+            "connection {number} is closed for another one: its client left and waits no more"
+        ),
+        Why::Idle(time) => {
+            let time = time / 1000;
+            info!(
+                rt;
+                target: "hcproxy",
+                "connection {number} is closed for another one: no request came on it for {time} s"
+            );
         }
     }
 }
