@@ -134,10 +134,56 @@ impl<R: Relation, S: Stream + Drop, W: Wire + Drop> Loop<R, S, W> {
         let mut it = self;
         it.given_up.clear();
         it.take_signs(host)?;
-        let it = it.take_clients(bank, host)?;
-        let it = it.hear_all(bank, host)?;
+        if it.may_take() {
+            return it.take_all(bank, host);
+        }
+        it.serve_all(bank, host)
+    }
+
+    /// Whether there may be connections to be taken.
+    fn may_take(&self) -> bool {
+        self.clients && self.moment >= self.resumes && self.turning.is_none()
+    }
+
+    /// Takes the connections that are there, and then lets all go on.
+    fn take_all<H: Host<S>>(self, bank: &Bank<R>, host: &mut H) -> Result<Loop<R, S, W>, Memory>
+        requires suits { Suits R.holds R.takes self.gateway.world.rules.routes bank.now }
+        ensures rules { IfOk result (λ l. l.gateway.world.rules ≡ self.gateway.world.rules) }
+    {
+        let it = self.take_clients(bank, host)?;
+        it.serve_all(bank, host)
+    }
+
+    /// Hears what came in, and lets connections go on. Mostly nothing else is due, and then the loop
+    /// isn't handed on to whoever would only look.
+    fn serve_all<H: Host<S>>(self, bank: &Bank<R>, host: &mut H) -> Result<Loop<R, S, W>, Memory>
+        requires suits { Suits R.holds R.takes self.gateway.world.rules.routes bank.now }
+        ensures rules { IfOk result (λ l. l.gateway.world.rules ≡ self.gateway.world.rules) }
+    {
+        let it = self.hear_all(bank, host)?;
         let it = it.go_on(bank, host)?;
-        let it = it.end_farewells(bank, host)?;
+        if it.is_over() {
+            return Ok(it);
+        }
+        it.end_turn(bank, host)
+    }
+
+    /// Whether nothing else is due in this turn.
+    fn is_over(&self) -> bool {
+        let is_due = match self.gateway.next_due() {
+            Some(due) => due <= self.moment,
+            None => false,
+        };
+        let waits = self.turning.is_some() || self.gateway.is_nearly_full();
+        !is_due && !waits && self.moment < self.sweeps && self.farewells.next_due().is_none()
+    }
+
+    /// Does what else is due.
+    fn end_turn<H: Host<S>>(self, bank: &Bank<R>, host: &mut H) -> Result<Loop<R, S, W>, Memory>
+        requires suits { Suits R.holds R.takes self.gateway.world.rules.routes bank.now }
+        ensures rules { IfOk result (λ l. l.gateway.world.rules ≡ self.gateway.world.rules) }
+    {
+        let it = self.end_farewells(bank, host)?;
         let it = it.pass(bank, host)?;
         let it = it.sweep(bank, host)?;
         it.see_to_journal(bank, host)

@@ -1,0 +1,21 @@
+-- The rules stay, step by step.
+use Rattle.std.proofs.Common.{◌≡◌, ◌∙◌}
+use Rattle.std.proofs.lemmas.Result.{IfOk-weaker}
+use Rattle.gateway_loop.proofs.turns.Loop.end_turn.Goals as goal
+
+pub pass-requires : goal.pass-requires
+pass-requires g c = record { suits = rw c.in_ok-it.ensures.rules c.requires.suits }
+
+pub sweep-requires : goal.sweep-requires
+sweep-requires g c = record { suits = rw (c.in_ok-it-2.ensures.rules, c.in_ok-it.ensures.rules) c.requires.suits }
+
+pub see_to_journal-requires : goal.see_to_journal-requires
+see_to_journal-requires g c = record {
+  suits = rw (c.in_ok-it-3.ensures.rules, c.in_ok-it-2.ensures.rules, c.in_ok-it.ensures.rules) c.requires.suits;
+}
+
+pub returns : goal.returns
+returns g c =
+    let same : c.in_ok-it-3.it.gateway.world.rules ≡ c.args.self.gateway.world.rules =
+    c.in_ok-it-3.ensures.rules ∙ (c.in_ok-it-2.ensures.rules ∙ c.in_ok-it.ensures.rules) in
+    record { rules = IfOk-weaker c.see_to_journal.result _ _ (λ l e. e ∙ same) c.see_to_journal.ensures.rules }

@@ -1,0 +1,18 @@
+-- The rules stay, step by step.
+use Rattle.std.proofs.Common.{◌≡◌, ◌∙◌}
+use Rattle.std.proofs.lemmas.Result.{IfOk-weaker}
+use Rattle.gateway_loop.proofs.turns.Loop.serve_all.Goals as goal
+
+pub go_on-requires : goal.go_on-requires
+go_on-requires g c = record { suits = rw c.in_ok-it.ensures.rules c.requires.suits }
+
+pub end_turn-requires : goal.end_turn-requires
+end_turn-requires g c = record { suits = rw (c.in_ok-it-2.ensures.rules, c.in_ok-it.ensures.rules) c.requires.suits }
+
+pub returns-then-is_over : goal.returns-then-is_over
+returns-then-is_over g c = record { rules = c.in_ok-it-2.ensures.rules ∙ c.in_ok-it.ensures.rules }
+
+pub returns : goal.returns
+returns g c =
+    let same : c.in_ok-it-2.it.gateway.world.rules ≡ c.args.self.gateway.world.rules = c.in_ok-it-2.ensures.rules ∙ c.in_ok-it.ensures.rules in
+    record { rules = IfOk-weaker c.end_turn.result _ _ (λ l e. e ∙ same) c.end_turn.ensures.rules }
