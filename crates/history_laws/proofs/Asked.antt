@@ -1,5 +1,5 @@
 -- Each ask opens one exchange, joins one, is served, or does none of these, and each sending is for an ask or for a datagram.
-use Rattle.std.proofs.Common.{◌≡◌, ℕ, ◌<◌, ◌⊎◌, inl, inr, List, true, Option, Some, None, refl, sym, ap, subst, ◌∙◌}
+use Rattle.std.proofs.Common.{◌≡◌, ℕ, ◌<◌, ◌⊎◌, inl, inr, List, true, Option, Some, None, arith, refl, sym, ap, subst, ◌∙◌}
 use Rattle.coap_codec.specs.Spelling.{Content}
 use Rattle.uri_map.specs.declared.peer.Peer.{Peer}
 use Rattle.resp_cache.specs.Stored.{Stored, is_fresh}
@@ -18,7 +18,8 @@ use Rattle.history_laws.specs.Laws.{IsFirst, IsAnswer, OpensOne, JoinsOne, Serve
 use Rattle.history_laws.proofs.Basis.{grounds-of}
 use Rattle.history_laws.proofs.Places.{at-below, at-same}
 use Rattle.history_laws.proofs.Facts.{follows-at, at-before, length-before}
-use Rattle.history_laws.proofs.Sent.{begun-before, begun-below, begun-opening, opens-begun, asked-for, next-is, sent-for, sent-once}
+use Rattle.history_laws.proofs.Begun.{ask-behind}
+use Rattle.history_laws.proofs.Sent.{begun-before, begun-below, begun-opening, opens-begun, next-is, sent-for, sent-once}
 use Rattle.history_laws.proofs.Joining.{joins-is}
 use Rattle.history_laws.proofs.Resting.{none-some}
 use Rattle.history_laws.proofs.Confirmed.{owed-to}
@@ -222,19 +223,21 @@ ask-sent : (l : List Noted) (i t : ℕ) (p : Peer) (b : List ℕ) (w : Option �
     → at l i ≡ Some (noted t (Sends p b w) (First o m)) → IsAskSent l i p b
 ask-sent l i t p b w o m legal e =
     let it = sent-for l t o i p m legal (record { bytes = b; timeout = w; stands = e }) in
-    let ask = asked-for l o it.exchange legal it.opened in
+    let ask = ask-behind l o it.exchange legal it.opened in
     let asks = next-is _ it.exchange.request _ m.mid m.token m it.next in
     record {
-      ask = o;
+      ask = ask.number;
       conn = ask.conn;
       asked = ask.ask;
       request = it.exchange.request;
       message = m;
       moment = t;
       timeout = w;
+      opening = o;
       stands = e;
-      after = it.after;
-      asks = record { moment = it.exchange.since; note = ask.note; stands = ask.stands };
+      goes_back = ask.is;
+      after = let le = ask.not_later in let lt = it.after in omega (arith, le, lt);
+      asks = ask.asked;
       sense = ask.sense;
       peer = it.peer;
       block = asks.0;

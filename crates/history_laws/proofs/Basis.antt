@@ -1,7 +1,7 @@
 -- What an answer rests on: replies to the exchange that its ask reads.
 use Rattle.std.proofs.Common.{◌≡◌, ℕ, zero, suc, Bool, false, ◌<◌, inl, inr, List, [], ◌∷◌, ◌++◌, length, Option, Some, None, refl, sym, ap, subst, ◌∙◌, arith}
 use Rattle.std.specs.List.{Contains}
-use Rattle.std.proofs.lemmas.List.Elements.{Contains-append_left, Contains-append_right}
+use Rattle.std.proofs.lemmas.List.Elements.{Contains-append_right}
 use Rattle.coap_codec.specs.Spelling.{Content}
 use Rattle.uri_map.specs.declared.peer.Peer.{Peer}
 use Rattle.coap_codec.specs.declared.block.Block.{Block}
@@ -11,8 +11,8 @@ use Rattle.ask_model.specs.Views.{Ask}
 use Rattle.journal_book.specs.Entries.{Grounds, Live, Asks, Answers}
 use Rattle.history_laws.specs.Responses.{Response}
 use Rattle.history_laws.specs.Readings.{Noted, Note, at}
-use Rattle.history_laws.specs.Progress.{Reply, numbers, Ending, Whole, Reset, TimedOut}
-use Rattle.history_laws.specs.Exchanges.{Begun, begun, unless_renewed, kept, Turn, Nothing, Sent, Replied, Rejected, Expired, turn, replies_by, replies, End, replied_end, end_here, end_by, end_of}
+use Rattle.history_laws.specs.Progress.{Reply, numbers, Ending, Whole}
+use Rattle.history_laws.specs.Exchanges.{Begun, begun, kept, turn, replies, heard_for, End, end_here, end_by, end_of}
 use Rattle.history_laws.specs.Justified.{IsAsk, Ends as EndsAs, reads_in, reads, HasGrounds, Follows, Legal}
 use Rattle.history_laws.specs.Laws.{IsFirst, IsAnswer, IsReplyTo}
 use Rattle.history_laws.specs.Grounds.{RestsOn}
@@ -21,20 +21,13 @@ use Rattle.history_laws.proofs.Answering.{IsAnswer-old}
 use Rattle.history_laws.proofs.Replies.{IsReplyTo-keeps, replies-fit}
 use Rattle.history_laws.proofs.Sent.{next-is, sent-for}
 use Rattle.resp_cache.specs.Stored.{Stored}
-use Rattle.history_laws.proofs.Going.{GoesSo, goes-so, made-replied, unless-whole}
+use Rattle.history_laws.proofs.Beginnings.{heard-keeps, heard-push}
+use Rattle.history_laws.proofs.Going.{goes-so, made-turn}
 use Rattle.history_laws.proofs.Joining.{Alike, reader, reader-alike, reads-opened}
 use Rattle.history_laws.proofs.Places.{at-keeps, at-same}
 use Rattle.history_laws.proofs.Resting.{none-some, some-is}
 
--- a whole response is made of replies to its exchange
-made-has : (b : Option Begun) (place : Bool) (rs : List Reply) (r : Reply) (w : Response) (ws : List Reply) (x : Reply) → GoesSo b rs
-    → replied_end b place (rs ++ r ∷ []) ≡ Some (Whole w ws) → Contains ws x → Contains (rs ++ r ∷ []) x
-made-has b place rs r w ws x goes e h =
-    let it = (made-replied b place rs r w ws goes e).2 in
-    subst (λ (v : List Reply). Contains v x) (sym it.split) (Contains-append_right it.before ws x h)
-
-abbrev IsMade : Option End → ℕ → Response → List Reply → Type 0
-IsMade old e w ws = old ≡ Some (record { number = e; how = Whole w ws })
+-- a whole response is made of what was heard for its exchange
 
 abbrev ending : ℕ → Ending → End
 ending n how = record { number = n; how = how }
@@ -42,39 +35,26 @@ ending n how = record { number = n; how = how }
 end-how : (k how : Ending) (n e : ℕ) → Some (ending n k) ≡ Some (ending e how) → k ≡ how
 end-how k how n e f = ap (λ (x : End). x.how) (some-is _ _ f)
 
-made-step : (b : Option Begun) (v : Option Stored) (u : Turn) (n e : ℕ) (rs : List Reply) (old : Option End) (w : Response) (ws : List Reply) (x : Reply)
-    → (old ≡ None → GoesSo b rs)
-    → (IsMade old e w ws → Contains rs x) → IsMade (end_by (end_here b v n rs u) n old) e w ws → Contains ws x → Contains (replies_by n u rs) x
-made-step b v Nothing n e rs old w ws x goes ih h has = ih h
-made-step b v (Sent i) n e rs old w ws x goes ih h has = ih h
-made-step b v (Replied i m place) n e rs old w ws x goes ih h has = go (unless_renewed v rs r (replied_end b place (rs ++ r ∷ []))) refl old refl h
-  where
-    r : Reply
-    r = record { number = n; sending = i; message = m }
+stays-ended : (how : Option Ending) (n : ℕ) (f : End) → end_by how n (Some f) ≡ Some f
+stays-ended None n f = refl
+stays-ended (Some how) n f = refl
 
-    go : (how : Option Ending) → unless_renewed v rs r (replied_end b place (rs ++ r ∷ [])) ≡ how → (o : Option End) → old ≡ o → IsMade (end_by how n o) e w ws
-        → Contains (rs ++ r ∷ []) x
-    go None is o was h = Contains-append_left rs (r ∷ []) x (ih (was ∙ h))
-    go (Some how) is (Some f) was h = Contains-append_left rs (r ∷ []) x (ih (was ∙ h))
-    go (Some how) is None was h =
-        made-has b place rs r w ws x (goes was)
-        (unless-whole v rs r _ w ws (is ∙ ap (λ (v : Ending). Some v) (end-how how (Whole w ws) n e h))) has
-made-step b v Rejected n e rs None w ws x goes ih h has = absurd (other (end-how Reset (Whole w ws) n e h))
+pub made-of : (l : List Noted) (o e : ℕ) (w : Response) (ws : List Reply) (x : Reply) → Legal l → EndsAs l o e (Whole w ws) → Contains ws x → Contains (heard_for l o) x
+made-of [] o e w ws x legal h has = cc
+made-of (y ∷ older) o e w ws x legal h has =
+    step (λ f. made-of older o e w ws x legal.0 f has) (end_here (begun older o) (kept older o) (length older) (heard_for older o) (turn older o y)) refl (end_of older o) refl h
   where
-    other : Reset ≡ Whole w ws → ⊥
-    other f = cc
-made-step b v Rejected n e rs (Some f) w ws x goes ih h has = ih h
-made-step b v Expired n e rs None w ws x goes ih h has = absurd (other (end-how TimedOut (Whole w ws) n e h))
-  where
-    other : TimedOut ≡ Whole w ws → ⊥
-    other f = cc
-made-step b v Expired n e rs (Some f) w ws x goes ih h has = ih h
-
-pub made-of : (l : List Noted) (o e : ℕ) (w : Response) (ws : List Reply) (x : Reply) → EndsAs l o e (Whole w ws) → Contains ws x → Contains (replies l o) x
-made-of [] o e w ws x h has = cc
-made-of (y ∷ older) o e w ws x h has =
-    made-step (begun older o) (kept older o) (turn older o y) (length older) e (replies older o) (end_of older o) w ws x (goes-so older o)
-    (λ f. made-of older o e w ws x f has) h has
+    step : (EndsAs older o e (Whole w ws) → Contains (heard_for older o) x)
+        → (how : Option Ending) → end_here (begun older o) (kept older o) (length older) (heard_for older o) (turn older o y) ≡ how
+        → (old : Option End) → end_of older o ≡ old → end_by how (length older) old ≡ Some (record { number = e; how = Whole w ws })
+        → Contains (heard_for (y ∷ older) o) x
+    step ih how is (Some f) was h = heard-keeps y older o x legal.0 (ih (was ∙ (sym (stays-ended how (length older) f) ∙ h)))
+    step ih None is None was h = absurd (none-some _ h)
+    step ih (Some how) is None was h =
+        let m = made-turn (begun older o) (kept older o) (length older) (heard_for older o) (turn older o y) w ws (goes-so older o legal.0 was)
+        (is ∙ ap (λ (v : Ending). Some v) (end-how how (Whole w ws) (length older) e h)) in
+        subst (λ (rs : List Reply). Contains rs x) (sym (heard-push y older o m.sending m.message m.place m.exchange m.asked m.is))
+        (subst (λ (rs : List Reply). Contains rs x) (sym m.made.split) (Contains-append_right m.made.before ws x has))
 
 pub number-of : (rs : List Reply) (j : ℕ) → Contains (numbers rs) j → (r : Reply) × Contains rs r × (r.number ≡ j)
 number-of [] j h = absurd (omega (arith, h.1))

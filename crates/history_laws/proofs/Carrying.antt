@@ -16,7 +16,7 @@ use Rattle.ask_model.specs.Views.{Ask}
 use Rattle.journal_book.specs.Entries.{Mark, Deed, Opens, Asks, Sends, Hears, Passes, Answers, Shuts, Seals, Carries}
 use Rattle.journal_book.specs.Entries as D
 use Rattle.history_laws.specs.Responses.{Response}
-use Rattle.history_laws.specs.Readings.{Noted, Note, Begins, Renews, First, Recalls, Answered, carries, are_copies, at, before, noted}
+use Rattle.history_laws.specs.Readings.{Noted, Note, Begins, Renews, First, Recalls, Answered, carries, are_copies, at, before, noted, Says}
 use Rattle.history_laws.specs.Progress.{Reply, Renewed}
 use Rattle.history_laws.specs.Transmissions.{FirstSending, firsts}
 use Rattle.history_laws.specs.Exchanges.{Begun, begun, begun_by, opens_by, kept_by, kept}
@@ -132,6 +132,7 @@ begun-uncarried l o b c legal e f =
     never : (l : List Noted) (t c : ℕ) (a : Ask) (note : Note) (q : CoapRequest) → opens_by note ≡ Some q → CopiedNote l t D.Ground (D.Asked c a) note → ⊥
     never l t c a (Begins r) q e h = h
     never l t c a (Renews r s) q e h = h
+    never l t c a (Says m to notice) q e h = h
     never l t c a note q e h = cc
 
 -- An entry of the journal's own copies nothing.

@@ -1,5 +1,5 @@
 -- Each watch holds the number and the moment of what counted last for it: of the reply that registered it, or of a notification.
-use Rattle.std.proofs.Common.{◌≡◌, ℕ, zero, Bool, true, false, cond, not, leb, List, [], ◌∷◌, length, Option, Some, None, option_map, refl, sym, ap, subst, ◌∙◌, arith}
+use Rattle.std.proofs.Common.{◌≡◌, ℕ, zero, Bool, true, false, cond, not, ◌&&◌, leb, List, [], ◌∷◌, length, Option, Some, None, option_map, refl, sym, ap, subst, ◌∙◌, arith}
 use Rattle.std.specs.Prelude.{find}
 use Rattle.std.specs.List.{AllByRecursion, Contains}
 use Rattle.std.proofs.lemmas.List.Elements.{Contains-append_right}
@@ -11,12 +11,12 @@ use Rattle.observe_share.specs.declared.registration.Registration.{Registration}
 use Rattle.observe_share.specs.declared.notice.Notice as Shared
 use Rattle.observe_share.specs.declared.notice.Notice.TheVariants.{Update, Other}
 use Rattle.observe_share.specs.Watches.{counted, counts_for, first_changed, in_place}
-use Rattle.history_laws.specs.Readings.{Noted, Note, Begins, Renews, Says, Notice, Observation, Unobserved, Registers, Updates, Outdates, Cancels, noted, at}
+use Rattle.history_laws.specs.Readings.{Noted, Note, Begins, Renews, Says, Notice, Observation, Unobserved, Registers, Updates, Outdates, Starts, Cancels, noted, at}
 use Rattle.history_laws.specs.Progress.{Reply, Progress, Fetches, Gives, Ends}
 use Rattle.history_laws.specs.Transmissions.{FirstSending, first_at}
-use Rattle.history_laws.specs.Exchanges.{Begun, Turn, replies, replies_by, waits_for}
+use Rattle.history_laws.specs.Exchanges.{Begun, begun, Turn, replies, replies_by, waits_for}
 use Rattle.history_laws.specs.Observing.{Watch, as_first, asked_again, asked_by, counts, current_by, held_by, idles, is_current, is_for, is_under, notice_by, notice_in, number_or_zero, registered, registered_of, told_by, version, watch_for, watch_under, watches, watches_by}
-use Rattle.history_laws.specs.Hearing.{counts_as, is_such, is_this, observation_of}
+use Rattle.history_laws.specs.Hearing.{counts_as, has_room, is_read, is_such, is_this, observation_of, starts_for}
 use Rattle.history_laws.specs.Justified.{Legal}
 use Rattle.history_laws.specs.Laws.{IsReplyTo}
 use Rattle.history_laws.proofs.Elements.{all-filter, all-more}
@@ -163,6 +163,7 @@ module _ (l : List Noted) (t : ℕ) (p : Peer) (b : List ℕ) (m : Content) (i :
       by Registers e = all-join P (watches l) (registered l t i m (first_at l i)) a (new e)
       by Updates e = changed (ap counts e)
       by Outdates e = changed (ap counts e)
+      by (Starts k q) e = changed (ap counts e)
       by Cancels e = changed (ap counts e)
 
 held-step : (l : List Noted) (t : ℕ) (d : Deed) (note : Note) → Legal (noted t d note ∷ l) → AllByRecursion (HeldFrom (noted t d note ∷ l)) (watches l)
@@ -200,9 +201,17 @@ pub uncounted : (l : List Noted) (t : ℕ) (m : Content) (i : ℕ) (w : Watch) (
     → counts_for (notice_in m) t w.held ≡ false
 uncounted l t m i w f response sent unwaited under such e = by (counts_for (notice_in m) t w.held) (notice_in m) (as_first 0 0 m) (rw (response, sent, unwaited, under, such) at e)
   where
-    by : (b : Bool) (n : Shared.Notice) (u : Progress) → counts (cond b (counts_as n u) Unobserved) ≡ false → b ≡ false
+    starts : (v : Option Begun) → counts (starts_for l t w.held.opening v) ≡ true
+    starts None = refl
+    starts (Some b) = so (has_room l t b.request && not (is_read l b.request))
+      where
+        so : (v : Bool) → counts (cond v (Starts w.held.opening b.request) Outdates) ≡ true
+        so true = refl
+        so false = refl
+
+    by : (b : Bool) (n : Shared.Notice) (u : Progress) → counts (cond b (counts_as l t w.held n u) Unobserved) ≡ false → b ≡ false
     by false n u e = refl
     by true (Other v) u e = absurd (false≢true (sym e))
     by true (Update v) (Ends how) e = absurd (false≢true (sym e))
-    by true (Update v) (Fetches k pieces got) e = absurd (false≢true (sym e))
-    by true (Update v) (Gives k got) e = absurd (false≢true (sym e))
+    by true (Update v) (Fetches k pieces got) e = absurd (false≢true (sym e ∙ starts (begun l w.held.opening)))
+    by true (Update v) (Gives k got) e = absurd (false≢true (sym e ∙ starts (begun l w.held.opening)))

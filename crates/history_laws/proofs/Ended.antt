@@ -7,7 +7,7 @@ use Rattle.uri_map.specs.declared.peer.Peer.{Peer}
 use Rattle.journal_book.specs.Entries.{Sends}
 use Rattle.history_laws.specs.Readings.{Noted, First, noted}
 use Rattle.history_laws.specs.Progress.{Ending}
-use Rattle.history_laws.specs.Exchanges.{begun, turn, waits_for, replies, End, kept, end_here, end_of, goes_to, is_going}
+use Rattle.history_laws.specs.Exchanges.{begun, turn, waits_for, heard_for, End, kept, end_here, end_of, goes_to, is_going}
 use Rattle.history_laws.specs.Justified.{MayBeFirst, Ends, Legal}
 use Rattle.history_laws.specs.Laws.{IsFirst}
 use Rattle.history_laws.proofs.Members.{first-waits}
@@ -34,7 +34,7 @@ none-after-end (x ∷ older) t o i e p m how legal f h =
       | inl u ↦
           absurd (first-going older t o e p u.1.0 u.1.1 m how (may-be x older t o p u.1.0 u.1.1 m legal.2 u.1.2)
           (subst (λ (x : Noted). Ends (x ∷ older) o e how) u.1.2 h))
-      | inr u ↦ elim (end-old (end_here (begun older o) (kept older o) (length older) (replies older o) (turn older o x)) (length older) (end_of older o) _ h) [
+      | inr u ↦ elim (end-old (end_here (begun older o) (kept older o) (length older) (heard_for older o) (turn older o x)) (length older) (end_of older o) _ h) [
         | inl old ↦ none-after-end older t o i e p m how legal.0 u old
         | inr here ↦ subst (λ (e : ℕ). i < e) here.1 (IsFirst-below older t o i p m u)
       ]

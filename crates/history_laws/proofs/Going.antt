@@ -1,21 +1,29 @@
 -- How far an open exchange has come by its replies, and what one that ended with a whole response is made of.
-use Rattle.std.proofs.Common.{◌≡◌, ℕ, Bool, true, false, cond, eqb, ◌⊎◌, inl, inr, List, [], ◌∷◌, ◌++◌, length, Option, Some, None, refl, sym, ap, subst, ◌∙◌}
-use Rattle.std.specs.Prelude.{is_none}
+use Rattle.std.proofs.Common.{◌≡◌, ℕ, Bool, true, false, cond, eqb, ◌⊎◌, inl, inr, List, [], ◌∷◌, ◌++◌, length, Option, Some, None, Ok, Err, refl, sym, ap, subst, ◌∙◌, append-nil}
+use Rattle.std.specs.Prelude.{fold, is_none}
+use Rattle.std.proofs.lemmas.Bool.{and_parts}
 use Rattle.coap_codec.specs.Spelling.{Content}
-use Rattle.blockwise.specs.Downloads.{no_pieces}
+use Rattle.blockwise.specs.Downloads.{PiecesValue, Judged, judged, no_pieces, with_piece}
+use Rattle.blockwise.specs.declared.fault.BlockFault.TheVariants.{Changed, Size, Gap, TooLarge, Memory}
+use Rattle.blockwise.specs.declared.pieces.Step.TheVariants.{Next, Last}
 use Rattle.blockwise.specs.Uploads.{begun as begun_as}
 use Rattle.ask_model.specs.Requests.{CoapRequest}
 use Rattle.resp_cache.specs.Stored.{Stored}
-use Rattle.history_laws.specs.Responses.{Response, confirms}
+use Rattle.history_laws.specs.Responses.{Response, confirms, is_tellable}
 use Rattle.history_laws.specs.Readings.{Noted, at, before}
-use Rattle.history_laws.specs.Progress.{Reply, Ending, Whole, Renewed, NotUnderstood, Reset, TimedOut, Turned, Progress, Fetches, Gives, Ends, progress, ended_by}
-use Rattle.history_laws.specs.Exchanges.{Begun, begun, Turn, Nothing, Sent, Replied, Rejected, Expired, turn, replies_by, replies, replied_end, unless_renewed, kept, end_here, end_of}
-use Rattle.history_laws.specs.Justified.{Ends as EndsAs}
-use Rattle.history_laws.proofs.Fetching.{CameTo, came-first, came-to, IsMadeOf}
+use Rattle.history_laws.specs.Progress.{Reply, Ending, Whole, Renewed, NotUnderstood, Reset, TimedOut, Turned, Progress, Fetches, Gives, Ends, first_progress, fetched_by, fetched_whole, progress, step, ended_by}
+use Rattle.history_laws.specs.Exchanges.{Begun, begun, Turn, Nothing, Sent, Replied, Rejected, Expired, turn, replies, begins_with, heard_for, replied_end, unless_renewed, kept, end_here, end_of}
+use Rattle.history_laws.specs.Observing.{as_first, first_reply}
+use Rattle.history_laws.specs.Justified.{Ends as EndsAs, Legal}
+use Rattle.history_laws.proofs.Fetching.{CameTo, came-first, came-to, IsMadeOf, step-unrenewed}
 use Rattle.history_laws.proofs.Openings.{ends-first}
 use Rattle.history_laws.proofs.Queue.{going-before}
 use Rattle.history_laws.proofs.Resting.{none-is, none-some, some-is}
-use Rattle.history_laws.proofs.Sent.{begun-before, begun-keeps}
+use Rattle.history_laws.proofs.Beginnings.{ask-begins, heard-none, heard-push, heard-stays, notice-begins}
+use Rattle.history_laws.proofs.Facts.{legal-before}
+use Rattle.history_laws.proofs.Sent.{begun-before, begun-keeps, opened-for}
+use Rattle.history_laws.proofs.Started.{started}
+use Rattle.history_laws.proofs.Unbegun.{replies-none}
 
 -- It goes on.
 abbrev pub IsGoing : Progress → Type 0
@@ -85,34 +93,78 @@ unless-whole v rs r other w ws e = elim (unless-cases v rs r other (Some (Whole 
     apart : (s : Stored) → Whole w ws ≡ Renewed s r → ⊥
     apart s f = cc
 
--- One that gets no reply is as far as before, or was opened just now.
-still-goes : (x : Noted) (l : List Noted) (o : ℕ) → GoesSo (begun l o) (replies l o) → GoesSo (begun (x ∷ l) o) (replies l o)
-still-goes x l o h = by (begun l o) refl h
+-- What a notification opens goes on with the first piece.
+
+goes-alike : (b : Bool) (j : Judged) (p : PiecesValue) (got old : List Reply) → ((how : Ending) → cond b (fetched_by j 0 p old) (Ends NotUnderstood) ≡ Ends how → ⊥)
+    → IsGoing (cond b (fetched_by j 0 p got) (Ends NotUnderstood))
+goes-alike false j p got old h = h NotUnderstood refl
+goes-alike true (Err Changed) p got old h = tt
+goes-alike true (Err Size) p got old h = h NotUnderstood refl
+goes-alike true (Err Gap) p got old h = h NotUnderstood refl
+goes-alike true (Err TooLarge) p got old h = h NotUnderstood refl
+goes-alike true (Err Memory) p got old h = h NotUnderstood refl
+goes-alike true (Ok (Next block)) p got old h = tt
+goes-alike true (Ok Last) p got old h = h (fetched_whole old) refl
+
+notice-goes : (q : CoapRequest) (n i : ℕ) (m : Content) → eqb q.method 1 ≡ true → ((how : Ending) → as_first 0 0 m ≡ Ends how → ⊥)
+    → GoesSo (Some (record { since = n; request = q })) (first_reply n i m ∷ [])
+notice-goes q n i m get goes =
+    let r : Reply = first_reply n i m in
+    let first : progress q (r ∷ []) ≡ as_first n i m =
+    ap (λ (b : Bool). step (cond b (Fetches 0 no_pieces []) (Gives (begun_as (length q.body) 6) [])) r) get in
+    let on : IsGoing (as_first n i m) =
+    goes-alike (is_tellable m) (judged no_pieces m) (with_piece no_pieces m) (r ∷ []) (first_reply 0 0 m ∷ []) goes in (
+      subst IsGoing (sym first) on,
+      came-to q [] r (λ how f. going-not (progress q []) how (first-goes q) f) (came-first q),
+    )
+
+new-goes : (l : List Noted) (o : ℕ) (b : Begun) → Legal l → begun l o ≡ Some b → replies l o ≡ [] → GoesSo (Some b) (heard_for l o)
+new-goes l o b legal opened none = elim (opened-for l o b legal opened) [
+  | inl it ↦
+      subst (λ (rs : List Reply). GoesSo (Some b) rs) (sym (heard (ask-begins l o b legal it)))
+      (first-goes b.request, came-first b.request)
+  | inr it ↦
+      let s = started l o b legal it in
+      let get = (and_parts (eqb b.request.method 1) _ s.get).0 in
+      subst (λ (rs : List Reply). GoesSo (Some b) rs) (sym (heard (notice-begins l o b it)))
+      (notice-goes b.request o it.sending it.message get s.starts.goes)
+]
   where
-    new : (c : Option Begun) → replies l o ≡ [] → GoesSo c (replies l o)
-    new None none = none
-    new (Some b) none = subst (λ (rs : List Reply). GoesSo (Some b) rs) (sym none) (first-goes b.request, came-first b.request)
+    heard : {bs : List Reply} → begins_with l o ≡ bs → heard_for l o ≡ bs
+    heard {bs} e = ap (λ (rs : List Reply). begins_with l o ++ rs) none ∙ (append-nil (begins_with l o) ∙ e)
 
-    by : (b : Option Begun) → begun l o ≡ b → GoesSo b (replies l o) → GoesSo (begun (x ∷ l) o) (replies l o)
-    by None is h = new (begun (x ∷ l) o) h
-    by (Some b) is h = subst (λ (c : Option Begun). GoesSo c (replies l o)) (sym (begun-keeps x l o b is)) h
+-- One that gets no reply is as far as before, or was opened just now.
+still-goes : (x : Noted) (l : List Noted) (o : ℕ) → Legal (x ∷ l) → replies (x ∷ l) o ≡ replies l o → GoesSo (begun l o) (heard_for l o)
+    → GoesSo (begun (x ∷ l) o) (heard_for (x ∷ l) o)
+still-goes x l o legal same h = by (begun l o) refl h
+  where
+    new : begun l o ≡ None → (c : Option Begun) → begun (x ∷ l) o ≡ c → GoesSo c (heard_for (x ∷ l) o)
+    new none None is = heard-none (x ∷ l) o legal is
+    new none (Some b) is = new-goes (x ∷ l) o b legal is (same ∙ (replies-none l o legal.0 none).1)
 
-goes-step : (x : Noted) (l : List Noted) (o : ℕ) → GoesSo (begun l o) (replies l o) → (u : Turn) → turn l o x ≡ u
-    → end_here (begun l o) (kept l o) (length l) (replies l o) u ≡ None → GoesSo (begun (x ∷ l) o) (replies_by (length l) u (replies l o))
-goes-step x l o h Nothing is e = still-goes x l o h
-goes-step x l o h (Sent i) is e = still-goes x l o h
-goes-step x l o h Rejected is e = absurd (none-is Reset e)
-goes-step x l o h Expired is e = absurd (none-is TimedOut e)
-goes-step x l o h (Replied i m place) is e =
+    by : (b : Option Begun) → begun l o ≡ b → GoesSo b (heard_for l o) → GoesSo (begun (x ∷ l) o) (heard_for (x ∷ l) o)
+    by None is h = new is (begun (x ∷ l) o) refl
+    by (Some b) is h =
+        subst (λ (c : Option Begun). GoesSo c (heard_for (x ∷ l) o)) (sym (begun-keeps x l o b is))
+        (subst (λ (rs : List Reply). GoesSo (Some b) rs) (sym (heard-stays x l o b is same)) h)
+
+goes-step : (x : Noted) (l : List Noted) (o : ℕ) → Legal (x ∷ l) → GoesSo (begun l o) (heard_for l o) → (u : Turn) → turn l o x ≡ u
+    → end_here (begun l o) (kept l o) (length l) (heard_for l o) u ≡ None → GoesSo (begun (x ∷ l) o) (heard_for (x ∷ l) o)
+goes-step x l o legal h Nothing is e = still-goes x l o legal (rw (is) refl) h
+goes-step x l o legal h (Sent i) is e = still-goes x l o legal (rw (is) refl) h
+goes-step x l o legal h Rejected is e = absurd (none-is Reset e)
+goes-step x l o legal h Expired is e = absurd (none-is TimedOut e)
+goes-step x l o legal h (Replied i m place) is e =
     let r : Reply = record { number = length l; sending = i; message = m } in
-    let it = replied-goes (begun l o) place (replies l o) r h (unless-none (kept l o) (replies l o) r _ e) in
-    subst (λ (c : Option Begun). GoesSo c (replies l o ++ record { number = length l; sending = i; message = m } ∷ [])) (sym (begun-keeps x l o it.0 it.1)) it.2
+    let it = replied-goes (begun l o) place (heard_for l o) r h (unless-none (kept l o) (heard_for l o) r _ e) in
+    subst (λ (c : Option Begun). GoesSo c (heard_for (x ∷ l) o)) (sym (begun-keeps x l o it.0 it.1))
+    (subst (λ (rs : List Reply). GoesSo (Some it.0) rs) (sym (heard-push x l o i m place it.0 it.1 is)) it.2)
 
-pub goes-so : (l : List Noted) (o : ℕ) → end_of l o ≡ None → GoesSo (begun l o) (replies l o)
-goes-so [] o e = refl
-goes-so (x ∷ older) o e =
+pub goes-so : (l : List Noted) (o : ℕ) → Legal l → end_of l o ≡ None → GoesSo (begun l o) (heard_for l o)
+goes-so [] o legal e = refl
+goes-so (x ∷ older) o legal e =
     let was = going-before x older o (ap is_none e) in
-    goes-step x older o (goes-so older o was.1) (turn older o x) refl was.0
+    goes-step x older o legal (goes-so older o legal.0 was.1) (turn older o x) refl was.0
 
 -- So a whole response is made.
 pub made-replied : (b : Option Begun) (place : Bool) (rs : List Reply) (r : Reply) (w : Response) (ws : List Reply) → GoesSo b rs
@@ -164,13 +216,13 @@ pub record EndsWhole (l : List Noted) (o e : ℕ) (w : Response) (ws : List Repl
   pub entry : Noted
   pub stands : at l e ≡ Some entry
   pub going : end_of (before l e) o ≡ None
-  pub turned : MadeTurn (begun (before l e) o) e (replies (before l e) o) (turn (before l e) o entry) w ws
+  pub turned : MadeTurn (begun (before l e) o) e (heard_for (before l e) o) (turn (before l e) o entry) w ws
   pub opened : begun l o ≡ Some turned.exchange
 
-pub ends-whole : (l : List Noted) (o e : ℕ) (w : Response) (ws : List Reply) → EndsAs l o e (Whole w ws) → EndsWhole l o e w ws
-ends-whole l o e w ws h =
+pub ends-whole : (l : List Noted) (o e : ℕ) (w : Response) (ws : List Reply) → Legal l → EndsAs l o e (Whole w ws) → EndsWhole l o e w ws
+ends-whole l o e w ws legal h =
     let it = ends-first l o e (Whole w ws) h in
-    let m = made-turn (begun (before l e) o) (kept (before l e) o) e (replies (before l e) o) (turn (before l e) o it.0) w ws (goes-so (before l e) o it.2) it.3 in
+    let m = made-turn (begun (before l e) o) (kept (before l e) o) e (heard_for (before l e) o) (turn (before l e) o it.0) w ws (goes-so (before l e) o (legal-before l e legal) it.2) it.3 in
     record {
       entry = it.0;
       stands = it.1;
@@ -180,15 +232,25 @@ ends-whole l o e w ws h =
     }
 
 -- Of what it would do otherwise nothing is a renewal.
-unrenewed-by : (b : Option Begun) (place : Bool) (rs : List Reply) (r u : Reply) (s : Stored) → GoesSo b rs
-    → replied_end b place (rs ++ r ∷ []) ≡ Some (Renewed s u) → ⊥
-unrenewed-by None place rs r u s h e = other (some-is _ _ e)
+abbrev Unrenewed : Progress → Type 0
+Unrenewed u = (s : Stored) (x : Reply) → u ≡ Ends (Renewed s x) → ⊥
+
+step-stays : (u : Progress) (r : Reply) → Unrenewed u → Unrenewed (step u r)
+step-stays (Ends how) r h s x e = h s x e
+step-stays (Fetches k p got) r h s x e = step-unrenewed (Fetches k p got) r s x (λ how f. going-not (Fetches k p got) how tt f) e
+step-stays (Gives u got) r h s x e = step-unrenewed (Gives u got) r s x (λ how f. going-not (Gives u got) how tt f) e
+
+never-renewed : (rs : List Reply) (u : Progress) → Unrenewed u → Unrenewed (fold step u rs)
+never-renewed [] u h = h
+never-renewed (r ∷ rs) u h = never-renewed rs (step u r) (step-stays u r h)
+
+unrenewed-by : (b : Option Begun) (place : Bool) (rs : List Reply) (u : Reply) (s : Stored) → replied_end b place rs ≡ Some (Renewed s u) → ⊥
+unrenewed-by None place rs u s e = other (some-is _ _ e)
   where
     other : NotUnderstood ≡ Renewed s u → ⊥
     other f = cc
-unrenewed-by (Some b) place rs r u s h e =
-    subst (CameTo b.request (rs ++ r ∷ [])) (by place (progress b.request (rs ++ r ∷ [])) e)
-    (came-to b.request rs r (λ how f. going-not (progress b.request rs) how h.0 f) h.1)
+unrenewed-by (Some b) place rs u s e =
+    never-renewed rs (first_progress b.request) (λ t x f. going-not (progress b.request []) (Renewed t x) (first-goes b.request) f) s u (by place (progress b.request rs) e)
   where
     other : Turned ≡ Renewed s u → ⊥
     other f = cc
@@ -220,11 +282,11 @@ renewed-same s t r u e = (stored (some-is _ _ e), reply (some-is _ _ e))
     reply : Renewed s r ≡ Renewed t u → r ≡ u
     reply f = cc
 
-pub renewed-turn : (b : Option Begun) (v : Option Stored) (n : ℕ) (rs : List Reply) (u : Turn) (s : Stored) (r : Reply) → GoesSo b rs
+pub renewed-turn : (b : Option Begun) (v : Option Stored) (n : ℕ) (rs : List Reply) (u : Turn) (s : Stored) (r : Reply)
     → end_here b v n rs u ≡ Some (Renewed s r) → RenewedTurn v n rs u s r
-renewed-turn b v n rs (Replied i m place) s r h e =
+renewed-turn b v n rs (Replied i m place) s r e =
     elim (unless-cases v rs x (replied_end b place (rs ++ x ∷ [])) (Some (Renewed s r)) e) [
-      | inl w ↦ absurd (unrenewed-by b place rs x r s h w)
+      | inl w ↦ absurd (unrenewed-by b place (rs ++ x ∷ []) r s w)
       | inr it ↦
           let same = renewed-same s it.stored r x it.is in
           record {
@@ -242,17 +304,17 @@ renewed-turn b v n rs (Replied i m place) s r h e =
   where
     x : Reply
     x = record { number = n; sending = i; message = m }
-renewed-turn b v n rs Rejected s r h e = absurd (cc (e))
-renewed-turn b v n rs Expired s r h e = absurd (cc (e))
-renewed-turn b v n rs Nothing s r h e = absurd (cc (e))
-renewed-turn b v n rs (Sent i) s r h e = absurd (cc (e))
+renewed-turn b v n rs Rejected s r e = absurd (cc (e))
+renewed-turn b v n rs Expired s r e = absurd (cc (e))
+renewed-turn b v n rs Nothing s r e = absurd (cc (e))
+renewed-turn b v n rs (Sent i) s r e = absurd (cc (e))
 
 -- In its last entry what an exchange keeps was renewed, by the first reply to it.
 pub record EndsRenewed (l : List Noted) (o e : ℕ) (s : Stored) (r : Reply) : Type 0 where
   pub entry : Noted
   pub stands : at l e ≡ Some entry
   pub going : end_of (before l e) o ≡ None
-  pub turned : RenewedTurn (kept (before l e) o) e (replies (before l e) o) (turn (before l e) o entry) s r
+  pub turned : RenewedTurn (kept (before l e) o) e (heard_for (before l e) o) (turn (before l e) o entry) s r
 
 pub ends-renewed : (l : List Noted) (o e : ℕ) (s : Stored) (r : Reply) → EndsAs l o e (Renewed s r) → EndsRenewed l o e s r
 ends-renewed l o e s r h =
@@ -261,5 +323,5 @@ ends-renewed l o e s r h =
       entry = it.0;
       stands = it.1;
       going = it.2;
-      turned = renewed-turn (begun (before l e) o) (kept (before l e) o) e (replies (before l e) o) (turn (before l e) o it.0) s r (goes-so (before l e) o it.2) it.3;
+      turned = renewed-turn (begun (before l e) o) (kept (before l e) o) e (heard_for (before l e) o) (turn (before l e) o it.0) s r it.3;
     }

@@ -14,7 +14,9 @@ use Rattle.ask_model.specs.Views.{Ask}
 use Rattle.ask_model.proofs.CallerLemmas.{asks-alike, asks-onward, same-place}
 use Rattle.journal_book.specs.Entries.{Deed, Opens, Asks, Sends, Hears, Passes, Answers, Shuts, Seals, Mark, Carries}
 use Rattle.journal_book.specs.Entries as D
-use Rattle.history_laws.specs.Readings.{Noted, Note, Begins, Renews, Joins, at, before, noted}
+use Rattle.coap_codec.specs.Spelling.{Content}
+use Rattle.resp_cache.specs.Stored.{Stored}
+use Rattle.history_laws.specs.Readings.{Noted, Note, Begins, Renews, Joins, Says, Notice, at, before, noted}
 use Rattle.history_laws.specs.Exchanges.{Begun, begun, opens_by, openings, End, end_of, is_going, open_exchanges}
 use Rattle.history_laws.specs.Joining.{writes_at, outruns, outrun, asks_the_same, is_joinable, joins}
 use Rattle.history_laws.specs.Justified.{IsAsk, reads_by, reads_in, reads, AskNote, Follows, Legal, CopiedNote}
@@ -26,7 +28,8 @@ use Rattle.history_laws.proofs.Openings.{open-exactly}
 use Rattle.history_laws.proofs.Outrunning.{end-before, end-since, ended-begun, is-outrun, not-true, outrun-since}
 use Rattle.history_laws.proofs.Places.{at-below, at-old}
 use Rattle.history_laws.proofs.Resting.{none-some, some-is}
-use Rattle.history_laws.proofs.Sent.{asked-for, begun-before, begun-below, begun-opening, opens-begun, opens-so}
+use Rattle.history_laws.proofs.Sent.{AskedFor, asked-by, begins-ask, begun-before, begun-below, begun-opening, opened-for, opens-begun, opens-so, StartedFor}
+use Rattle.history_laws.proofs.Started.{starts-unread}
 
 -- An exchange that a GET may be answered from: for an equal one, and outrun by no write.
 pub record Shared (l : List Noted) (q : CoapRequest) (o : ℕ) : Type 0 where
@@ -103,20 +106,39 @@ open-early l k o b lt is earlier going =
     by (Some e) f = absurd (none-some e (sym going ∙ end-since l k o e f))
 
 -- One exchange at most may be joined: the later one of two wouldn't have been opened.
-later-joined : (l : List Noted) (q : CoapRequest) (a b : ℕ) → Legal l → Joined l q a → Joined l q b → a < b → ⊥
-later-joined l q a b legal first second lt =
-    let r : CoapRequest = second.exchange.request in
-    let it = asked-for l b second.exchange legal second.opened in
-    let below = begun-below l b second.exchange second.opened in
-    let may = opens-so (before l b) second.exchange.since it.ask.sense it.note r it.opens (follows-at l b _ legal it.stands).3 in
-    none-joined (before l b) r a may.alone (record {
-      is_open = open-early l b a first.exchange below first.opened lt ((open-exactly l a).0 first.is_open).1;
-      exchange = first.exchange;
-      opened = begun-early l b a first.exchange below first.opened lt;
-      same = asks-onward q r first.exchange.request second.same first.same;
-      fresh = not-true (outrun (before l b) (asked_place r) a)
-          (λ e. false≢true (sym first.fresh ∙ subst (λ (p : Place). outrun l p a ≡ true) (sym (same-place q r second.same)) (outrun-since l b (asked_place r) a e)));
-    })
+module _ (l : List Noted) (q : CoapRequest) (a b : ℕ) (legal : Legal l) (first : Joined l q a) (second : Joined l q b) (lt : a < b) where
+  abbrev r : CoapRequest
+  r = second.exchange.request
+
+  below : b < length l
+  below = begun-below l b second.exchange second.opened
+
+  joined-before : Joined (before l b) r a
+  joined-before = record {
+    is_open = open-early l b a first.exchange below first.opened lt ((open-exactly l a).0 first.is_open).1;
+    exchange = first.exchange;
+    opened = begun-early l b a first.exchange below first.opened lt;
+    same = asks-onward q r first.exchange.request second.same first.same;
+    fresh = not-true (outrun (before l b) (asked_place r) a)
+        (λ e. false≢true (sym first.fresh ∙ subst (λ (p : Place). outrun l p a ≡ true) (sym (same-place q r second.same)) (outrun-since l b (asked_place r) a e)));
+  }
+
+  -- of an ask
+  asked-joined : AskedFor l b second.exchange → ⊥
+  asked-joined it =
+      let may = opens-so (before l b) second.exchange.since it.ask.sense it.note r it.opens (follows-at l b _ legal it.stands).3 in
+      none-joined (before l b) r a may.alone joined-before
+
+  -- or of a notification: no exchange of an equal GET is open then
+  notice-joined : StartedFor l b second.exchange → ⊥
+  notice-joined it =
+      let unread = starts-unread (before l b) second.exchange.since it.message it.sending it.ask r it.said in
+      let here = joined-before in
+      let same : asks_the_same r (begun (before l b) a) ≡ true = subst (λ (v : Option Begun). asks_the_same r v ≡ true) (sym here.opened) here.same in
+      false≢true (sym unread ∙ any-of (λ (o : ℕ). asks_the_same r (begun (before l b) o)) (open_exchanges (before l b)) a here.is_open same)
+
+  later-joined : ⊥
+  later-joined = elim (opened-for l b second.exchange legal second.opened) [ inl it ↦ asked-joined it | inr it ↦ notice-joined it ]
 
 pub one-joinable : OneJoinable
 one-joinable l q a b legal first may second might =
@@ -190,12 +212,12 @@ pub record Reader (l : List Noted) (k o : ℕ) : Type 0 where
   pub opened : begun l o ≡ Some exchange
   pub way : ((o ≡ k) × (request ≡ exchange.request)) ⊎ ReadsAlong l k o request exchange
 
-reader-own : (l : List Noted) (k t : ℕ) (d : Deed) (note : Note) (q : CoapRequest) → Legal l → at l k ≡ Some (noted t d note) → opens_by note ≡ Some q
+reader-own : (l : List Noted) (k t c : ℕ) (a : Ask) (note : Note) (q : CoapRequest) → Legal l → at l k ≡ Some (noted t (Asks c a) note) → opens_by note ≡ Some q
     → Reader l k k
-reader-own l k t d note q legal is opens =
+reader-own l k t c a note q legal is opens =
     let b : Begun = record { since = t; request = q } in
-    let made = opens-begun l k t d note q opens is in
-    let it = asked-for l k b legal made in
+    let made = opens-begun l k t (Asks c a) note q opens is in
+    let it = asked-by l k c a note b legal is opens in
     record {
       conn = it.conn;
       ask = it.ask;
@@ -207,10 +229,23 @@ reader-own l k t d note q legal is opens =
       way = inl (refl, refl);
     }
 
+begins-unsaid : (q : CoapRequest) (m : Content) (to : Option ℕ) (notice : Notice) → Begins q ≡ Says m to notice → ⊥
+begins-unsaid q m to notice e = cc
+
+renews-unsaid : (q : CoapRequest) (s : Stored) (m : Content) (to : Option ℕ) (notice : Notice) → Renews q s ≡ Says m to notice → ⊥
+renews-unsaid q s m to notice e = cc
+
+reader-opens : (l : List Noted) (k t : ℕ) (d : Deed) (note : Note) (q : CoapRequest) → Legal l → at l k ≡ Some (noted t d note) → opens_by note ≡ Some q
+    → ((m : Content) (to : Option ℕ) (notice : Notice) → note ≡ Says m to notice → ⊥) → Reader l k k
+reader-opens l k t d note q legal is opens unsaid = elim (begins-ask (before l k) t d note q opens (follows-at l k _ legal is)) [
+  | inl it ↦ reader-own l k t it.0 it.1 note q legal (subst (λ (d : Deed). at l k ≡ Some (noted t d note)) it.2 is) opens
+  | inr it ↦ absurd (unsaid it.message (Some it.sending) it.notice it.is)
+]
+
 reader-by : (l : List Noted) (k o t : ℕ) (d : Deed) (note : Note) → Legal l → at l k ≡ Some (noted t d note) → reads_by k note ≡ Some o
     → Reader l k o
-reader-by l k o t d (Begins q) legal is e = subst (Reader l k) (some-is k o e) (reader-own l k t d (Begins q) q legal is refl)
-reader-by l k o t d (Renews q s) legal is e = subst (Reader l k) (some-is k o e) (reader-own l k t d (Renews q s) q legal is refl)
+reader-by l k o t d (Begins q) legal is e = subst (Reader l k) (some-is k o e) (reader-opens l k t d (Begins q) q legal is refl (begins-unsaid q))
+reader-by l k o t d (Renews q s) legal is e = subst (Reader l k) (some-is k o e) (reader-opens l k t d (Renews q s) q legal is refl (renews-unsaid q s))
 reader-by l k o t d (Joins p) legal is e =
     let it = joins-ask (before l k) t d p (follows-at l k _ legal is) in
     let h = joins-is (before l k) it.2 p it.5 in
@@ -261,7 +296,7 @@ reader-alike l k o it = by it.request it.exchange it.way
     by q b (inr along) = asks-alike q b.request along.same
 
 -- the end of a write to the place of a request is one there
-writes-there : (l : List Noted) (e : ℕ) (q : CoapRequest) → (write : IsWriteEnd l q.peer q.target.path e) → writes_at (asked_place q) write.write ≡ true
+pub writes-there : (l : List Noted) (e : ℕ) (q : CoapRequest) → (write : IsWriteEnd l q.peer q.target.path e) → writes_at (asked_place q) write.write ≡ true
 writes-there l e q write =
     let r : CoapRequest = write.write.request in
     let made : Peer → List (List ℕ) → Place = λ p path. record { peer = p; path = path } in

@@ -18,7 +18,7 @@ use Rattle.history_laws.proofs.Facts.{at-before, eqb-itself, eqb-same, follows-a
 use Rattle.history_laws.proofs.Copying.{at-still}
 use Rattle.history_laws.proofs.Places.{at-below, at-keeps, at-new, at-old}
 use Rattle.history_laws.proofs.Resting.{none-some, some-is}
-use Rattle.history_laws.proofs.Sent.{AskedFor, asked-for}
+use Rattle.history_laws.proofs.Sent.{AskedFor, opened-for}
 
 -- the note that says so
 pub record Keeps (l : List Noted) (o : ℕ) (s : Stored) : Type 0 where
@@ -86,12 +86,9 @@ keeps-note : (note : Note) (q : CoapRequest) (s : Stored) → opens_by note ≡ 
 keeps-note (Renews r u) q s e f = rw (some-is r q e, some-is u s f) refl
 keeps-note note q s e f = cc
 
-pub renews-for : (l : List Noted) (o : ℕ) (b : Begun) (s : Stored) → Legal l → begun l o ≡ Some b → kept l o ≡ Some s → RenewsFor l o b s
-renews-for l o b s legal opened keeps = by it.note it.stands (keeps-note it.note b.request s it.opens (sym (at-kept l o _ it.stands) ∙ keeps))
+renews-asked : (l : List Noted) (o : ℕ) (b : Begun) (s : Stored) → Legal l → kept l o ≡ Some s → AskedFor l o b → RenewsFor l o b s
+renews-asked l o b s legal keeps it = by it.note it.stands (keeps-note it.note b.request s it.opens (sym (at-kept l o _ it.stands) ∙ keeps))
   where
-    it : AskedFor l o b
-    it = asked-for l o b legal opened
-
     the-tag : (v : Option (List ℕ)) → is_some v ≡ true → (tag : List ℕ) × (v ≡ Some tag)
     the-tag None e = cc
     the-tag (Some tag) e = (tag, refl)
@@ -127,3 +124,9 @@ renews-for l o b s legal opened keeps = by it.note it.stands (keeps-note it.note
         subst (λ (n : Note). at l o ≡ Some (noted b.since (Asks it.conn it.ask) n)) same stands in
         let may : Follows (before l o) b.since (Asks it.conn it.ask) (Renews b.request s) = follows-at l o _ legal here in
         made here (subst (λ (v : Sense). AskNote (before l o) b.since v (Renews b.request s)) it.sense may.3) may.4
+
+pub renews-for : (l : List Noted) (o : ℕ) (b : Begun) (s : Stored) → Legal l → begun l o ≡ Some b → kept l o ≡ Some s → RenewsFor l o b s
+renews-for l o b s legal opened keeps = elim (opened-for l o b legal opened) [
+  | inl it ↦ renews-asked l o b s legal keeps it
+  | inr it ↦ absurd (none-some s (sym (at-kept l o _ it.stands) ∙ keeps))
+]

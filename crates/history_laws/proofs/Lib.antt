@@ -23,6 +23,12 @@ mod Outrunning
 mod Joining
 mod Rising
 mod Queue
+mod Issued
+mod Beginnings
+mod Quiet
+mod Started
+mod Standing
+mod Begun
 mod Ended
 mod Going
 mod Basis
@@ -49,7 +55,9 @@ mod Carried
 mod Readers
 mod Store
 mod Renewed
+mod RenewedInPieces
 mod Pieces
 mod Uploads
 mod Parts
 mod Watched
+mod Updated

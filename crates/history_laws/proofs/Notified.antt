@@ -19,84 +19,25 @@ use Rattle.history_laws.specs.Progress.{Reply, Whole, NotUnderstood, Ends, fetch
 use Rattle.history_laws.specs.Transmissions.{FirstSending, first_at, firsts}
 use Rattle.history_laws.specs.Exchanges.{waits_for, Replied, turn}
 use Rattle.history_laws.specs.Observing.{Watch, as_first, counts, first_reply, is_under, notice_in, watch_under, watches}
-use Rattle.history_laws.specs.Hearing.{counts_as, is_such, is_this, may_register, notified, observation_by, observation_of, registers, answers}
+use Rattle.history_laws.specs.Hearing.{is_such, is_this, observation_of, answers}
 use Rattle.history_laws.specs.Storing.{ComesSo, EndsSo, UpdatesSo}
 use Rattle.history_laws.specs.Justified.{Legal, MaySay}
 use Rattle.history_laws.specs.Hearing.{IsReplyKind}
 use Rattle.history_laws.specs.Laws.{IsFirst, IsReplyTo}
-use Rattle.history_laws.proofs.Basis.{made-of}
 use Rattle.history_laws.proofs.Copying.{before-twice}
-use Rattle.history_laws.proofs.Elements.{contains-none, find-some, first-or-later}
+use Rattle.history_laws.proofs.Elements.{find-some}
 use Rattle.history_laws.proofs.Facts.{at-before, eqb-same, follows-at, legal-before, length-before, eqb-itself}
 use Rattle.history_laws.proofs.Fetching.{CameTo, came-first, came-to, IsMadeOf}
 use Rattle.history_laws.proofs.Firsts.{first-found, first-is, firsts-tokens}
 use Rattle.history_laws.proofs.Outrunning.{end-since}
 use Rattle.history_laws.proofs.Places.{at-below}
 use Rattle.history_laws.proofs.Replies.{found, replies-fit}
+use Rattle.history_laws.proofs.Started.{counted}
 use Rattle.history_laws.proofs.Registering.{said, says-to}
 use Rattle.history_laws.proofs.Watching.{not-rst, watch-fits, WatchFits}
 use Rattle.history_laws.proofs.Turns.{turn-replied, waits-first}
 use Rattle.history_laws.proofs.Going.{ends-whole}
 use Rattle.history_laws.proofs.Resting.{some-is}
-
--- A notification that counts came under the token of a watch, and is newer than what counted before.
-pub record IsCounted (l : List Noted) (t : ℕ) (m : Content) (i : ℕ) (o : Observation) : Type 0 where
-  pub response : leb 32 m.code ≡ true
-  pub first : FirstSending
-  pub sent : first_at l i ≡ Some first
-  pub unwaited : is_this i (waits_for l first.opening) ≡ false
-  pub watch : Watch
-  pub under : watch_under l m.token ≡ Some watch
-  pub such : is_such m.kind ≡ true
-  pub newer : counts_for (notice_in m) t watch.held ≡ true
-  pub is : counts_as (notice_in m) (as_first 0 0 m) ≡ o
-
-pub counted : (l : List Noted) (t : ℕ) (m : Content) (i : ℕ) (o : Observation) → counts o ≡ true → observation_of l t m (Some i) ≡ o
-    → IsCounted l t m i o
-counted l t m i o c e = by (leb 32 m.code) refl (first_at l i) refl e
-  where
-    no : Unobserved ≡ o → ⊥
-    no e = false≢true (subst (λ (v : Observation). counts v ≡ true) (sym e) c)
-
-    unregistered : (b : Bool) → registers b ≡ o → ⊥
-    unregistered true e = false≢true (subst (λ (v : Observation). counts v ≡ true) (sym e) c)
-    unregistered false e = no e
-
-    so : leb 32 m.code ≡ true → (f : FirstSending) → first_at l i ≡ Some f → is_this i (waits_for l f.opening) ≡ false
-        → (w : Watch) → watch_under l m.token ≡ Some w
-        → (b : Bool) → (is_such m.kind && counts_for (notice_in m) t w.held) ≡ b
-        → cond b (counts_as (notice_in m) (as_first 0 0 m)) Unobserved ≡ o → IsCounted l t m i o
-    so response f sent unwaited w under false is e = absurd (no e)
-    so response f sent unwaited w under true is e =
-        let both = and_parts (is_such m.kind) (counts_for (notice_in m) t w.held) is in
-        record {
-          response = response;
-          first = f;
-          sent = sent;
-          unwaited = unwaited;
-          watch = w;
-          under = under;
-          such = both.0;
-          newer = both.1;
-          is = e;
-        }
-
-    found-so : leb 32 m.code ≡ true → (f : FirstSending) → first_at l i ≡ Some f → is_this i (waits_for l f.opening) ≡ false
-        → (w : Option Watch) → watch_under l m.token ≡ w → notified t m w ≡ o → IsCounted l t m i o
-    found-so response f sent unwaited None under e = absurd (no e)
-    found-so response f sent unwaited (Some w) under e =
-        so response f sent unwaited w under (is_such m.kind && counts_for (notice_in m) t w.held) refl e
-
-    sent-so : leb 32 m.code ≡ true → (f : FirstSending) → first_at l i ≡ Some f → (b : Bool) → is_this i (waits_for l f.opening) ≡ b
-        → cond b (registers (may_register l f.opening m)) (notified t m (watch_under l m.token)) ≡ o → IsCounted l t m i o
-    sent-so response f sent true is e = absurd (unregistered (may_register l f.opening m) e)
-    sent-so response f sent false is e = found-so response f sent is (watch_under l m.token) refl e
-
-    by : (b : Bool) → leb 32 m.code ≡ b → (f : Option FirstSending) → first_at l i ≡ f → cond b (observation_by l t m i f) Unobserved ≡ o
-        → IsCounted l t m i o
-    by false response f sent e = absurd (no e)
-    by true response None sent e = absurd (no e)
-    by true response (Some f) sent e = sent-so response f sent (is_this i (waits_for l f.opening)) refl e
 
 -- A first sending is listed where it is found.
 first-contained : (l : List Noted) (i : ℕ) (f : FirstSending) → first_at l i ≡ Some f → Contains (firsts l) f × (f.number ≡ i)
@@ -277,7 +218,7 @@ news-unreplied l e w o i m place x legal n stands turned =
 -- So no entry is an end and an update, and it is one update.
 pub never-both : (l : List Noted) (o p e : ℕ) (w v : Response) (rs ts : List Reply) → Legal l → EndsSo l o e w rs → UpdatesSo l p e v ts → ⊥
 never-both l o p e w v rs ts legal a u =
-    let it = ends-whole l o e w rs a.ended in
+    let it = ends-whole l o e w rs legal a.ended in
     news-unreplied l e u.watch o it.turned.sending it.turned.message it.turned.place it.entry legal (update-news l p e v ts u) it.stands it.turned.is
 
 pub one-update : (l : List Noted) (o p e : ℕ) (w v : Response) (rs ts : List Reply) → UpdatesSo l o e w rs → UpdatesSo l p e v ts
@@ -340,16 +281,6 @@ first-response q n i m w rs get e =
     goes : (b : Bool) (how : Ending) → cond b (Fetches 0 no_pieces []) (Gives (begun (length q.body) 6) []) ≡ Ends how → ⊥
     goes true how f = absurd cc
     goes false how f = absurd cc
-
-only-one : (r s : Reply) → Contains (r ∷ []) s → r ≡ s
-only-one r s h = elim (first-or-later r [] s h) [ inl e ↦ e | inr k ↦ absurd (contains-none s k) ]
-
--- What comes for a GET came to messages of its exchange.
-pub comes-fit : (l : List Noted) (o e : ℕ) (w : Response) (rs : List Reply) (r : Reply) → Legal l → ComesSo l o e w rs → Contains rs r → IsReplyTo l o r
-comes-fit l o e w rs r legal (inl it) has = replies-fit l o r legal (made-of l o e w rs r it.ended has)
-comes-fit l o e w rs r legal (inr u) has =
-    let one = first-whole e u.sending u.message w rs u.whole in
-    subst (IsReplyTo l o) (only-one _ r (subst (λ (v : List Reply). Contains v r) one has)) (update-fits l o e w rs legal u)
 
 -- It does so in a longer history.
 pub updates-since : (l : List Noted) (k : ℕ) (x : Noted) (o e : ℕ) (w : Response) (rs : List Reply) → at l k ≡ Some x → UpdatesSo (before l k) o e w rs

@@ -7,7 +7,7 @@ use Rattle.std.proofs.lemmas.Bool.{false≢true}
 use Rattle.ask_model.specs.Requests.{CoapRequest}
 use Rattle.history_laws.specs.Readings.{Noted, at, before}
 use Rattle.history_laws.specs.Progress.{Ending}
-use Rattle.history_laws.specs.Exchanges.{Begun, opens_by, begun_by, begun, opened_by, openings, End, kept, end_here, end_by, end_of, turn, replies, is_going, open_exchanges}
+use Rattle.history_laws.specs.Exchanges.{Begun, opens_by, begun_by, begun, opened_by, openings, End, kept, end_here, end_by, end_of, turn, heard_for, is_going, open_exchanges}
 use Rattle.history_laws.specs.Justified.{Ends}
 use Rattle.history_laws.proofs.Places.{at-new, at-keeps, at-below, before-keeps, before-new}
 use Rattle.history_laws.proofs.Facts.{eqb-same, eqb-itself}
@@ -60,7 +60,7 @@ open-exactly l o = (
 abbrev EndsAt : List Noted → ℕ → ℕ → Ending → Type 0
 EndsAt l o e how =
     (y : Noted) × (at l e ≡ Some y) × (end_of (before l e) o ≡ None)
-    × (end_here (begun (before l e) o) (kept (before l e) o) e (replies (before l e) o) (turn (before l e) o y) ≡ Some how)
+    × (end_here (begun (before l e) o) (kept (before l e) o) e (heard_for (before l e) o) (turn (before l e) o y) ≡ Some how)
 
 EndsAt-keeps : (x : Noted) (l : List Noted) (o e : ℕ) (how : Ending) → EndsAt l o e how → EndsAt (x ∷ l) o e how
 EndsAt-keeps x l o e how h =
@@ -68,13 +68,13 @@ EndsAt-keeps x l o e how h =
     (h.0, at-keeps x l e h.0 h.1, rw b (h.2), rw b (h.3))
 
 EndsAt-new : (x : Noted) (l : List Noted) (o : ℕ) (how : Ending) → end_of l o ≡ None
-    → end_here (begun l o) (kept l o) (length l) (replies l o) (turn l o x) ≡ Some how → EndsAt (x ∷ l) o (length l) how
+    → end_here (begun l o) (kept l o) (length l) (heard_for l o) (turn l o x) ≡ Some how → EndsAt (x ∷ l) o (length l) how
 EndsAt-new x l o how none ends =
     let b = before-new x l in
     (x, at-new x l, rw b none, rw b ends)
 
 ends-step : (x : Noted) (l : List Noted) (o e : ℕ) (how : Ending) → (Ends l o e how → EndsAt l o e how)
-    → (u : Option Ending) → end_here (begun l o) (kept l o) (length l) (replies l o) (turn l o x) ≡ u
+    → (u : Option Ending) → end_here (begun l o) (kept l o) (length l) (heard_for l o) (turn l o x) ≡ u
     → (old : Option End) → end_of l o ≡ old → end_by u (length l) old ≡ Some (record { number = e; how = how }) → EndsAt (x ∷ l) o e how
 ends-step x l o e how ih None w old v r = EndsAt-keeps x l o e how (ih (v ∙ r))
 ends-step x l o e how ih (Some k) w None v r =
@@ -87,4 +87,4 @@ pub ends-first : (l : List Noted) (o e : ℕ) (how : Ending) → Ends l o e how 
 ends-first [] o e how h = cc
 ends-first (x ∷ older) o e how h =
     ends-step x older o e how (λ f. ends-first older o e how f)
-    (end_here (begun older o) (kept older o) (length older) (replies older o) (turn older o x)) refl (end_of older o) refl h
+    (end_here (begun older o) (kept older o) (length older) (heard_for older o) (turn older o x)) refl (end_of older o) refl h

@@ -5,7 +5,7 @@ use Rattle.std.proofs.lemmas.Bool.Decides.{eqb_tells, Decides-ltb}
 use Rattle.cache_key.specs.declared.place.Place.{Place}
 use Rattle.history_laws.specs.Readings.{Noted, before}
 use Rattle.history_laws.specs.Progress.{Ending}
-use Rattle.history_laws.specs.Exchanges.{Begun, begun, openings, turn, replies, End, kept, end_here, end_by, end_of}
+use Rattle.history_laws.specs.Exchanges.{Begun, begun, openings, turn, heard_for, End, kept, end_here, end_by, end_of}
 use Rattle.history_laws.specs.Joining.{writes_at, is_write_at, ended_after, outruns, outrun}
 use Rattle.history_laws.specs.Justified.{Legal}
 use Rattle.history_laws.proofs.Elements.{any-of, find-any, find-some}
@@ -17,7 +17,7 @@ use Rattle.history_laws.proofs.Unbegun.{unbegun, unended}
 
 -- an end stands, whatever comes
 pub end-keeps : (x : Noted) (l : List Noted) (o : ℕ) (e : End) → end_of l o ≡ Some e → end_of (x ∷ l) o ≡ Some e
-end-keeps x l o e is = rw is (by (end_here (begun l o) (kept l o) (length l) (replies l o) (turn l o x)))
+end-keeps x l o e is = rw is (by (end_here (begun l o) (kept l o) (length l) (heard_for l o) (turn l o x)))
   where
     by : (how : Option Ending) → end_by how (length l) (Some e) ≡ Some e
     by None = refl
@@ -42,7 +42,7 @@ end-old (Some how) n (Some f) e h = inl h
 pub end-before : (l : List Noted) (k o : ℕ) (e : End) → k < length l → end_of l o ≡ Some e → e.number < k → end_of (before l k) o ≡ Some e
 end-before [] k o e lt is earlier = absurd (none-some e is)
 end-before (x ∷ older) k o e lt is earlier =
-    elim (end-old (end_here (begun older o) (kept older o) (length older) (replies older o) (turn older o x)) (length older) (end_of older o) e is) [
+    elim (end-old (end_here (begun older o) (kept older o) (length older) (heard_for older o) (turn older o x)) (length older) (end_of older o) e is) [
       | inl old ↦ elim (eqb_tells k (length older)) [
         | inl w ↦ rw (w.0) old
         | inr w ↦ let other = w.1 in rw (w.0) (end-before older k o e (omega (arith, lt, other)) old earlier)
@@ -122,7 +122,7 @@ pub outrun-new : (x : Noted) (l : List Noted) (place : Place) (n : ℕ) → Lega
     → (outrun l place n ≡ true) ⊎ EndsWrite x l place
 outrun-new x l place n legal e =
     let h = outran (x ∷ l) place n e in
-    elim (end-old (end_here (begun l h.opening) (kept l h.opening) (length l) (replies l h.opening) (turn l h.opening x)) (length l) (end_of l h.opening) h.end h.ended) [
+    elim (end-old (end_here (begun l h.opening) (kept l h.opening) (length l) (heard_for l h.opening) (turn l h.opening x)) (length l) (end_of l h.opening) h.end h.ended) [
       | inl old ↦
           let was = ended-begun l h.opening h.end legal.0 old in
           inl (is-outrun l place n (record {
@@ -168,7 +168,7 @@ write-outruns x l place n h lt = by (end_of (x ∷ l) h.opening) refl h.ended
           changes = h.changes;
           end = f;
           ended = is;
-          later = here f (end-old (end_here (begun l h.opening) (kept l h.opening) (length l) (replies l h.opening) (turn l h.opening x)) (length l) (end_of l h.opening) f is);
+          later = here f (end-old (end_here (begun l h.opening) (kept l h.opening) (length l) (heard_for l h.opening) (turn l h.opening x)) (length l) (end_of l h.opening) f is);
         })
 
 pub not-true : (b : Bool) → (b ≡ true → ⊥) → b ≡ false

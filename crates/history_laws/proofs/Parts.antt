@@ -18,7 +18,7 @@ use Rattle.blockwise.proofs.CallerLemmas.{more_left, next_continues, next_szx-le
 use Rattle.ask_model.specs.Requests.{CoapRequest, block_message, carried_by}
 use Rattle.history_laws.specs.Readings.{Noted, before}
 use Rattle.history_laws.specs.Progress.{Reply, messages, NotUnderstood, Progress, Fetches, Gives, Ends, answered_so, progress, next_message, step}
-use Rattle.history_laws.specs.Exchanges.{Begun, begun, replies, End, end_of, goes_to, waits_for}
+use Rattle.history_laws.specs.Exchanges.{Begun, begun, replies, heard_for, End, end_of, goes_to, waits_for}
 use Rattle.history_laws.specs.Observing.{manner}
 use Rattle.history_laws.specs.Justified.{Legal, MayBeFirst}
 use Rattle.history_laws.specs.Laws.{IsFirst, IsSending, IsPart, block_sent, brings, bytes_sent}
@@ -27,7 +27,8 @@ use Rattle.history_laws.proofs.Facts.{IsFirst-below, at-before, eqb-apart, follo
 use Rattle.history_laws.proofs.Fetching.{CameTo, messages-push, progress-push, upload_in}
 use Rattle.history_laws.proofs.Going.{goes-so, GoesSo, IsGoing}
 use Rattle.history_laws.proofs.Members.{first-waits}
-use Rattle.history_laws.proofs.Order.{came-next, sends-next}
+use Rattle.history_laws.proofs.Order.{came-next, write-begins}
+use Rattle.history_laws.proofs.Quiet.{sends-next}
 use Rattle.history_laws.proofs.Resting.{some-is}
 use Rattle.history_laws.proofs.Sent.{begun-before, first-more}
 
@@ -98,10 +99,16 @@ given-so q rs (Gives u got) write is going h =
     is ∙ (ap (λ (v : UploadValue). Gives v got) h.1.is ∙ ap (λ (v : List Reply). Gives (upload_in q v) v) (sym h.1.all))
 given-so q rs (Ends how) write is going h = absurd going
 
-given-at : (l : List Noted) (o : ℕ) (b : Begun) → begun l o ≡ Some b → end_of l o ≡ None → eqb b.request.method 1 ≡ false
+-- All that was heard for a write are the replies.
+write-heard : (l : List Noted) (o : ℕ) (b : Begun) → Legal l → begun l o ≡ Some b → eqb b.request.method 1 ≡ false → heard_for l o ≡ replies l o
+write-heard l o b legal opened write = ap (λ (bs : List Reply). bs ++ replies l o) (write-begins l o b legal opened write)
+
+given-at : (l : List Noted) (o : ℕ) (b : Begun) → Legal l → begun l o ≡ Some b → end_of l o ≡ None → eqb b.request.method 1 ≡ false
     → progress b.request (replies l o) ≡ Gives (upload_in b.request (replies l o)) (replies l o)
-given-at l o b opened going write =
-    let it : GoesSo (Some b) (replies l o) = subst (λ (b : Option Begun). GoesSo b (replies l o)) opened (goes-so l o going) in
+given-at l o b legal opened going write =
+    let it : GoesSo (Some b) (replies l o) =
+    subst (λ (rs : List Reply). GoesSo (Some b) rs) (write-heard l o b legal opened write)
+    (subst (λ (b : Option Begun). GoesSo b (heard_for l o)) opened (goes-so l o legal going)) in
     given-so b.request (replies l o) (progress b.request (replies l o)) write refl it.0 it.1
 
 -- By a reply after which it goes on a piece was taken.
@@ -149,23 +156,27 @@ module _ (l : List Noted) (o : ℕ) (b : Begun) (legal : Legal l) (opened : begu
       let none : end_of (before l i) o ≡ None =
       none-is (end_of (before l i) o) (and_parts (is_none (end_of (before l i) o)) (is_none (waits_for (before l i) o))
       (and_parts (goes_to f.1 (begun (before l i) o)) (is_none (end_of (before l i) o) && is_none (waits_for (before l i) o)) waits).1).0 in
-      record { opened_before = early; given = given-at (before l i) o b early none write }
+      record { opened_before = early; given = given-at (before l i) o b (legal-before l i legal) early none write }
     where
       none-is : (e : Option End) → is_none e ≡ true → e ≡ None
       none-is None h = refl
       none-is (Some e) h = absurd (false≢true h)
+
+  heard-before : (i : ℕ) → Stands i → heard_for (before l i) o ≡ replies (before l i) o
+  heard-before i it = write-heard (before l i) o b (legal-before l i legal) it.opened_before write
 
   -- Its message is that of the block after what was taken.
   pub part-message : (t i : ℕ) (p : Peer) (m : Content) → IsFirst l t o i p m → m ≡ block_message q (block_sent l o q i) m.mid m.token
   part-message t i p m f =
       let it = stands i (t, p, m, f) in
       let next = sends-next l t o i p m b legal f opened in
+      let now : progress q (heard_for (before l i) o) ≡ Gives (upload_in q (replies (before l i) o)) (replies (before l i) o) = ap (progress q) (heard-before i it) ∙ it.given in
       let given : next_message (manner (before l i) o) q (Gives (upload_in q (replies (before l i) o)) (replies (before l i) o)) m.mid m.token ≡ Some m =
-      ap (λ (u : Progress). next_message (manner (before l i) o) q u m.mid m.token) (sym it.given) ∙ next in
-      sym (some-is _ _ given) ∙ ap (λ (u : Progress). block_message q (brings u) m.mid m.token) (sym it.given)
+      ap (λ (u : Progress). next_message (manner (before l i) o) q u m.mid m.token) (sym now) ∙ next in
+      sym (some-is _ _ given) ∙ ap (λ (u : Progress). block_message q (brings u) m.mid m.token) (sym now)
 
   block-is : (i : ℕ) → IsSending l o i → block_sent l o q i ≡ next_block (upload_in q (replies (before l i) o))
-  block-is i f = ap brings (stands i f).given
+  block-is i f = ap brings (ap (progress q) (heard-before i (stands i f)) ∙ (stands i f).given)
 
   -- It begins where what was taken ends.
   begins-at : (i : ℕ) → IsSending l o i → offset_in (block_sent l o q i) ≡ (upload_in q (replies (before l i) o)).taken

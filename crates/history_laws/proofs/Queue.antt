@@ -1,25 +1,30 @@
 -- What waits at a peer is a queue: whose messages wait, each once, in the order in which they were submitted.
-use Rattle.std.proofs.Common.{◌≡◌, ℕ, ◌<◌, ◌≤◌, ◌+◌, ◌⊎◌, Bool, true, false, cond, eqb, inl, inr, List, [], ◌∷◌, ◌++◌, length, Option, Some, None, is_some, refl, sym, ap, subst, ◌∙◌, arith, zero, append-nil}
+use Rattle.std.proofs.Common.{◌≡◌, ℕ, ◌<◌, ◌⊎◌, Bool, true, false, eqb, leb, inl, inr, List, [], ◌∷◌, ◌++◌, length, Option, Some, None, is_some, refl, sym, ap, subst, ◌∙◌, arith, zero, append-nil}
 use Rattle.std.specs.Prelude.{filter, ◌&&◌, is_none}
 use Rattle.std.specs.List.{AllByRecursion, Contains, list_any}
 use Rattle.std.proofs.lemmas.Bool.{false≢true, and_from}
 use Rattle.std.proofs.lemmas.Bool.Decides.{eqb_tells}
-use Rattle.std.proofs.lemmas.List.Elements.{Contains-append_left, Contains-append_right, filter-append}
+use Rattle.std.proofs.lemmas.List.Elements.{Contains-append_left, Contains-append_right}
 use Rattle.coap_codec.specs.Spelling.{Content}
 use Rattle.uri_map.specs.declared.peer.Peer.{Peer}
 use Rattle.ask_model.specs.Requests.{CoapRequest}
-use Rattle.history_laws.specs.Readings.{Noted, First, Says, Notice, before}
+use Rattle.journal_book.specs.Entries.{Hears}
+use Rattle.history_laws.specs.Readings.{Noted, First, Says, Notice, Starts, noted}
 use Rattle.history_laws.specs.Progress.{Reply, Ending, Reset, TimedOut}
-use Rattle.history_laws.specs.Exchanges.{Begun, begun_by, begun, opens_by, opened_by, openings, Turn, Nothing, Sent, Replied, Rejected, Expired, turn, waits_by, waits_for, replies_by, replies, End, kept, end_here, end_by, end_of, is_going, goes_to, is_waiting, waiting, is_submitted_at, submitted_by, submitted, is_issued_at, issued_by, issued, rank}
-use Rattle.history_laws.specs.Justified.{Legal}
+use Rattle.history_laws.specs.Exchanges.{Begun, begun_by, begun, started_by, opens_by, openings, Turn, Nothing, Sent, Replied, Rejected, Expired, turn, waits_by, waits_for, replies_by, replies, heard_for, End, kept, end_here, end_by, end_of, is_going, goes_to, is_waiting, waiting, is_submitted_at, submitted_by, submitted}
+use Rattle.history_laws.specs.Transmissions.{first_at}
+use Rattle.history_laws.specs.Hearing.{may_register, observation_of, registers}
+use Rattle.history_laws.specs.Justified.{Follows, Legal}
 use Rattle.history_laws.specs.Laws.{IsFirst}
-use Rattle.history_laws.proofs.Elements.{all-filter, all-more, all-passes, any-of, contains-filter, contains-later, filtered-from, is-some}
+use Rattle.history_laws.proofs.Elements.{all-filter, all-more, all-passes, contains-filter, contains-later, filtered-from, is-some}
 use Rattle.history_laws.proofs.Facts.{eqb-itself, eqb-same}
 use Rattle.history_laws.proofs.Openings.{begun-listed, listed-begun}
-use Rattle.history_laws.proofs.Places.{before-keeps, before-new, at-same}
+use Rattle.history_laws.proofs.Places.{at-same}
 use Rattle.history_laws.proofs.Resting.{and-left, and-right, none-of, none-some, none-is}
 use Rattle.history_laws.proofs.Rising.{IsOneAtMost, one-at-most, openings-rising, rising-filter, RisesBy, rises-as, rises-filter, rises-join}
 use Rattle.history_laws.proofs.Members.{waiting-all}
+use Rattle.history_laws.proofs.Firsts.{first-found}
+use Rattle.history_laws.proofs.Registering.{said}
 use Rattle.history_laws.proofs.Sent.{begun-below, begun-keeps}
 use Rattle.history_laws.proofs.Turns.{turn-replied, waits-first}
 use Rattle.history_laws.proofs.Unbegun.{not-yet, replies-none}
@@ -34,7 +39,7 @@ pub filter-none : {X : Type 0} (q : X → Bool) (xs : List X) → AllByRecursion
 filter-none q [] a = refl
 filter-none q (x ∷ xs) a = rw (a.0) (filter-none q xs a.1)
 
-any-none : {X : Type 0} (q : X → Bool) (xs : List X) → AllByRecursion (λ (x : X). q x ≡ false) xs → list_any q xs ≡ false
+pub any-none : {X : Type 0} (q : X → Bool) (xs : List X) → AllByRecursion (λ (x : X). q x ≡ false) xs → list_any q xs ≡ false
 any-none q [] a = refl
 any-none q (x ∷ xs) a = rw (a.0) (any-none q xs a.1)
 
@@ -140,13 +145,59 @@ submits-by x l o e = elim (submitted-cases x l o) [
   | inr r ↦ inr r
 ]
 
--- A reply opens no exchange.
-opens-none : (x : Noted) (l : List Noted) (q : ℕ) → IsReplyAt x l q → is_some (begun (x ∷ l) (length l)) ≡ true → ⊥
-opens-none x l q r e =
+-- What is a reply to an exchange opens none.
+
+abbrev pub OpensOrReplies : Noted → List Noted → Type 0
+OpensOrReplies x l = (q : ℕ) → IsReplyAt x l q → opens_by x.note ≡ None
+
+registers-none : (b : Bool) → started_by (registers b) ≡ None
+registers-none true = refl
+registers-none false = refl
+
+-- It registers, or doesn't, and is no notification.
+pub awaited-registers : (l : List Noted) (o t : ℕ) (m : Content) (i : ℕ) → waits_for l o ≡ Some i → leb 32 m.code ≡ true
+    → observation_of l t m (Some i) ≡ registers (may_register l o m)
+awaited-registers l o t m i waited response =
+    let w = waits-first l o i waited in
+    by w.0 w.1 w.2 (first-found l w.0 o i w.1 w.2 w.3)
+  where
+    by : (s : ℕ) (p : Peer) (n : Content) → first_at l i ≡ Some (record { number = i; moment = s; opening = o; peer = p; message = n })
+        → observation_of l t m (Some i) ≡ registers (may_register l o m)
+    by s p n found = rw (response, found, waited, eqb-itself i) refl
+
+pub awaited-none : (l : List Noted) (o t : ℕ) (m : Content) (i : ℕ) → waits_for l o ≡ Some i → leb 32 m.code ≡ true
+    → started_by (observation_of l t m (Some i)) ≡ None
+awaited-none l o t m i waited response = ap started_by (awaited-registers l o t m i waited response) ∙ registers-none (may_register l o m)
+
+pub awaited-not : (l : List Noted) (o t : ℕ) (m : Content) (i k : ℕ) (q : CoapRequest) → waits_for l o ≡ Some i → leb 32 m.code ≡ true
+    → observation_of l t m (Some i) ≡ Starts k q → ⊥
+awaited-not l o t m i k q waited response e = none-some q (sym (awaited-none l o t m i waited response) ∙ ap started_by e)
+
+says-both : (m n : Content) (to : Option ℕ) (i : ℕ) (u v : Notice) → Says m to u ≡ Says n (Some i) v → (m ≡ n) × (to ≡ Some i)
+says-both m n to i u v e = (cc, cc)
+
+pub said-either : (l : List Noted) (t : ℕ) (p : Peer) (d : List ℕ) (m : Content) (to : Option ℕ) (notice : Notice)
+    → observation_of l t m to ≡ notice.observation → OpensOrReplies (noted t (Hears p d) (Says m to notice)) l
+said-either l t p d m to notice is q r =
+    let it = turn-replied l q (noted t (Hears p d) (Says m to notice)) r.0 r.1 r.2 r.3 in
+    let same = says-both m r.1 to r.0 notice it.notice (ap (λ (v : Noted). v.note) it.entry) in
+    let response : leb 32 m.code ≡ true = subst (λ (n : Content). leb 32 n.code ≡ true) (sym same.0) it.response in
+    ap started_by (sym is ∙ ap (observation_of l t m) same.1) ∙ awaited-none l q t m r.0 it.waited response
+
+pub either-by : (x : Noted) (l : List Noted) → Follows l x.written.moment x.written.deed x.note → OpensOrReplies x l
+either-by x l may q r =
     let it = turn-replied l q x r.0 r.1 r.2 r.3 in
-    let note : opens_by x.note ≡ None = ap (λ (v : Noted). opens_by v.note) it.entry in
-    let none : begun (x ∷ l) (length l) ≡ None = rw (note, not-yet l) refl in
-    false≢true (sym (ap is_some none) ∙ e)
+    let t = x.written.moment in
+    let follows : Follows l t (Hears it.peer it.bytes) (Says r.1 (Some r.0) it.notice) =
+    subst (λ (v : Noted). Follows l v.written.moment v.written.deed v.note) it.entry may in
+    let is = said l t it.peer it.bytes r.1 r.0 it.notice follows in
+    ap (λ (v : Noted). opens_by v.note) it.entry ∙ (ap started_by (sym is.observation) ∙ awaited-none l q t r.1 r.0 it.waited it.response)
+
+opens-none : (x : Noted) (l : List Noted) (q : ℕ) → OpensOrReplies x l → IsReplyAt x l q → is_some (begun (x ∷ l) (length l)) ≡ true → ⊥
+opens-none x l q either r e = false≢true (sym (ap is_some (none (either q r))) ∙ e)
+  where
+    none : opens_by x.note ≡ None → begun (x ∷ l) (length l) ≡ None
+    none note = rw (note, not-yet l) refl
 
 first-owner : (l : List Noted) (s t o q i : ℕ) (p r : Peer) (m n : Content) → IsFirst l s o i p m → IsFirst l t q i r n → o ≡ q
 first-owner l s t o q i p r m n f g = owner (ap (λ (v : Noted). v.note) (at-same l i _ _ f.stands g.stands))
@@ -166,33 +217,34 @@ replied-once x l o q r s =
     let g = waits-first l q r.0 (subst (λ (i : ℕ). waits_for l q ≡ Some i) (sym same) b.waited) in
     first-owner l f.0 g.0 o q r.0 f.1 g.1 f.2 g.2 f.3 g.3
 
-pub submitted-once : (x : Noted) (l : List Noted) (o q : ℕ) → is_some (begun (x ∷ l) o) ≡ true → is_some (begun (x ∷ l) q) ≡ true
+pub submitted-once : (x : Noted) (l : List Noted) (o q : ℕ) → OpensOrReplies x l
+    → is_some (begun (x ∷ l) o) ≡ true → is_some (begun (x ∷ l) q) ≡ true
     → submitted (x ∷ l) o ≡ length l → submitted (x ∷ l) q ≡ length l → o ≡ q
-submitted-once x l o q a b e f = elim (submits-by x l o e) [
+submitted-once x l o q either a b e f = elim (submits-by x l o e) [
   | inl here ↦ elim (submits-by x l q f) [
     | inl there ↦ here ∙ sym there
-    | inr s ↦ absurd (opens-none x l q s (subst (λ (k : ℕ). is_some (begun (x ∷ l) k) ≡ true) here a))
+    | inr s ↦ absurd (opens-none x l q either s (subst (λ (k : ℕ). is_some (begun (x ∷ l) k) ≡ true) here a))
   ]
   | inr r ↦ elim (submits-by x l q f) [
-    | inl there ↦ absurd (opens-none x l o r (subst (λ (k : ℕ). is_some (begun (x ∷ l) k) ≡ true) there b))
+    | inl there ↦ absurd (opens-none x l o either r (subst (λ (k : ℕ). is_some (begun (x ∷ l) k) ≡ true) there b))
     | inr s ↦ replied-once x l o q r s
   ]
 ]
 
-new-once : (x : Noted) (l : List Noted) (p : Peer) → IsOneAtMost (filter (is_submitted_at (x ∷ l) p (length l)) (openings (x ∷ l)))
-new-once x l p =
+new-once : (x : Noted) (l : List Noted) (p : Peer) → OpensOrReplies x l → IsOneAtMost (filter (is_submitted_at (x ∷ l) p (length l)) (openings (x ∷ l)))
+new-once x l p either =
     let n = x ∷ l in
     let new = is_submitted_at n p (length l) in
     one-at-most (filter new (openings n)) (rising-filter new (openings n) (openings-rising n)) (λ a b g h.
     let f = filtered-from new (openings n) a g in
     let k = filtered-from new (openings n) b h in
-    submitted-once x l a b (listed-begun n a f.0) (listed-begun n b k.0)
+    submitted-once x l a b either (listed-begun n a f.0) (listed-begun n b k.0)
     (eqb-same (submitted n a) (length l) (and-left _ (is_waiting n p a) f.1)) (eqb-same (submitted n b) (length l) (and-left _ (is_waiting n p b) k.1)))
 
 -- The queue is in the order in which its messages were submitted, of which no two were by one entry.
-pub queue-rises : (l : List Noted) (p : Peer) → RisesBy (submitted l) (waiting l p)
-queue-rises [] p = tt
-queue-rises (x ∷ older) p =
+pub queue-rises : (l : List Noted) (p : Peer) → Legal l → RisesBy (submitted l) (waiting l p)
+queue-rises [] p legal = tt
+queue-rises (x ∷ older) p legal =
     let n = x ∷ older in
     let new = is_submitted_at n p (length older) in
     let old = filter (is_waiting n p) (waiting older p) in
@@ -200,14 +252,14 @@ queue-rises (x ∷ older) p =
     rises-join (submitted n) (length older) old (filter new (openings n))
     (rises-as (submitted older) (submitted n) old
     (all-more (λ (o : ℕ). is_waiting older p o ≡ true) (λ (o : ℕ). submitted older o ≡ submitted n o) (λ o h. sym (waiting-submitted x older p o h)) old waited)
-    (rises-filter (submitted older) (is_waiting n p) (waiting older p) (queue-rises older p)))
+    (rises-filter (submitted older) (is_waiting n p) (waiting older p) (queue-rises older p legal.0)))
     (all-more (λ (o : ℕ). is_waiting older p o ≡ true) (λ (o : ℕ). submitted n o < length older)
     (λ o h. let same = waiting-submitted x older p o h in let lt = waiting-below older p o h in omega (arith, same, lt)) old waited)
-    (new-once x older p)
+    (new-once x older p (either-by x older legal.2))
     (all-more (λ (o : ℕ). new o ≡ true) (λ (o : ℕ). submitted n o ≡ length older) (λ o h. eqb-same (submitted n o) (length older) (and-left _ (is_waiting n p o) h)) (filter new (openings n)) (all-passes new (openings n)))
 
 -- What was opened before didn't submit its message by an entry that is no reply to it.
-old-not : (x : Noted) (l : List Noted) (o : ℕ) (b : Begun) (test : Bool) → begun l o ≡ Some b → (test ≡ true → NoReply (turn l o x))
+pub old-not : (x : Noted) (l : List Noted) (o : ℕ) (b : Begun) (test : Bool) → begun l o ≡ Some b → (test ≡ true → NoReply (turn l o x))
     → (eqb (submitted (x ∷ l) o) (length l) && test) ≡ false
 old-not x l o b false e quiet = and-none (eqb (submitted (x ∷ l) o) (length l))
   where
@@ -219,7 +271,7 @@ old-not x l o b true e quiet =
     let below = submitted-below l o b e in
     rw (differ (submitted (x ∷ l) o) (length l) (omega (arith, stays, below))) refl
 
-begun-here : (x : Noted) (l : List Noted) (o : ℕ) (b : Begun) → begun l o ≡ None → begun (x ∷ l) o ≡ Some b → o ≡ length l
+pub begun-here : (x : Noted) (l : List Noted) (o : ℕ) (b : Begun) → begun l o ≡ None → begun (x ∷ l) o ≡ Some b → o ≡ length l
 begun-here x l o b none e = elim (eqb_tells (length l) o) [
   | inl w ↦ sym w.1
   | inr w ↦ absurd (none-some b (sym none ∙ (sym (not-now (opens_by x.note)) ∙ subst (λ (v : Bool). begun_by (opens_by x.note) v x.written.moment (begun l o) ≡ Some b) w.0 e)))
@@ -232,8 +284,8 @@ begun-here x l o b none e = elim (eqb_tells (length l) o) [
 -- Who waits is in the queue.
 
 pub going-before : (x : Noted) (l : List Noted) (o : ℕ) → is_going (x ∷ l) o ≡ true
-    → (end_here (begun l o) (kept l o) (length l) (replies l o) (turn l o x) ≡ None) × (end_of l o ≡ None)
-going-before x l o e = by (end_here (begun l o) (kept l o) (length l) (replies l o) (turn l o x)) (end_of l o) (none-of (end_of (x ∷ l) o) e)
+    → (end_here (begun l o) (kept l o) (length l) (heard_for l o) (turn l o x) ≡ None) × (end_of l o ≡ None)
+going-before x l o e = by (end_here (begun l o) (kept l o) (length l) (heard_for l o) (turn l o x)) (end_of l o) (none-of (end_of (x ∷ l) o) e)
   where
     by : (how : Option Ending) (old : Option End) → end_by how (length l) old ≡ None → (how ≡ None) × (old ≡ None)
     by None old e = (refl, e)
@@ -248,7 +300,7 @@ waits-now x l p o legal e = by (begun l o) refl
     n : List Noted
     n = x ∷ l
 
-    going : (end_here (begun l o) (kept l o) (length l) (replies l o) (turn l o x) ≡ None) × (end_of l o ≡ None)
+    going : (end_here (begun l o) (kept l o) (length l) (heard_for l o) (turn l o x) ≡ None) × (end_of l o ≡ None)
     going = going-before x l o (and-left (is_going n o) _ (and-right (goes_to p (begun n o)) _ e))
 
     waited : (b : Begun) → begun l o ≡ Some b → (w : Option ℕ) → waits_for l o ≡ w → (u : Turn) → turn l o x ≡ u
@@ -265,8 +317,8 @@ waits-now x l p o legal e = by (begun l o) refl
       where
         never : (v : Option Begun) (j : ℕ) (m : Content) (place : Bool) → turn l o x ≡ Replied j m place → replies n o ≡ replies l o → submitted n o ≡ length l
         never v j m place here same = rw (here) (submitted-push o (replies l o) record { number = length l; sending = j; message = m })
-    waited b is (Some i) some Rejected here = absurd (none-is Reset (subst (λ (u : Turn). end_here (begun l o) (kept l o) (length l) (replies l o) u ≡ None) here going.0))
-    waited b is (Some i) some Expired here = absurd (none-is TimedOut (subst (λ (u : Turn). end_here (begun l o) (kept l o) (length l) (replies l o) u ≡ None) here going.0))
+    waited b is (Some i) some Rejected here = absurd (none-is Reset (subst (λ (u : Turn). end_here (begun l o) (kept l o) (length l) (heard_for l o) u ≡ None) here going.0))
+    waited b is (Some i) some Expired here = absurd (none-is TimedOut (subst (λ (u : Turn). end_here (begun l o) (kept l o) (length l) (heard_for l o) u ≡ None) here going.0))
 
     by : (v : Option Begun) → begun l o ≡ v → (is_waiting l p o ≡ true) ⊎ (submitted n o ≡ length l)
     by (Some b) is = waited b is (waits_for l o) refl (turn l o x) refl
@@ -307,150 +359,3 @@ pub queue-same : (x : Noted) (l : List Noted) (p : Peer) → filter (is_submitte
 queue-same x l p none still =
     queue-kept x l p none
     ∙ filter-all (is_waiting (x ∷ l) p) (waiting l p) (all-more (λ (o : ℕ). is_waiting l p o ≡ true) (λ (o : ℕ). is_waiting (x ∷ l) p o ≡ true) still (waiting l p) (waiting-all l p))
-
--- How many tokens were issued.
-
-pub issued-same : (x : Noted) (l : List Noted) → openings (x ∷ l) ≡ openings l → ((o : ℕ) → is_going (x ∷ l) o ≡ true → NoReply (turn l o x))
-    → issued (x ∷ l) ≡ issued l
-issued-same x l same quiet =
-    ap (λ (b : Bool). issued_by b (issued l))
-    (subst (λ (os : List ℕ). list_any (is_issued_at (x ∷ l) (length l)) os ≡ false) (sym same)
-    (any-none (is_issued_at (x ∷ l) (length l)) (openings l) (listed-are (λ (o : ℕ). is_issued_at (x ∷ l) (length l) o ≡ false) (openings l) (λ o c.
-    let b = is-some (begun l o) (listed-begun l o c) in old-not x l o b.0 (is_going (x ∷ l) o) b.1 (λ w. quiet o w)))))
-
-pub issued-more : (x : Noted) (l : List Noted) (o : ℕ) → is_some (begun (x ∷ l) o) ≡ true → is_going (x ∷ l) o ≡ true → submitted (x ∷ l) o ≡ length l
-    → issued (x ∷ l) ≡ issued l + 1
-issued-more x l o begins goes here =
-    let n = x ∷ l in
-    let mine : is_issued_at n (length l) o ≡ true = and_from _ _ (subst (λ (k : ℕ). eqb k (length l) ≡ true) (sym here) (eqb-itself (length l))) goes in
-    ap (λ (b : Bool). issued_by b (issued l)) (any-of (is_issued_at n (length l)) (openings n) o (begun-listed n o begins) mine)
-
-issued-rises : (x : Noted) (l : List Noted) → issued l ≤ issued (x ∷ l)
-issued-rises x l = by (list_any (is_issued_at (x ∷ l) (length l)) (openings (x ∷ l)))
-  where
-    by : (b : Bool) → issued l ≤ issued_by b (issued l)
-    by true = omega arith
-    by false = omega arith
-
-pub issued-few : (l : List Noted) → issued l ≤ length l
-issued-few [] = omega arith
-issued-few (x ∷ older) = by (list_any (is_issued_at (x ∷ older) (length older)) (openings (x ∷ older))) (issued-few older)
-  where
-    by : (b : Bool) → issued older ≤ length older → issued_by b (issued older) ≤ length (x ∷ older)
-    by true h = omega (arith, h)
-    by false h = omega (arith, h)
-
--- How many were issued before a message was submitted: of two exchanges that are open these are apart.
-
--- An entry that leaves the replies leaves it.
-pub rank-keeps : (x : Noted) (l : List Noted) (o : ℕ) (b : Begun) → begun l o ≡ Some b → replies (x ∷ l) o ≡ replies l o
-    → rank (x ∷ l) o ≡ rank l o
-rank-keeps x l o b e same =
-    let stays : submitted (x ∷ l) o ≡ submitted l o = ap (submitted_by o) same in
-    ap (λ (k : ℕ). issued (before (x ∷ l) k)) stays ∙ ap issued (before-keeps x l (submitted l o) (submitted-below l o b e))
-
--- The message of an open exchange was submitted by this entry, or it was open before.
-open-now : (x : Noted) (l : List Noted) (o : ℕ) (b : Begun) → Legal l → begun (x ∷ l) o ≡ Some b → is_going (x ∷ l) o ≡ true
-    → (submitted (x ∷ l) o ≡ length l) ⊎ ((begun l o ≡ Some b) × (is_going l o ≡ true) × (replies (x ∷ l) o ≡ replies l o))
-open-now x l o b legal e goes = by (begun l o) refl
-  where
-    by : (v : Option Begun) → begun l o ≡ v → (submitted (x ∷ l) o ≡ length l) ⊎ ((begun l o ≡ Some b) × (is_going l o ≡ true) × (replies (x ∷ l) o ≡ replies l o))
-    by None is =
-        let none = replies-none l o legal is in
-        inl (ap (submitted_by o) (unawaited-stays x l o none.0) ∙ (ap (submitted_by o) none.1 ∙ begun-here x l o b is e))
-    by (Some c) is = elim (submitted-cases x l o) [
-      | inl same ↦ inr (is ∙ (sym (begun-keeps x l o c is) ∙ e), ap is_none (going-before x l o goes).1, same)
-      | inr r ↦ inl r.4
-    ]
-
-pub rank-below : (l : List Noted) (o : ℕ) (b : Begun) → Legal l → begun l o ≡ Some b → is_going l o ≡ true → rank l o < issued l
-rank-below [] o b legal e goes = absurd (none-some b e)
-rank-below (x ∷ older) o b legal e goes = elim (open-now x older o b legal.0 e goes) [
-  | inl here ↦
-      let one = issued-more x older o (ap is_some e) goes here in
-      let at_it : rank (x ∷ older) o ≡ issued older = ap (λ (k : ℕ). issued (before (x ∷ older) k)) here ∙ ap issued (before-new x older) in
-      omega (arith, one, at_it)
-  | inr w ↦
-      let ih = rank-below older o b legal.0 w.0 w.1 in
-      let same = rank-keeps x older o b w.0 w.2 in
-      let more = issued-rises x older in
-      omega (arith, ih, same, more)
-]
-
-pub rank-apart : (l : List Noted) (o q : ℕ) (b c : Begun) → Legal l → begun l o ≡ Some b → begun l q ≡ Some c → is_going l o ≡ true → is_going l q ≡ true
-    → submitted l o < submitted l q → rank l o < rank l q
-rank-apart [] o q b c legal e f goes also lt = absurd (none-some b e)
-rank-apart (x ∷ older) o q b c legal e f goes also lt = elim (open-now x older o b legal.0 e goes) [
-  | inl here ↦ let below = submitted-below (x ∷ older) q c f in absurd (omega (arith, here, lt, below))
-  | inr w ↦
-      let mine = rank-keeps x older o b w.0 w.2 in
-      elim (open-now x older q c legal.0 f also) [
-        | inl here ↦
-            let at_it : rank (x ∷ older) q ≡ issued older = ap (λ (k : ℕ). issued (before (x ∷ older) k)) here ∙ ap issued (before-new x older) in
-            let less = rank-below older o b legal.0 w.0 w.1 in
-            omega (arith, mine, at_it, less)
-        | inr v ↦
-            let its = rank-keeps x older q c v.0 v.2 in
-            let s : submitted (x ∷ older) o ≡ submitted older o = ap (submitted_by o) w.2 in
-            let t : submitted (x ∷ older) q ≡ submitted older q = ap (submitted_by q) v.2 in
-            let ih = rank-apart older o q b c legal.0 w.0 v.0 w.1 v.1 (omega (arith, lt, s, t)) in
-            omega (arith, ih, mine, its)
-      ]
-]
-
--- Two that are open were submitted by two entries.
-pub submitted-apart : (l : List Noted) (o q : ℕ) (b c : Begun) → Legal l → begun l o ≡ Some b → begun l q ≡ Some c → is_going l o ≡ true → is_going l q ≡ true
-    → submitted l o ≡ submitted l q → o ≡ q
-submitted-apart [] o q b c legal e f goes also same = absurd (none-some b e)
-submitted-apart (x ∷ older) o q b c legal e f goes also same = elim (open-now x older o b legal.0 e goes) [
-  | inl here ↦ submitted-once x older o q (ap is_some e) (ap is_some f) here (sym same ∙ here)
-  | inr w ↦ elim (open-now x older q c legal.0 f also) [
-    | inl here ↦ submitted-once x older o q (ap is_some e) (ap is_some f) (same ∙ here) here
-    | inr v ↦ submitted-apart older o q b c legal.0 w.0 v.0 w.1 v.1 (sym (ap (submitted_by o) w.2) ∙ (same ∙ ap (submitted_by q) v.2))
-  ]
-]
-
--- Who awaits no reply gets none.
-pub unawaited-quiet : (x : Noted) (l : List Noted) (o : ℕ) → waits_for l o ≡ None → NoReply (turn l o x)
-unawaited-quiet x l o e = by (turn l o x) refl
-  where
-    by : (u : Turn) → turn l o x ≡ u → NoReply u
-    by Nothing h = tt
-    by (Sent i) h = tt
-    by (Replied i m place) h = none-some i (sym e ∙ (turn-replied l o x i m place h).waited)
-    by Rejected h = tt
-    by Expired h = tt
-
--- What is submitted by an entry that opens an exchange is its message.
-
-opened-submitted : (x : Noted) (l : List Noted) → Legal l → submitted (x ∷ l) (length l) ≡ length l
-opened-submitted x l legal =
-    let none = replies-none l (length l) legal (not-yet l) in
-    ap (submitted_by (length l)) (unawaited-stays x l (length l) none.0 ∙ none.1)
-
-old-none : (x : Noted) (l : List Noted) (test : ℕ → Bool) → ((o : ℕ) → NoReply (turn l o x))
-    → filter (λ (o : ℕ). eqb (submitted (x ∷ l) o) (length l) && test o) (openings l) ≡ []
-old-none x l test quiet =
-    filter-none (λ (o : ℕ). eqb (submitted (x ∷ l) o) (length l) && test o) (openings l)
-    (listed-are (λ (o : ℕ). (eqb (submitted (x ∷ l) o) (length l) && test o) ≡ false) (openings l) (λ o c.
-    let b = is-some (begun l o) (listed-begun l o c) in old-not x l o b.0 (test o) b.1 (λ w. quiet o)))
-
-pub opened-queued : (x : Noted) (l : List Noted) (p : Peer) (q : CoapRequest) → Legal l → opens_by x.note ≡ Some q → ((o : ℕ) → NoReply (turn l o x))
-    → (b : Bool) → is_waiting (x ∷ l) p (length l) ≡ b
-    → filter (is_submitted_at (x ∷ l) p (length l)) (openings (x ∷ l)) ≡ cond b (length l ∷ []) []
-opened-queued x l p q legal opens quiet b e =
-    let new = is_submitted_at (x ∷ l) p (length l) in
-    let listed : openings (x ∷ l) ≡ openings l ++ length l ∷ [] = ap (λ (v : Option CoapRequest). opened_by (length l) v (openings l)) opens in
-    ap (filter new) listed
-    ∙ (filter-append new (openings l) (length l ∷ [])
-    ∙ (ap (λ (v : List ℕ). v ++ filter new (length l ∷ [])) (old-none x l (is_waiting (x ∷ l) p) quiet)
-    ∙ ap (λ (v : Bool). cond v (length l ∷ []) []) (ap (λ (v : Bool). v && is_waiting (x ∷ l) p (length l)) here ∙ e)))
-  where
-    here : eqb (submitted (x ∷ l) (length l)) (length l) ≡ true
-    here = ap (λ (k : ℕ). eqb k (length l)) (opened-submitted x l legal) ∙ eqb-itself (length l)
-
-pub opened-issued : (x : Noted) (l : List Noted) → Legal l → is_some (begun (x ∷ l) (length l)) ≡ true → is_going (x ∷ l) (length l) ≡ true → issued (x ∷ l) ≡ issued l + 1
-opened-issued x l legal begins goes = issued-more x l (length l) begins goes (opened-submitted x l legal)
-
-pub opened-rank : (x : Noted) (l : List Noted) → Legal l → rank (x ∷ l) (length l) ≡ issued l
-opened-rank x l legal = ap (λ (k : ℕ). issued (before (x ∷ l) k)) (opened-submitted x l legal) ∙ ap issued (before-new x l)

@@ -6,18 +6,20 @@ use Rattle.std.proofs.lemmas.Bool.{false≢true, and_parts}
 use Rattle.std.proofs.lemmas.Bool.Decides.{Decides-eqb, Decides-ltb}
 use Rattle.coap_codec.specs.Spelling.{Content}
 use Rattle.uri_map.specs.declared.peer.Peer.{Peer}
+use Rattle.ask_model.specs.Requests.{CoapRequest}
 use Rattle.ask_model.specs.Sharing.{asked_place}
 use Rattle.journal_book.specs.Entries.{Hears}
+use Rattle.observe_share.specs.declared.registration.Registration.{Registration}
 use Rattle.observe_share.specs.declared.notice.Notice as Shared
 use Rattle.observe_share.specs.declared.notice.Notice.TheVariants.{Update, Other}
 use Rattle.observe_share.specs.Watches.{counts_for, first_changed, in_place}
-use Rattle.history_laws.specs.Readings.{Noted, Says, Notice, Unobserved, Registers, Updates, Outdates, Cancels}
+use Rattle.history_laws.specs.Readings.{Noted, Says, Notice, Unobserved, Registers, Updates, Outdates, Starts, Cancels}
 use Rattle.history_laws.specs.Progress.{Progress, Fetches, Gives, Ends}
 use Rattle.history_laws.specs.Transmissions.{FirstSending, first_at}
 use Rattle.history_laws.specs.Exchanges.{Begun, begun, waits_for}
 use Rattle.history_laws.specs.Joining.{outrun}
 use Rattle.history_laws.specs.Observing.{Watch, notice_in, observes, watch_under, watches, as_first}
-use Rattle.history_laws.specs.Hearing.{answers, counts_as, is_free, is_such, is_this, is_update, may_register, notice_of, notified, observation_by, observation_of, registers}
+use Rattle.history_laws.specs.Hearing.{answers, counts_as, has_room, is_free, is_read, is_such, is_this, is_update, may_register, notice_of, notified, observation_by, observation_of, registers, starts_for}
 use Rattle.history_laws.specs.Justified.{Follows, MaySay}
 
 -- lists
@@ -112,18 +114,29 @@ out-registers e = cc
 can-registers : Cancels ≡ Registers → ⊥
 can-registers e = cc
 
-counts-not : (n : Shared.Notice) (u : Progress) → counts_as n u ≡ Registers → ⊥
-counts-not (Other v) u e = can-registers e
-counts-not (Update v) (Ends how) e = up-registers e
-counts-not (Update v) (Fetches k pieces got) e = out-registers e
-counts-not (Update v) (Gives u got) e = out-registers e
+start-registers : (k : ℕ) (q : CoapRequest) → Starts k q ≡ Registers → ⊥
+start-registers k q e = cc
 
-notified-not : (t : ℕ) (m : Content) (w : Option Watch) → notified t m w ≡ Registers → ⊥
-notified-not t m None e = un-registers e
-notified-not t m (Some w) e = by (is_such m.kind && counts_for (notice_in m) t w.held) e
+starts-not : (l : List Noted) (t k : ℕ) (b : Option Begun) → starts_for l t k b ≡ Registers → ⊥
+starts-not l t k None e = out-registers e
+starts-not l t k (Some b) e = by (has_room l t b.request && not (is_read l b.request)) e
   where
-    by : (b : Bool) → cond b (counts_as (notice_in m) (as_first 0 0 m)) Unobserved ≡ Registers → ⊥
-    by true e = counts-not (notice_in m) (as_first 0 0 m) e
+    by : (v : Bool) → cond v (Starts k b.request) Outdates ≡ Registers → ⊥
+    by true e = start-registers k b.request e
+    by false e = out-registers e
+
+counts-not : (l : List Noted) (t : ℕ) (r : Registration) (n : Shared.Notice) (u : Progress) → counts_as l t r n u ≡ Registers → ⊥
+counts-not l t r (Other v) u e = can-registers e
+counts-not l t r (Update v) (Ends how) e = up-registers e
+counts-not l t r (Update v) (Fetches k pieces got) e = starts-not l t r.opening (begun l r.opening) e
+counts-not l t r (Update v) (Gives u got) e = starts-not l t r.opening (begun l r.opening) e
+
+notified-not : (l : List Noted) (t : ℕ) (m : Content) (w : Option Watch) → notified l t m w ≡ Registers → ⊥
+notified-not l t m None e = un-registers e
+notified-not l t m (Some w) e = by (is_such m.kind && counts_for (notice_in m) t w.held) e
+  where
+    by : (b : Bool) → cond b (counts_as l t w.held (notice_in m) (as_first 0 0 m)) Unobserved ≡ Registers → ⊥
+    by true e = counts-not l t w.held (notice_in m) (as_first 0 0 m) e
     by false e = un-registers e
 
 registers-true : (b : Bool) → registers b ≡ Registers → b ≡ true
@@ -161,8 +174,8 @@ registering l t m i e = by (leb 32 m.code) refl (first_at l i) refl e
         }
 
     so : leb 32 m.code ≡ true → (f : FirstSending) → first_at l i ≡ Some f → (b : Bool) → is_this i (waits_for l f.opening) ≡ b
-        → cond b (registers (may_register l f.opening m)) (notified t m (watch_under l m.token)) ≡ Registers → IsRegistering l m i
-    so response f sent false is e = absurd (notified-not t m (watch_under l m.token) e)
+        → cond b (registers (may_register l f.opening m)) (notified l t m (watch_under l m.token)) ≡ Registers → IsRegistering l m i
+    so response f sent false is e = absurd (notified-not l t m (watch_under l m.token) e)
     so response f sent true is e =
         let may = registers-true (may_register l f.opening m) e in
         let a = and_parts (observes l f.opening) (is_update (notice_in m) && is_free l f.opening (begun l f.opening)) may in

@@ -20,7 +20,7 @@ use Rattle.journal_book.specs.Entries as D
 use Rattle.history_laws.specs.Responses.{confirms, has_tag, valid}
 use Rattle.history_laws.specs.Readings.{Noted, Note, Renews, at, before, noted}
 use Rattle.history_laws.specs.Progress.{Reply, Ending, Renewed, progress, next_message}
-use Rattle.history_laws.specs.Exchanges.{Begun, begun, kept, Turn, Replied, turn, waits_for, replies_by, replies, End, end_here, end_by, end_of}
+use Rattle.history_laws.specs.Exchanges.{Begun, begun, begins_with, ask_behind, heard_for, kept, Turn, Replied, turn, waits_for, replies_by, replies, End, end_here, end_by, end_of}
 use Rattle.history_laws.specs.Observing.{manner, manner_by, observes, tag_of, unless_replied, wants_in}
 use Rattle.history_laws.specs.Joining.{outrun, asks_the_same}
 use Rattle.history_laws.specs.Carrying.{carried}
@@ -33,11 +33,15 @@ use Rattle.history_laws.proofs.Carrying.{heard-of, carried-below, carried-fit, c
 use Rattle.history_laws.proofs.Copying.{at-still, before-twice}
 use Rattle.history_laws.proofs.Elements.{filtered-from}
 use Rattle.history_laws.proofs.Facts.{at-before, legal-before, length-before}
-use Rattle.history_laws.proofs.Going.{ends-renewed, goes-so, renewed-turn}
+use Rattle.history_laws.proofs.Going.{ends-renewed, renewed-turn}
+use Rattle.cache_key.specs.declared.place.Place.{Place}
+use Rattle.ask_model.proofs.CallerLemmas.{same-place}
 use Rattle.history_laws.proofs.Joining.{Alike, Shared, shared-is}
 use Rattle.history_laws.proofs.Kept.{RenewsFor, kept-before, kept-early, renews-for}
-use Rattle.history_laws.proofs.Notified.{comes-fit, comes-since}
-use Rattle.history_laws.proofs.Order.{quiet-since, sends-next}
+use Rattle.history_laws.proofs.Notified.{comes-since}
+use Rattle.history_laws.proofs.Beginnings.{begins-at}
+use Rattle.history_laws.proofs.Begun.{behind-below, behind-since, behind-unoutrun, comes-fit}
+use Rattle.history_laws.proofs.Quiet.{quiet-since, sends-next}
 use Rattle.history_laws.proofs.Outrunning.{end-since, ended-begun}
 use Rattle.history_laws.proofs.Places.{at-below}
 use Rattle.history_laws.proofs.Replies.{replies-fit}
@@ -48,21 +52,21 @@ use Rattle.history_laws.proofs.Watching.{replies-keep}
 
 -- The reply by which something is renewed is one to the exchange.
 renewed-step : (x : Noted) (l : List Noted) (o e : ℕ) (s : Stored) (r : Reply) → (Ends l o e (Renewed s r) → Contains (replies l o) r)
-    → (how : Option Ending) → end_here (begun l o) (kept l o) (length l) (replies l o) (turn l o x) ≡ how
+    → (how : Option Ending) → end_here (begun l o) (kept l o) (length l) (heard_for l o) (turn l o x) ≡ how
     → (old : Option End) → end_of l o ≡ old → end_by how (length l) old ≡ Some (record { number = e; how = Renewed s r })
     → Contains (replies (x ∷ l) o) r
 renewed-step x l o e s r ih None is old was h = replies-keep x l o r (ih (was ∙ h))
 renewed-step x l o e s r ih (Some how) is (Some f) was h = replies-keep x l o r (ih (was ∙ h))
 renewed-step x l o e s r ih (Some how) is None was h =
     let renews : how ≡ Renewed s r = ap (λ (f : End). f.how) (some-is _ _ h) in
-    let t = renewed-turn (begun l o) (kept l o) (length l) (replies l o) (turn l o x) s r (goes-so l o was) (is ∙ ap (λ (v : Ending). Some v) renews) in
+    let t = renewed-turn (begun l o) (kept l o) (length l) (heard_for l o) (turn l o x) s r (is ∙ ap (λ (v : Ending). Some v) renews) in
     subst (λ (u : Turn). Contains (replies_by (length l) u (replies l o)) r) (sym t.is)
     (Contains-append_right (replies l o) _ r (zero, omega arith, t.reply))
 
 pub renewed-of : (l : List Noted) (o e : ℕ) (s : Stored) (r : Reply) → Ends l o e (Renewed s r) → Contains (replies l o) r
 renewed-of [] o e s r h = absurd (none-some _ h)
 renewed-of (x ∷ older) o e s r h =
-    renewed-step x older o e s r (renewed-of older o e s r) (end_here (begun older o) (kept older o) (length older) (replies older o) (turn older o x)) refl
+    renewed-step x older o e s r (renewed-of older o e s r) (end_here (begun older o) (kept older o) (length older) (heard_for older o) (turn older o x)) refl
     (end_of older o) refl h
 
 -- what it is confirmed by
@@ -82,6 +86,10 @@ validates q tag mid token m get e =
     let one = (and_parts (eqb q.method 1) _ get).0 in
     sym (some-is _ _ (rw (one) at e))
 
+append-both : (xs ys : List Reply) → xs ++ ys ≡ [] → (xs ≡ []) × (ys ≡ [])
+append-both [] ys e = (refl, e)
+append-both (x ∷ xs) ys e = cc
+
 pub confirmed-as-asked : ConfirmedAsAsked
 confirmed-as-asked l o e b s r legal opened ended =
     let it = ends-renewed l o e s r ended in
@@ -97,21 +105,25 @@ confirmed-as-asked l o e b s r legal opened ended =
     let after = fits.after in
     let number : r.number ≡ e = sym (ap (λ (v : Reply). v.number) it.turned.reply) in
     let twice : before k i ≡ before l i = before-twice l e i it.entry it.stands (omega (arith, after, number)) in
+    let none_before : replies k o ≡ [] =
+    (append-both (begins_with k o) (replies k o) it.turned.first).1 in
     let quiet : replies (before l i) o ≡ [] =
     ap (λ (v : List Noted). replies v o) (sym twice)
-    ∙ (quiet-since k o i (t.waited ∙ ap (λ (v : ℕ). Some v) sending) ∙ it.turned.first) in
+    ∙ (quiet-since k o i (t.waited ∙ ap (λ (v : ℕ). Some v) sending) ∙ none_before) in
+    let still = at-still l i o _ _ fits.first.stands sent.after for_it.stands in
+    let heard : heard_for (before l i) o ≡ [] =
+    ap (λ (bs : List Reply). bs ++ replies (before l i) o) (begins-at (before l i) o _ still) ∙ quiet in
     let early : kept (before l i) o ≡ Some s = kept-early l i o _ s fits.first.stands sent.after keeps in
     let tag : tag_of (kept (before l i) o) (replies (before l i) o) ≡ Some for_it.tag =
     ap (λ (v : Option Stored). tag_of v (replies (before l i) o)) early ∙ (ap (tag_of (Some s)) quiet ∙ for_it.has) in
-    let still = at-still l i o _ _ fits.first.stands sent.after for_it.stands in
     let unobserving : observes (before l i) o ≡ false =
     ap (unless_replied (wants_in (before (before l i) o) (at (before l i) o))) quiet
     ∙ ap (wants_in (before (before l i) o)) still in
     let how : manner (before l i) o ≡ Validating for_it.tag =
     ap (λ (v : Option (List ℕ)). manner_by v (observes (before l i) o)) tag ∙ ap (manner_by (Some for_it.tag)) unobserving in
     let next : next_message (Validating for_it.tag) b.request (progress b.request []) fits.sent.mid fits.sent.token ≡ Some fits.sent =
-    subst (λ (rs : List Reply). next_message (Validating for_it.tag) b.request (progress b.request rs) fits.sent.mid fits.sent.token ≡ Some fits.sent) quiet
-    (subst (λ (f : Manner). next_message f b.request (progress b.request (replies (before l i) o)) fits.sent.mid fits.sent.token ≡ Some fits.sent) how
+    subst (λ (rs : List Reply). next_message (Validating for_it.tag) b.request (progress b.request rs) fits.sent.mid fits.sent.token ≡ Some fits.sent) heard
+    (subst (λ (f : Manner). next_message f b.request (progress b.request (heard_for (before l i) o)) fits.sent.mid fits.sent.token ≡ Some fits.sent) how
     (sends-next l fits.sent_at o i fits.peer fits.sent b legal fits.first opened)) in
     let asks : fits.sent ≡ asking (Validating for_it.tag) b.request None fits.sent.mid fits.sent.token =
     validates b.request for_it.tag fits.sent.mid fits.sent.token fits.sent for_it.get next in
@@ -136,13 +148,21 @@ confirmed-as-asked l o e b s r legal opened ended =
     }
 
 -- Of what is stored no write has ended at the place since the exchange was opened that it came of.
-pub stored-unoutrun : (l : List Noted) (q : CoapRequest) (s : Stored) → IsStored l q s → outrun l (asked_place q) s.opening ≡ false
-stored-unoutrun l q s (inl it) = by (heard-of l q s it)
+pub brought-unoutrun : (l : List Noted) (q : CoapRequest) (s : Stored) → Legal l → (is : IsBrought l q s) → outrun l (asked_place q) s.opening ≡ false
+brought-unoutrun l q s legal is =
+    let b = shared-is l q is.opening is.shared in
+    let place : asked_place q ≡ asked_place b.exchange.request = same-place q b.exchange.request b.same in
+    let fresh : outrun l (asked_place b.exchange.request) is.opening ≡ false = subst (λ (p : Place). outrun l p is.opening ≡ false) place b.fresh in
+    ap (outrun l (asked_place q)) is.origin
+    ∙ (ap (λ (p : Place). outrun l p (ask_behind l is.opening)) place ∙ behind-unoutrun l is.opening b.exchange legal b.opened fresh)
+
+pub stored-unoutrun : (l : List Noted) (q : CoapRequest) (s : Stored) → Legal l → IsStored l q s → outrun l (asked_place q) s.opening ≡ false
+stored-unoutrun l q s legal (inl it) = by (heard-of l q s it)
   where
     by : IsAsHeard l q s → outrun l (asked_place q) s.opening ≡ false
-    by (inl is) = ap (outrun l (asked_place q)) is.origin ∙ (shared-is l q is.opening is.shared).fresh
+    by (inl is) = brought-unoutrun l q s legal is
     by (inr is) = ap (outrun l (asked_place q)) is.origin ∙ is.current
-stored-unoutrun l q s (inr it) = ap (outrun l (asked_place q)) it.origin ∙ it.renewal.current
+stored-unoutrun l q s legal (inr it) = ap (outrun l (asked_place q)) it.origin ∙ it.renewal.current
 
 -- A renewal is of an exchange for an equal GET.
 pub renewal-shared : (l : List Noted) (q : CoapRequest) (o : ℕ) → asks_the_same q (begun l o) ≡ true
@@ -244,6 +264,42 @@ renewed-here l k x q s legal stands it =
       below = omega (arith, below, len);
     }
 
+-- What was brought for a GET came to a message that asks the same, sent after what it goes back to.
+pub record BroughtOf (l : List Noted) (k : ℕ) (q : CoapRequest) (s : Stored) (is : IsBrought (before l k) q s) (r : Reply) : Type 0 where
+  pub owner : ℕ
+  pub owned : (owner ≡ is.opening) ⊎ (owner ≡ s.opening)
+  pub came : Brought l owner q r
+  pub late : s.opening < r.sending
+
+pub brought-of : (l : List Noted) (k : ℕ) (x : Noted) (q : CoapRequest) (s : Stored) (r : Reply) → Legal l → at l k ≡ Some x
+    → (is : IsBrought (before l k) q s) → Contains (is.first ∷ is.more) r → BroughtOf l k q s is r
+brought-of l k x q s r legal stands is has =
+    let o : ℕ = is.opening in
+    let ws : List Reply = is.first ∷ is.more in
+    let now = comes-fit l o is.ending s.response ws r legal (comes-since l k x o is.ending s.response ws stands is.comes) has in
+    let exchange : Shared (before l k) q o = shared-is (before l k) q o is.shared in
+    let opened : begun l o ≡ Some exchange.exchange = begun-before l k o exchange.exchange exchange.opened in
+    let request : now.exchange.request ≡ exchange.exchange.request = now.own exchange.exchange opened in
+    let alike : Alike q now.exchange.request = subst (Alike q) (sym request) (asks-alike q exchange.exchange.request exchange.same) in
+    let came = brought-by l now.owner now.exchange q r legal now.opened alike now.fits in
+    let origin : s.opening ≡ ask_behind l o = is.origin ∙ behind-since l k o exchange.exchange exchange.opened in
+    let below = behind-below l o exchange.exchange legal opened in
+    record {
+      owner = now.owner;
+      owned = by now.owner now.owned origin;
+      came = came;
+      late = late now.owner now.owned origin below came.after;
+    }
+  where
+    by : (owner : ℕ) → (owner ≡ is.opening) ⊎ (owner ≡ ask_behind l is.opening) → s.opening ≡ ask_behind l is.opening → (owner ≡ is.opening) ⊎ (owner ≡ s.opening)
+    by owner (inl e) origin = inl e
+    by owner (inr e) origin = inr (e ∙ sym origin)
+
+    late : (owner : ℕ) → (owner ≡ is.opening) ⊎ (owner ≡ ask_behind l is.opening) → s.opening ≡ ask_behind l is.opening → ask_behind l is.opening ≤ is.opening
+        → owner < r.sending → s.opening < r.sending
+    late owner (inl e) origin below after = omega (arith, e, origin, below, after)
+    late owner (inr e) origin below after = omega (arith, e, origin, below, after)
+
 -- What is as it was heard rests on replies to the exchange that it came of, or on copies.
 pub heard-told : (l : List Noted) (k : ℕ) (x : Noted) (q : CoapRequest) (s : Stored) (j : ℕ) → Legal l → at l k ≡ Some x
     → IsAsHeard (before l k) q s → Contains s.list j → IsToldFor l s.opening q j × (j < k)
@@ -253,21 +309,16 @@ heard-told l k x q s j legal stands (inl is) has =
     let r : Reply = found.0 in
     let o : ℕ = is.opening in
     let was = comes-fit (before l k) o is.ending s.response ws r (legal-before l k legal) is.comes found.1 in
-    let now = comes-fit l o is.ending s.response ws r legal (comes-since l k x o is.ending s.response ws stands is.comes) found.1 in
-    let below = at-below (before l k) r.number _ was.heard in
-    let exchange : Shared (before l k) q o = shared-is (before l k) q o is.shared in
-    let came = brought-by l o exchange.exchange q r legal (begun-before l k o exchange.exchange exchange.opened)
-    (asks-alike q exchange.exchange.request exchange.same) now in
+    let below = at-below (before l k) r.number _ was.fits.heard in
+    let it = brought-of l k x q s r legal stands is found.1 in
     let same = found.2 in
-    let len = length-before l k x stands in
-    let after = came.after in
-    let origin = is.origin in (
+    let len = length-before l k x stands in (
       inl (record {
-        opening = o;
+        opening = it.owner;
         reply = r;
         number = same;
-        fits = reply-for l o q r came;
-        late = omega (arith, after, origin);
+        fits = reply-for l it.owner q r it.came;
+        late = it.late;
       }),
       omega (arith, below, len, same),
     )
@@ -307,9 +358,10 @@ stored-since (suc fuel) l k x q s lt legal stands (inl it) = by (heard-of (befor
     by (inl is) =
         let b = shared-is (before l k) q is.opening is.shared in
         let below = begun-below (before l k) is.opening b.exchange b.opened in
+        let behind = behind-below (before l k) is.opening b.exchange (legal-before l k legal) b.opened in
         let len = length-before l k x stands in
         let origin = is.origin in
-        omega (arith, below, len, origin)
+        omega (arith, below, behind, len, origin)
     by (inr is) =
         let below = carried-below (before l k) is.opening is.carries.exchange is.carries.asked in
         let len = length-before l k x stands in

@@ -11,14 +11,14 @@ use Rattle.ask_model.specs.Requests.{CoapRequest, Sense, Requests, Refuses, Mann
 use Rattle.ask_model.specs.Views.{Ask}
 use Rattle.journal_book.specs.Entries.{Deed, Opens, Asks, Sends, Hears, Passes, Answers, Shuts, Seals, Mark, Carries}
 use Rattle.journal_book.specs.Entries as D
-use Rattle.history_laws.specs.Readings.{Noted, Note, Begins, Renews, First, at, before, noted}
+use Rattle.history_laws.specs.Readings.{Noted, Note, Begins, Renews, First, Says, Notice, Observation, Unobserved, Starts, at, before, noted}
 use Rattle.history_laws.specs.Progress.{Reply, Progress, Fetches, Gives, Ends, Ending, Reset, TimedOut, progress, block_after, next_message}
-use Rattle.history_laws.specs.Exchanges.{Begun, opens_by, begun_by, begun, Turn, Nothing, Sent, Replied, Rejected, Expired, turn, waits_by, waits_for, replies_by, replies, End, kept, end_here, end_by, end_of, goes_to}
+use Rattle.history_laws.specs.Exchanges.{Begun, started_by, opens_by, begun_by, begun, Turn, Nothing, Sent, Replied, Rejected, Expired, turn, waits_by, waits_for, replies_by, replies, heard_for, End, kept, end_here, end_by, end_of, goes_to}
 use Rattle.resp_cache.specs.Stored.{Stored}
 use Rattle.history_laws.specs.Observing.{manner}
 use Rattle.history_laws.specs.Joining.{joins}
-use Rattle.history_laws.specs.Hearing.{has_room}
-use Rattle.history_laws.specs.Justified.{AskNote, MayBeFirst, SentNote, HeardNote, IsPlain, Follows, Legal, CopiedNote}
+use Rattle.history_laws.specs.Hearing.{answers, notice_of, observation_of, has_room}
+use Rattle.history_laws.specs.Justified.{AskNote, MayBeFirst, MaySay, SentNote, HeardNote, IsPlain, Follows, Legal, CopiedNote}
 use Rattle.history_laws.specs.Laws.{IsFirst}
 use Rattle.history_laws.proofs.Resting.{some-is}
 use Rattle.history_laws.proofs.Places.{at-cases, at-new, at-below, at-keeps, before-keeps, before-new}
@@ -98,30 +98,86 @@ opens-so l t (Requests r) (Begins u) q e h = subst (OpensSo l t (Requests r)) (s
 opens-so l t (Requests r) (Renews u s) q e h = subst (OpensSo l t (Requests r)) (sym h.0 ∙ some-is u q e) (record { sense = refl; alone = h.1; room = h.2 })
 opens-so l t (Refuses cause status) (Begins u) q e h = absurd h
 opens-so l t (Refuses cause status) (Renews u s) q e h = absurd h
+opens-so l t (Requests r) (Says m to notice) q e h = absurd h
+opens-so l t (Refuses cause status) (Says m to notice) q e h = absurd h
 opens-so l t s note q e h = cc
 
 plain-opens : (note : Note) (q : CoapRequest) → opens_by note ≡ Some q → IsPlain note → ⊥
 plain-opens (Begins r) q e h = h
 plain-opens (Renews r s) q e h = h
+plain-opens (Says m to notice) q e h = h
 plain-opens note q e h = cc
 
--- what opens an exchange is an ask for it
-begins-ask : (l : List Noted) (t : ℕ) (d : Deed) (note : Note) (q : CoapRequest) → opens_by note ≡ Some q → Follows l t d note
-    → (c : ℕ) × (a : Ask) × (d ≡ Asks c a) × (a.sense ≡ Requests q)
-begins-ask l t (Asks c a) note q e f = (c, a, refl, (opens-so l t a.sense note q e f.3).sense)
+-- a notification that opens one: which first sending it answers, and what it is
+pub record Starting (l : List Noted) (t : ℕ) (d : Deed) (note : Note) (q : CoapRequest) : Type 0 where
+  pub peer : Peer
+  pub bytes : List ℕ
+  pub message : Content
+  pub sending : ℕ
+  pub notice : Notice
+  pub ask : ℕ
+  pub deed : d ≡ Hears peer bytes
+  pub is : note ≡ Says message (Some sending) notice
+  pub starts : notice.observation ≡ Starts ask q
+  pub said : observation_of l t message (Some sending) ≡ Starts ask q
+
+started-is : (o : Observation) (q : CoapRequest) → started_by o ≡ Some q → (k : ℕ) × (o ≡ Starts k q)
+started-is (Starts k r) q e = (k, ap (Starts k) (some-is r q e))
+started-is o q e = cc
+
+says-alike : (m n : Content) (i j : Option ℕ) (u v : Notice) → Says m i u ≡ Says n j v → (i ≡ j) × (u ≡ v)
+says-alike m n i j u v e = (cc, cc)
+
+un-starts : (k : ℕ) (q : CoapRequest) → Unobserved ≡ Starts k q → ⊥
+un-starts k q e = cc
+
+starting : (l : List Noted) (t : ℕ) (p : Peer) (b : List ℕ) (m : Content) (to : Option ℕ) (notice : Notice) (q : CoapRequest)
+    → started_by notice.observation ≡ Some q → MaySay l t p b (Says m to notice) m → Starting l t (Hears p b) (Says m to notice) q
+starting l t p b m to notice q e may = by to refl
+  where
+    kind : (k : ℕ) × (notice.observation ≡ Starts k q)
+    kind = started-is notice.observation q e
+
+    same : (to ≡ answers l p m) × (notice ≡ notice_of l t p m (answers l p m))
+    same = says-alike m m to (answers l p m) notice (notice_of l t p m (answers l p m)) may.says
+
+    here : observation_of l t m to ≡ Starts kind.0 q
+    here = ap (observation_of l t m) same.0 ∙ (sym (ap (λ (n : Notice). n.observation) same.1) ∙ kind.1)
+
+    by : (v : Option ℕ) → to ≡ v → Starting l t (Hears p b) (Says m to notice) q
+    by None is = absurd (un-starts kind.0 q (sym (ap (observation_of l t m) is) ∙ here))
+    by (Some i) is = record {
+      peer = p;
+      bytes = b;
+      message = m;
+      sending = i;
+      notice = notice;
+      ask = kind.0;
+      deed = refl;
+      is = ap (λ (v : Option ℕ). Says m v notice) is;
+      starts = kind.1;
+      said = ap (observation_of l t m) (sym is) ∙ here;
+    }
+
+-- what opens an exchange is an ask for it, or such a notification
+pub begins-ask : (l : List Noted) (t : ℕ) (d : Deed) (note : Note) (q : CoapRequest) → opens_by note ≡ Some q → Follows l t d note
+    → ((c : ℕ) × (a : Ask) × (d ≡ Asks c a) × (a.sense ≡ Requests q)) ⊎ Starting l t d note q
+begins-ask l t (Asks c a) note q e f = inl (c, a, refl, (opens-so l t a.sense note q e f.3).sense)
 begins-ask l t (Opens c) note q e f = absurd (plain-opens note q e f.2)
 begins-ask l t (Sends p b w) note q e f = absurd (never note e f.1)
   where
     never : (note : Note) → opens_by note ≡ Some q → SentNote l t p b w note → ⊥
     never (Begins r) e h = h
     never (Renews r s) e h = h
+    never (Says m to notice) e h = h
     never note e h = cc
-begins-ask l t (Hears p b) note q e f = absurd (never note e f.3)
+begins-ask l t (Hears p b) note q e f = inr (told note e f.3)
   where
-    never : (note : Note) → opens_by note ≡ Some q → HeardNote l t p b note → ⊥
-    never (Begins r) e h = h
-    never (Renews r s) e h = h
-    never note e h = cc
+    told : (note : Note) → opens_by note ≡ Some q → HeardNote l t p b note → Starting l t (Hears p b) note q
+    told (Says m to notice) e h = starting l t p b m to notice q e h
+    told (Begins r) e h = absurd h
+    told (Renews r s) e h = absurd h
+    told note e h = cc
 begins-ask l t Passes note q e f = absurd (plain-opens note q e f.1)
 begins-ask l t (Answers c k g) note q e f = absurd (plain-opens note q e f.4)
 begins-ask l t (Shuts c) note q e f = absurd (plain-opens note q e f.2)
@@ -144,9 +200,18 @@ begins-ask l t (Carries k mark done) note q e f = absurd (never mark done note e
     renews D.Ground (D.Heard p b) q s h = h
     renews mark done q s h = h
 
+    says : (mark : Mark) (done : D.Done) (m : Content) (to : Option ℕ) (notice : Notice) → CopiedNote l t mark done (Says m to notice) → ⊥
+    says D.Past (D.Sent p b w) m to notice h = h
+    says D.Past (D.Heard p b) m to notice h = h
+    says D.Ground (D.Asked c a) m to notice h = h
+    says D.Ground (D.Sent p b w) m to notice h = h
+    says D.Ground (D.Heard p b) m to notice h = h
+    says mark done m to notice h = h
+
     never : (mark : Mark) (done : D.Done) (note : Note) → opens_by note ≡ Some q → CopiedNote l t mark done note → ⊥
     never mark done (Begins r) e h = begins mark done r h
     never mark done (Renews r s) e h = renews mark done r s h
+    never mark done (Says m to notice) e h = says mark done m to notice h
     never mark done note e h = cc
 
 pub record AskedFor (l : List Noted) (o : ℕ) (b : Begun) : Type 0 where
@@ -157,18 +222,60 @@ pub record AskedFor (l : List Noted) (o : ℕ) (b : Begun) : Type 0 where
   pub opens : opens_by note ≡ Some b.request
   pub sense : ask.sense ≡ Requests b.request
 
-pub asked-for : (l : List Noted) (o : ℕ) (b : Begun) → Legal l → begun l o ≡ Some b → AskedFor l o b
-asked-for l o b legal e =
-    let h = begun-opening l o b e in
-    let it = begins-ask (before l o) b.since h.0 h.1 b.request h.3 (follows-at l o _ legal h.2) in
-    record {
+-- or the notification did
+pub record StartedFor (l : List Noted) (o : ℕ) (b : Begun) : Type 0 where
+  pub peer : Peer
+  pub bytes : List ℕ
+  pub message : Content
+  pub sending : ℕ
+  pub notice : Notice
+  pub ask : ℕ
+  pub stands : at l o ≡ Some (noted b.since (Hears peer bytes) (Says message (Some sending) notice))
+  pub starts : notice.observation ≡ Starts ask b.request
+  pub said : observation_of (before l o) b.since message (Some sending) ≡ Starts ask b.request
+
+pub opened-for : (l : List Noted) (o : ℕ) (b : Begun) → Legal l → begun l o ≡ Some b → AskedFor l o b ⊎ StartedFor l o b
+opened-for l o b legal e = by h.0 h.1 h.2 h.3 (begins-ask (before l o) b.since h.0 h.1 b.request h.3 (follows-at l o _ legal h.2))
+  where
+    h : Opening l o b
+    h = begun-opening l o b e
+
+    by : (d : Deed) (note : Note) → at l o ≡ Some (noted b.since d note) → opens_by note ≡ Some b.request
+        → ((c : ℕ) × (a : Ask) × (d ≡ Asks c a) × (a.sense ≡ Requests b.request)) ⊎ Starting (before l o) b.since d note b.request
+        → AskedFor l o b ⊎ StartedFor l o b
+    by d note is opens (inl it) = inl (record {
       conn = it.0;
       ask = it.1;
-      note = h.1;
-      stands = subst (λ (d : Deed). at l o ≡ Some (noted b.since d h.1)) it.2 h.2;
-      opens = h.3;
+      note = note;
+      stands = subst (λ (d : Deed). at l o ≡ Some (noted b.since d note)) it.2 is;
+      opens = opens;
       sense = it.3;
-    }
+    })
+    by d note is opens (inr it) = inr (record {
+      peer = it.peer;
+      bytes = it.bytes;
+      message = it.message;
+      sending = it.sending;
+      notice = it.notice;
+      ask = it.ask;
+      stands =
+          subst (λ (d : Deed). at l o ≡ Some (noted b.since d (Says it.message (Some it.sending) it.notice))) it.deed
+          (subst (λ (n : Note). at l o ≡ Some (noted b.since d n)) it.is is);
+      starts = it.starts;
+      said = it.said;
+    })
+
+-- An ask that opens an exchange asks for what that is for.
+pub asked-by : (l : List Noted) (o c : ℕ) (a : Ask) (note : Note) (b : Begun) → Legal l → at l o ≡ Some (noted b.since (Asks c a) note)
+    → opens_by note ≡ Some b.request → AskedFor l o b
+asked-by l o c a note b legal is opens = record {
+  conn = c;
+  ask = a;
+  note = note;
+  stands = is;
+  opens = opens;
+  sense = (opens-so (before l o) b.since a.sense note b.request opens (follows-at l o _ legal is).3).sense;
+}
 
 -- a first sending asks what its exchange was opened for, of the peer that it is for: it is the next message after
 -- the replies before it
@@ -177,7 +284,7 @@ pub record SentFor (l : List Noted) (o i : ℕ) (p : Peer) (m : Content) (bytes 
   pub opened : begun l o ≡ Some exchange
   pub after : o < i
   pub peer : p ≡ exchange.request.peer
-  pub next : next_message (manner (before l i) o) exchange.request (progress exchange.request (replies (before l i) o)) m.mid m.token ≡ Some m
+  pub next : next_message (manner (before l i) o) exchange.request (progress exchange.request (heard_for (before l i) o)) m.mid m.token ≡ Some m
   pub spelled : Spells m bytes
 
 pub sent-for : (l : List Noted) (t o i : ℕ) (p : Peer) (m : Content) → Legal l → (f : IsFirst l t o i p m) → SentFor l o i p m f.bytes
@@ -219,17 +326,17 @@ stays-ended how n None h = absurd (false≢true (sym h))
 stays-ended None n (Some f) h = refl
 stays-ended (Some how) n (Some f) h = refl
 
-past-step : (b : Option Begun) (v : Option Stored) (u : Turn) (n k : ℕ) (rs : List Reply) (w : Option ℕ) (e : Option End) → Past w e k (length rs)
-    → Past (waits_by u w) (end_by (end_here b v n rs u) n e) k (length (replies_by n u rs))
-past-step b v Nothing n k rs w e h = h
-past-step b v (Sent i) n k rs w e h = (h.0, inl refl)
-past-step b v (Replied i m place) n k rs w e h =
+past-step : (b : Option Begun) (v : Option Stored) (u : Turn) (n k : ℕ) (hs rs : List Reply) (w : Option ℕ) (e : Option End) → Past w e k (length rs)
+    → Past (waits_by u w) (end_by (end_here b v n hs u) n e) k (length (replies_by n u rs))
+past-step b v Nothing n k hs rs w e h = h
+past-step b v (Sent i) n k hs rs w e h = (h.0, inl refl)
+past-step b v (Replied i m place) n k hs rs w e h =
     let r : Reply = record { number = n; sending = i; message = m } in
     let more = length-append rs (r ∷ []) in
     let le = h.0 in
     (omega (arith, more, le), inr (inr (omega (arith, more, le))))
-past-step b v Rejected n k rs w e h = (h.0, inr (inl (ended (Some Reset) n e refl)))
-past-step b v Expired n k rs w e h = (h.0, inr (inl (ended (Some TimedOut) n e refl)))
+past-step b v Rejected n k hs rs w e h = (h.0, inr (inl (ended (Some Reset) n e refl)))
+past-step b v Expired n k hs rs w e h = (h.0, inr (inl (ended (Some TimedOut) n e refl)))
 
 past-new : (l : List Noted) (t o : ℕ) (p : Peer) (b : List ℕ) (w : Option ℕ) (m : Content)
     → Past (waits_for (noted t (Sends p b w) (First o m) ∷ l) o) (end_of (noted t (Sends p b w) (First o m) ∷ l) o)
@@ -249,7 +356,7 @@ past (x ∷ older) t o i p m f =
       | inr u ↦
           subst (λ (k : List Noted). Past (waits_for (x ∷ older) o) (end_of (x ∷ older) o) (length (replies k o)) (length (replies (x ∷ older) o)))
           (sym (before-keeps x older i (IsFirst-below older t o i p m u)))
-          (past-step (begun older o) (kept older o) (turn older o x) (length older) (length (replies (before older i) o)) (replies older o) (waits_for older o) (end_of older o)
+          (past-step (begun older o) (kept older o) (turn older o x) (length older) (length (replies (before older i) o)) (heard_for older o) (replies older o) (waits_for older o) (end_of older o)
           (past older t o i p m u))
     ]
 

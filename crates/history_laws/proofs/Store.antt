@@ -255,7 +255,7 @@ read_older-refused h =
     let s : Stored = h.2.3.0 in
     let is : IsBrought read_twice get_light s = uncarried read_twice get_light s refl h.2.3.1 in
     let latest : 7 ≤ is.ending = is.latest 5 7 (response_of content_again) (record { number = 7; sending = 6; message = content_again }) [] (inl (record { ended = refl; code = refl })) refl refl in
-    let all = ends-all read_twice is.opening is.ending s.response (is.first ∷ is.more) (ended-twice is.comes).ended in
+    let all = ends-all read_twice is.opening is.ending s.response (is.first ∷ is.more) h.0 (ended-twice is.comes).ended in
     let numbered : numbers (all.others ++ all.last ∷ []) ≡ 3 ∷ [] = sym (ap numbers all.all) ∙ (sym is.list ∙ h.2.3.3) in
     let number : all.last.number ≡ 3 = only all.others all.last 3 numbered in
     let ending = all.number in

@@ -8,31 +8,30 @@ use Rattle.ask_model.specs.Requests.{CoapRequest, Sense, Requests, Refuses}
 use Rattle.cache_key.specs.declared.place.Place.{Place}
 use Rattle.ask_model.specs.Sharing.{asked_place}
 use Rattle.ask_model.specs.Views.{Ask}
-use Rattle.ask_model.proofs.CallerLemmas.{asks-alike, same-place}
+use Rattle.ask_model.proofs.CallerLemmas.{same-place}
 use Rattle.journal_book.specs.Entries.{Live, Kept, Fault, Deed, Opens, Asks, Sends, Hears, Passes, Answers, Shuts, Seals, Carries}
 use Rattle.journal_book.specs.Entries as D
 use Rattle.history_laws.specs.Readings.{Noted, Note, Renews, Says, Serves, carries, at, before, noted}
 use Rattle.history_laws.specs.Progress.{Reply, Ending}
-use Rattle.history_laws.specs.Exchanges.{Begun, Nothing, begun, kept, end_here, replies, turn, turn_by, waits_for}
+use Rattle.history_laws.specs.Exchanges.{Begun, Nothing, begun, kept, end_here, heard_for, turn, turn_by, waits_for}
 use Rattle.history_laws.specs.Carrying.{carried}
 use Rattle.history_laws.specs.Storing.{IsAsHeard, IsBrought, IsCarried, IsRenewed, IsStored, pieces_of}
 use Rattle.history_laws.specs.Justified.{IsAsk, Ends, HasGrounds, AskNote, Follows, Legal, reads}
 use Rattle.history_laws.specs.Laws.{IsReplyTo}
-use Rattle.history_laws.specs.Grounds.{IsToldFor, IsWriteEnd, RestsOn, RestsOnKept, RestsOnStored, RestsOnCarried, RestsOnRenewed, RestsOnTheStore, NothingOutrun}
-use Rattle.history_laws.proofs.Basis.{brought-by, grounds-of, number-of, requests-same}
+use Rattle.history_laws.specs.Grounds.{IsToldFor, IsWriteEnd, RestsOn, RestsOnKept, RestsOnNotice, RestsOnStored, RestsOnCarried, RestsOnRenewed, RestsOnTheStore, NothingOutrun}
+use Rattle.history_laws.proofs.Basis.{grounds-of, number-of, requests-same}
+use Rattle.history_laws.proofs.Begun.{comes-fit}
 use Rattle.history_laws.proofs.Own.{rests-on-its-own}
-use Rattle.history_laws.proofs.Renewing.{stored-told, stored-unoutrun}
+use Rattle.history_laws.proofs.Renewing.{brought-of, brought-unoutrun, stored-told, stored-unoutrun}
 use Rattle.history_laws.proofs.Carrying.{heard-of, carried-at, carried-before, carried-fit, copy-at, reply-before}
 use Rattle.history_laws.proofs.Copying.{at-still}
 use Rattle.history_laws.proofs.Elements.{contains-none}
 use Rattle.history_laws.proofs.Facts.{at-before, follows-at, legal-before, length-before}
-use Rattle.history_laws.proofs.Joining.{ReadsAlong, Shared, shared-is, reader, unoutrun-earlier, write-earlier}
+use Rattle.history_laws.proofs.Joining.{ReadsAlong, Shared, shared-is, reader, unoutrun-earlier, write-earlier, writes-there}
 use Rattle.history_laws.proofs.Kept.{renews-for}
-use Rattle.history_laws.proofs.Notified.{comes-fit, comes-since}
 use Rattle.history_laws.proofs.Openings.{ends-first}
 use Rattle.history_laws.proofs.Places.{at-below, at-same}
 use Rattle.history_laws.proofs.Resting.{none-some, some-is}
-use Rattle.history_laws.proofs.Sent.{begun-before}
 
 -- what an ask was served
 pub record Served (l : List Noted) (t k c : ℕ) (a : Ask) (js : List ℕ) : Type 0 where
@@ -59,11 +58,11 @@ kept-served l n t c k note js legal stands =
     let g : HasGrounds (before l n) t k (Kept js) = grounds-of (before l n) t c k (Kept js) note (follows-at l n _ legal stands) in
     (g.0, g.1, served-by l t k g.0 g.1 js legal (at-before l n k _ g.2))
 
--- No write to the place ended between the opening of what is stored and the ask.
+-- No write to the place ended between the ask that what is stored goes back to and this one.
 pub stored-current : (l : List Noted) (k e : ℕ) (q : CoapRequest) (s : Stored) → Legal l → k < length l → (is : IsBrought (before l k) q s)
-    → IsWriteEnd l q.peer q.target.path e → e < k → e ≤ is.opening
+    → IsWriteEnd l q.peer q.target.path e → e < k → e ≤ s.opening
 stored-current l k e q s legal below is write lt =
-    unoutrun-earlier l k is.opening e q legal below (shared-is (before l k) q is.opening is.shared).fresh write lt
+    unoutrun-earlier l k s.opening e q legal below (brought-unoutrun (before l k) q s (legal-before l k legal) is) write lt
 
 -- No write ends in a copy.
 
@@ -86,7 +85,7 @@ ended-uncopied l o e how y ended stands copied =
     let it = ends-first l o e how ended in
     let same : it.0 ≡ y = at-same l e _ _ it.1 stands in
     let none : turn (before l e) o it.0 ≡ Nothing = copied-nothing (before l e) o it.0 (ap (λ (v : Noted). carries v.written.deed) same ∙ copied) in
-    none-some how (ap (end_here (begun (before l e) o) (kept (before l e) o) e (replies (before l e) o)) (sym none) ∙ it.3)
+    none-some how (ap (end_here (begun (before l e) o) (kept (before l e) o) e (heard_for (before l e) o)) (sym none) ∙ it.3)
 
 -- So none ended at the place of what is carried, or before it.
 pub copied-current : (l : List Noted) (o e : ℕ) (b : Begun) (q : CoapRequest) → Legal l → carried l o ≡ Some b → IsWriteEnd l q.peer q.target.path e → e ≤ o → ⊥
@@ -125,11 +124,9 @@ module _ (l : List Noted) (t k c : ℕ) (a : Ask) (js : List ℕ) (legal : Legal
       let r : Reply = found.0 in
       let o : ℕ = is.opening in
       let was = comes-fit (before l k) o is.ending it.stored.response ws r (legal-before l k legal) is.comes found.1 in
-      let now = comes-fit l o is.ending it.stored.response ws r legal (comes-since l k _ o is.ending it.stored.response ws it.stands is.comes) found.1 in
-      let below = at-below (before l k) r.number (noted was.moment (Hears was.peer was.bytes) (Says r.message (Some r.sending) was.notice)) was.heard in
-      let exchange = stored-shared is in
-      let came = brought-by l o exchange.exchange it.request r legal (begun-before l k o exchange.exchange exchange.opened)
-      (asks-alike it.request exchange.exchange.request exchange.same) now in
+      let below = at-below (before l k) r.number _ was.fits.heard in
+      let of = brought-of l k _ it.request it.stored r legal it.stands is found.1 in
+      let came = of.came in
       let same = found.2 in
       let len = length-before l k _ it.stands in (
         record {
@@ -145,8 +142,10 @@ module _ (l : List Noted) (t k c : ℕ) (a : Ask) (js : List ℕ) (legal : Legal
           reply = r;
           number = same;
           earlier = omega (arith, below, len, same);
+          owner = of.owner;
+          owned = of.owned;
           fits = came.fits;
-          after = came.after;
+          after = of.late;
           moment = came.moment;
           mid = came.mid;
           token = came.token;
@@ -239,7 +238,7 @@ told-late l e since q j legal write le (inr h) = absurd (copied-current l since 
 stored-late : (l : List Noted) (k e : ℕ) (x : Noted) (q : CoapRequest) (s : Stored) → Legal l → at l k ≡ Some x → IsStored (before l k) q s
     → IsWriteEnd l q.peer q.target.path e → e < k → e ≤ s.opening
 stored-late l k e x q s legal stands is write lt =
-    unoutrun-earlier l k s.opening e q legal (at-below l k x stands) (stored-unoutrun (before l k) q s is) write lt
+    unoutrun-earlier l k s.opening e q legal (at-below l k x stands) (stored-unoutrun (before l k) q s (legal-before l k legal) is) write lt
 
 -- No write ends in an ask.
 ask-ends : (l : List Noted) (o e : ℕ) (how : Ending) (t c : ℕ) (a : Ask) (note : Note) → Ends l o e how → at l e ≡ Some (noted t (Asks c a) note) → ⊥
@@ -247,7 +246,7 @@ ask-ends l o e how t c a note ended stands =
     let it = ends-first l o e how ended in
     let same : it.0 ≡ noted t (Asks c a) note = at-same l e _ _ it.1 stands in
     let none : turn (before l e) o it.0 ≡ Nothing = ap (turn (before l e) o) same in
-    none-some how (ap (end_here (begun (before l e) o) (kept (before l e) o) e (replies (before l e) o)) (sym none) ∙ it.3)
+    none-some how (ap (end_here (begun (before l e) o) (kept (before l e) o) e (heard_for (before l e) o)) (sym none) ∙ it.3)
 
 -- The exchange that an ask reads is for the same place.
 place-read : (l : List Noted) (k o : ℕ) (q : CoapRequest) (b : Begun) → ((o ≡ k) × (q ≡ b.request)) ⊎ ReadsAlong l k o q b → asked_place q ≡ asked_place b.request
@@ -285,12 +284,22 @@ nothing-outrun l n c k j e (Live js) a q legal answer has ask sense get write lt
         let same = requests-same l k c it.conn a it.ask q it.request ask it.asked sense it.sense in
         write-earlier l k o e legal it (subst (λ (q : CoapRequest). IsWriteEnd l q.peer q.target.path e) same write) lt
 
-    by : RestsOn l k j ⊎ RestsOnKept l k j → (o : ℕ) × (r : Reply) × IsReplyTo l o r × (r.number ≡ j) × (e < r.sending)
+    by : RestsOn l k j ⊎ (RestsOnNotice l k j ⊎ RestsOnKept l k j) → (o : ℕ) × (r : Reply) × IsReplyTo l o r × (r.number ≡ j) × (e < r.sending)
     by (inl h) =
         let earlier = before-it h.opening h.reads in
         let after = h.after in
         (h.opening, h.reply, h.fits, h.number, omega (arith, earlier, after))
-    by (inr h) =
+    by (inr (inl h)) =
+        let it = reader l k j legal h.reads in
+        let same = requests-same l k c it.conn a it.ask q it.request ask it.asked sense it.sense in
+        let exchange : it.exchange ≡ h.exchange = some-is _ _ (sym it.opened ∙ h.opened) in
+        let place : asked_place q ≡ asked_place h.exchange.request =
+        ap asked_place same ∙ (place-read l k j it.request it.exchange it.way ∙ ap (λ (b : Begun). asked_place b.request) exchange) in
+        let there : IsWriteEnd l h.exchange.request.peer h.exchange.request.target.path e = subst (λ (p : Place). IsWriteEnd l p.peer p.path e) place write in
+        let earlier = h.begun_by.current there.opening e there.write there.how there.opened (writes-there l e h.exchange.request there) there.ended (before-it j h.reads) in
+        let after = h.begun_by.after in
+        (h.begun_by.ask, h.reply, h.begun_by.fits, h.number, omega (arith, earlier, after))
+    by (inr (inr h)) =
         let it = reader l k h.opening legal h.reads in
         let same = requests-same l k c it.conn a it.ask q it.request ask it.asked sense it.sense in
         let other = requests-same l k it.conn h.conn it.ask h.ask it.request h.request it.asked h.asked it.sense h.sense in
@@ -310,7 +319,7 @@ nothing-outrun l n c k j e (Kept js) a q legal answer has ask sense get write lt
         let h = (stored-rests l answer.moment k d b js legal it is j has).0 in
         let earlier = stored-current l k e h.request h.stored legal (at-below l k _ h.asked.stands) h.is (there h.conn h.ask h.request h.asked h.sense) lt in
         let after = h.after in
-        (h.is.opening, h.reply, h.fits, h.number, omega (arith, earlier, after))
+        (h.owner, h.reply, h.fits, h.number, omega (arith, earlier, after))
     heard d b it (inr is) =
         absurd (carried-current l k e it.request it.stored legal (at-below l k _ it.stands) is
         (there d b it.request (record { moment = answer.moment; note = Serves js; stands = it.stands }) it.sense) lt)

@@ -109,7 +109,7 @@ legal-sent = (
   ),
 )
 
-legal-registered : Legal registered
+pub legal-registered : Legal registered
 legal-registered = (
   (legal-sent, lit≤ tt, (may-come _ refl refl, lit≤ tt, refl, record { spelled = registers-spelled; unheard = refl; remembered = refl; says = refl })),
   lit≤ tt,

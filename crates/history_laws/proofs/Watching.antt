@@ -1,5 +1,5 @@
 -- The watches of a history: each came of a reply to a GET that asked to observe, and they are 64 at most.
-use Rattle.std.proofs.Common.{◌≡◌, ℕ, zero, ◌≤◌, Bool, true, false, cond, not, eqb, leb, List, [], ◌∷◌, length, Option, Some, option_map, refl, sym, ap, subst, ◌∙◌, arith, length-append}
+use Rattle.std.proofs.Common.{◌≡◌, ℕ, zero, ◌≤◌, Bool, true, false, cond, not, eqb, leb, inl, inr, List, [], ◌∷◌, ◌++◌, length, Option, Some, option_map, refl, sym, ap, subst, ◌∙◌, arith, length-append}
 use Rattle.std.specs.List.{AllByRecursion, Contains}
 use Rattle.std.proofs.lemmas.Bool.{false≢true, and_parts}
 use Rattle.std.proofs.lemmas.Bool.Decides.{Decides-eqb}
@@ -18,10 +18,10 @@ use Rattle.observe_share.specs.declared.registration.Registration.{Registration}
 use Rattle.observe_share.specs.declared.notice.Notice as Shared
 use Rattle.observe_share.specs.declared.notice.Notice.TheVariants.{Update, Other}
 use Rattle.observe_share.specs.Watches.{counted, counts_for, first_changed}
-use Rattle.history_laws.specs.Readings.{Noted, Note, Begins, Renews, Says, Notice, Observation, Unobserved, Registers, Updates, Outdates, Cancels, noted, at, before}
+use Rattle.history_laws.specs.Readings.{Noted, Note, Begins, Renews, Says, Notice, Observation, Unobserved, Registers, Updates, Outdates, Starts, Cancels, noted, at, before}
 use Rattle.history_laws.specs.Progress.{Reply, progress, next_message}
 use Rattle.history_laws.specs.Transmissions.{FirstSending, first_at}
-use Rattle.history_laws.specs.Exchanges.{Begun, begun, opens_by, Turn, Nothing, Sent, Replied, Rejected, Expired, turn, waits_for, replies_by, replies, answered_by}
+use Rattle.history_laws.specs.Exchanges.{Begun, begun, opens_by, Turn, Nothing, Sent, Replied, Rejected, Expired, turn, waits_for, replies_by, replies, begins_with, heard_for, answered_by}
 use Rattle.history_laws.specs.Observing.{Watch, asked_again, asked_by, current_by, held_by, idles, is_current, is_for, is_under, manner, manner_by, notice_in, observes, tag_of, registered, registered_of, told_by, unless_replied, wants_in, watch_for, watches, watches_by}
 use Rattle.history_laws.specs.Hearing.{answers, answers_by}
 use Rattle.history_laws.specs.Justified.{Follows, Legal}
@@ -32,11 +32,12 @@ use Rattle.history_laws.proofs.Facts.{eqb-itself, IsFirst-keeps, legal-before, l
 use Rattle.history_laws.proofs.Kept.{at-kept}
 use Rattle.history_laws.proofs.Firsts.{first-is}
 use Rattle.history_laws.proofs.Members.{all-join}
-use Rattle.history_laws.proofs.Order.{quiet-since, sends-next}
+use Rattle.history_laws.proofs.Beginnings.{begins-at}
+use Rattle.history_laws.proofs.Quiet.{quiet-since, sends-next}
 use Rattle.history_laws.proofs.Places.{at-below, at-keeps}
 use Rattle.history_laws.proofs.Replies.{found, replies-fit}
 use Rattle.history_laws.proofs.Resting.{none-some, some-is}
-use Rattle.history_laws.proofs.Sent.{AskedFor, asked-for, begun-keeps, sent-for}
+use Rattle.history_laws.proofs.Sent.{AskedFor, opened-for, begun-keeps, sent-for}
 use Rattle.history_laws.proofs.Turns.{NotRst, waits-first}
 use Rattle.history_laws.proofs.Registering.{all-changed, all-mapped, changed-few, filter-few, IsRegistering, IsSaid, map-len, registering, said}
 
@@ -172,7 +173,15 @@ wants-begins : (l : List Noted) (c : ℕ) (a : Ask) (note : Note) (q : CoapReque
     → note ≡ Begins q
 wants-begins l c a (Begins r) q e f = ap Begins (some-is r q e)
 wants-begins l c a (Renews r s) q e f = absurd (false≢true f)
+wants-begins l c a (Says m to notice) q e f = absurd (false≢true f)
 wants-begins l c a note q e f = cc
+
+-- what asks to observe was opened by an ask
+wanting-ask : (l : List Noted) (o : ℕ) (b : Begun) → Legal l → begun l o ≡ Some b → wants_in (before l o) (at l o) ≡ true → AskedFor l o b
+wanting-ask l o b legal opened wants = elim (opened-for l o b legal opened) [
+  | inl it ↦ it
+  | inr it ↦ absurd (false≢true (subst (λ (v : Option Noted). wants_in (before l o) v ≡ true) it.stands wants))
+]
 
 registered-fits : (l : List Noted) (t : ℕ) (p : Peer) (b : List ℕ) (m : Content) (i : ℕ) (notice : Notice) → Legal l
     → answers l p m ≡ Some i → (it : IsRegistering l m i)
@@ -188,11 +197,11 @@ registered-fits l t p b m i notice legal to it =
     let same : sent.exchange ≡ it.exchange = some-is _ _ (sym sent.opened ∙ it.opened) in
     let peer : w.1 ≡ q.peer = sent.peer ∙ ap (λ (b : Begun). b.request.peer) same in
     let kind = not-rst l p m i it.response to in
-    let heard = found l p m i it.response kind to in
-    let is = first-is l w.0 o i w.1 c heard.first f heard.is in
-    let token : c.token ≡ m.token = sym (ap (λ (g : FirstSending). g.message.token) is) ∙ heard.token in
+    let went = found l p m i it.response kind to in
+    let is = first-is l w.0 o i w.1 c went.first f went.is in
+    let token : c.token ≡ m.token = sym (ap (λ (g : FirstSending). g.message.token) is) ∙ went.token in
     let none = no-replies (wants_in (before l o) (at l o)) (replies l o) it.observing in
-    let ask = asked-for l o it.exchange legal it.opened in
+    let ask = wanting-ask l o it.exchange legal it.opened none.1 in
     let begins : ask.note ≡ Begins q =
     wants-begins (before l o) ask.conn ask.ask ask.note q ask.opens
     (subst (λ (v : Option Noted). wants_in (before l o) v ≡ true) ask.stands none.1) in
@@ -213,9 +222,11 @@ registered-fits l t p b m i notice legal to it =
     let how : manner (before l i) o ≡ Observing =
     ap (λ (v : Option Stored). manner_by (tag_of v (replies (before l i) o)) (observes (before l i) o)) (at-kept (before l i) o _ still)
     ∙ ap observing_if observing in
+    let begun_with : begins_with (before l i) o ≡ [] = begins-at (before l i) o _ still in
+    let heard : heard_for (before l i) o ≡ [] = ap (λ (bs : List Reply). bs ++ replies (before l i) o) begun_with ∙ quiet in
     let next : next_message Observing q (progress q []) c.mid c.token ≡ Some c =
-    subst (λ (rs : List Reply). next_message Observing q (progress q rs) c.mid c.token ≡ Some c) quiet
-    (subst (λ (f : Manner). next_message f q (progress q (replies (before l i) o)) c.mid c.token ≡ Some c) how
+    subst (λ (rs : List Reply). next_message Observing q (progress q rs) c.mid c.token ≡ Some c) heard
+    (subst (λ (f : Manner). next_message f q (progress q (heard_for (before l i) o)) c.mid c.token ≡ Some c) how
     (sends-next l w.0 o i w.1 c it.exchange legal f it.opened)) in
     let asks : c ≡ observe_message q c.mid c.token = some-is _ _ (sym next ∙ first-asks q c.mid c.token get) in
     let message : c ≡ observe_message q c.mid m.token = asks ∙ ap (observe_message q c.mid) token in
@@ -274,6 +285,7 @@ told-fits l t p b m i notice legal follows a = by notice.observation refl
     by Registers e = all-join P (watches l) (registered l t i m (first_at l i)) a (new (registering l t m i (is.observation ∙ e)))
     by Updates e = changed
     by Outdates e = changed
+    by (Starts k q) e = changed
     by Cancels e = changed
 
 fits-by : (l : List Noted) (t : ℕ) (d : Deed) (note : Note) → Legal l → Follows l t d note
@@ -337,6 +349,7 @@ told-few l t p b m i notice follows le = by notice.observation refl
         omega (arith, few, new, all)
     by Updates e = changed
     by Outdates e = changed
+    by (Starts k q) e = changed
     by Cancels e = changed
 
 few-by : (l : List Noted) (t : ℕ) (d : Deed) (note : Note) → Follows l t d note → length (watches l) ≤ 64

@@ -4,8 +4,8 @@ use Rattle.std.specs.List.{Contains}
 use Rattle.history_laws.specs.Responses.{Response, whole_of}
 use Rattle.history_laws.specs.Readings.{Noted}
 use Rattle.history_laws.specs.Progress.{Reply, messages, Ending, Whole}
-use Rattle.history_laws.specs.Exchanges.{Begun, begun, replies}
-use Rattle.history_laws.specs.Justified.{Ends as EndsAs}
+use Rattle.history_laws.specs.Exchanges.{Begun, begun, heard_for}
+use Rattle.history_laws.specs.Justified.{Ends as EndsAs, Legal}
 use Rattle.history_laws.proofs.Basis.{made-of}
 use Rattle.history_laws.proofs.Going.{ends-whole}
 use Rattle.history_laws.proofs.Openings.{ends-first}
@@ -18,7 +18,7 @@ pub record EndsAll (l : List Noted) (o e : ℕ) (w : Response) (rs : List Reply)
   pub others : List Reply
   pub last : Reply
   pub all : rs ≡ others ++ last ∷ []
-  pub listed : (r : Reply) → Contains rs r → Contains (replies l o) r
+  pub listed : (r : Reply) → Contains rs r → Contains (heard_for l o) r
   pub number : last.number ≡ e
   pub whole : whole_of exchange.request (messages rs) ≡ Some w
 
@@ -34,9 +34,9 @@ last-same (z ∷ xs) (v ∷ ys) x y e = last-same xs ys x y (tail e)
     tail : z ∷ (xs ++ x ∷ []) ≡ v ∷ (ys ++ y ∷ []) → xs ++ x ∷ [] ≡ ys ++ y ∷ []
     tail f = cc
 
-pub ends-all : (l : List Noted) (o e : ℕ) (w : Response) (rs : List Reply) → EndsAs l o e (Whole w rs) → EndsAll l o e w rs
-ends-all l o e w rs h =
-    let it = ends-whole l o e w rs h in
+pub ends-all : (l : List Noted) (o e : ℕ) (w : Response) (rs : List Reply) → Legal l → EndsAs l o e (Whole w rs) → EndsAll l o e w rs
+ends-all l o e w rs legal h =
+    let it = ends-whole l o e w rs legal h in
     let made = it.turned.made in
     let r : Reply = record { number = e; sending = it.turned.sending; message = it.turned.message } in
     let last : r ≡ made.last =
@@ -48,7 +48,7 @@ ends-all l o e w rs h =
       others = made.others;
       last = made.last;
       all = made.ends;
-      listed = λ x has. made-of l o e w rs x h has;
+      listed = λ x has. made-of l o e w rs x legal h has;
       number = sym (ap (λ (r : Reply). r.number) last);
       whole = made.whole;
     }

@@ -1,5 +1,5 @@
 -- What the history says of an exchange, by the number of the entry that opened it.
-use Rattle.std.specs.Prelude.{ℕ, ◌+◌, Bool, true, false, ◌&&◌, ◌||◌, List, [], ◌∷◌, ◌++◌, length, filter, filter_map, Option, Some, None, is_none, ◌==◌, nat_le, if◌then◌else◌}
+use Rattle.std.specs.Prelude.{ℕ, ◌+◌, Bool, true, false, ◌&&◌, ◌||◌, List, [], ◌∷◌, ◌++◌, length, filter, filter_map, Option, Some, None, is_none, is_some, ◌==◌, nat_le, if◌then◌else◌}
 use Rattle.std.specs.Option.{option_map_or}
 use Rattle.std.specs.List.{list_any}
 use Rattle.limits.specs.declared.TheConstants.{MAX_TRANSMIT_WAIT}
@@ -12,7 +12,7 @@ use Rattle.ask_model.specs.Requests.{CoapRequest}
 use Rattle.journal_book.specs.Entries.{Deed, Sends, Hears, Passes}
 use Rattle.resp_cache.specs.Stored.{Stored}
 use Rattle.history_laws.specs.Responses.{confirms}
-use Rattle.history_laws.specs.Readings.{Noted, Note, Begins, Renews, First, Says, before}
+use Rattle.history_laws.specs.Readings.{Noted, Note, Begins, Renews, First, Says, Observation, Starts, before}
 use Rattle.history_laws.specs.Progress.{Reply, Ending, Renewed, NotUnderstood, Reset, TimedOut, progress, ended_by}
 use Rattle.history_laws.specs.Transmissions.{transmission, given_up}
 
@@ -21,9 +21,15 @@ pub record Begun : Type 0 where
   pub since : ℕ
   pub request : CoapRequest
 
+abbrev pub started_by : Observation → Option CoapRequest
+started_by (Starts k q) = Some q
+started_by _ = None
+
+-- An ask opens one, or a notification whose rest is fetched.
 abbrev pub opens_by : Note → Option CoapRequest
 opens_by (Begins q) = Some q
 opens_by (Renews q s) = Some q
+opens_by (Says m to notice) = started_by notice.observation
 opens_by _ = None
 
 abbrev pub begun_by : Option CoapRequest → Bool → ℕ → Option Begun → Option Begun
@@ -43,6 +49,33 @@ kept_by _ = None
 abbrev pub kept : List Noted → ℕ → Option Stored
 kept [] o = None
 kept (x ∷ older) o = if length older == o then kept_by x.note else kept older o
+
+-- what it begins with: the first piece, where a notification opened it
+abbrev pub starts_with : ℕ → Content → Option CoapRequest → Option ℕ → List Reply
+starts_with n m (Some q) (Some i) = record { number = n; sending = i; message = m } ∷ []
+starts_with n m opened to = []
+
+abbrev pub begins_by : ℕ → Note → List Reply
+begins_by n (Says m to notice) = starts_with n m (started_by notice.observation) to
+begins_by n note = []
+
+abbrev pub begins_with : List Noted → ℕ → List Reply
+begins_with [] o = []
+begins_with (x ∷ older) o =
+    if length older == o then begins_by o x.note else begins_with older o
+
+-- the ask that it goes back to: the one that opened it, or by which the proxy became an observer
+abbrev pub asked_in : ℕ → Observation → ℕ
+asked_in o (Starts k q) = k
+asked_in o observation = o
+
+abbrev pub ask_by : ℕ → Note → ℕ
+ask_by o (Says m to notice) = asked_in o notice.observation
+ask_by o note = o
+
+abbrev pub ask_behind : List Noted → ℕ → ℕ
+ask_behind [] o = o
+ask_behind (x ∷ older) o = if length older == o then ask_by o x.note else ask_behind older o
 
 -- the openings, in order
 abbrev pub opened_by : ℕ → Option CoapRequest → List ℕ → List ℕ
@@ -119,6 +152,10 @@ abbrev pub replies : List Noted → ℕ → List Reply
 replies [] o = []
 replies (x ∷ older) o = replies_by (length older) (turn older o x) (replies older o)
 
+-- all that was heard for it: what it begins with, and the replies
+abbrev pub heard_for : List Noted → ℕ → List Reply
+heard_for l o = begins_with l o ++ replies l o
+
 -- the entry that ended it, and how: the first that does
 pub record End : Type 0 where
   pub number : ℕ
@@ -157,7 +194,7 @@ abbrev pub end_of : List Noted → ℕ → Option End
 end_of [] o = None
 end_of (x ∷ older) o =
     end_by
-    (end_here (begun older o) (kept older o) (length older) (replies older o) (turn older o x))
+    (end_here (begun older o) (kept older o) (length older) (heard_for older o) (turn older o x))
     (length older) (end_of older o)
 
 abbrev pub is_going : List Noted → ℕ → Bool

@@ -4,8 +4,8 @@ use Rattle.std.specs.List.{Contains}
 use Rattle.coap_codec.specs.Spelling.{Spells}
 use Rattle.coap_codec.specs.declared.block.Block.{Block}
 use Rattle.uri_map.specs.declared.peer.Peer.{Peer}
-use Rattle.ask_model.specs.Requests.{CoapRequest, Requests, Manner, Validating, asking}
-use Rattle.ask_model.specs.Sharing.{asks_same}
+use Rattle.ask_model.specs.Requests.{CoapRequest, Requests, Manner, Validating, asking, observe_message}
+use Rattle.ask_model.specs.Sharing.{asked_place, asks_same}
 use Rattle.ask_model.specs.Views.{Ask}
 use Rattle.resp_cache.specs.Stored.{Stored, is_fresh}
 use Rattle.journal_book.specs.Entries.{Grounds, Live, Kept, Fault, Ground, Answers, Carries}
@@ -15,11 +15,12 @@ use Rattle.coap_codec.specs.Recognition.{value_of}
 use Rattle.history_laws.specs.Responses.{valid}
 use Rattle.history_laws.specs.Progress.{Reply, Ending, Renewed}
 use Rattle.history_laws.specs.Exchanges.{Begun, begun, kept}
+use Rattle.history_laws.specs.Joining.{outrun}
 use Rattle.history_laws.specs.Carrying.{carried, carried_replies}
 use Rattle.history_laws.specs.Storing.{IsBrought, IsCarried, IsRenewed, IsStored, pieces_of}
 use Rattle.history_laws.specs.Hearing.{IsReplyKind}
 use Rattle.history_laws.specs.Justified.{IsAsk, Ends, reads, Legal}
-use Rattle.history_laws.specs.Laws.{IsFirst, IsAnswer, IsReplyTo}
+use Rattle.history_laws.specs.Laws.{IsFirst, IsAnswer, IsReplyTo, IsBegunBy}
 
 -- The entry with this number is a reply to the exchange that the ask reads, and came to a message
 -- that asks just what the ask means, sent after that was opened.
@@ -44,9 +45,33 @@ pub record RestsOn (l : List Noted) (k j : ℕ) : Type 0 where
   pub first : IsFirst l moment opening reply.sending request.peer
       (asking manner request block mid token)
 
+-- The entry with this number is the notification that opened the exchange that the ask reads. It
+-- came under the token of a message that asks just what the ask means, and to be told of changes,
+-- sent for an ask that no write to the place has ended after before this one.
+pub record RestsOnNotice (l : List Noted) (k j : ℕ) : Type 0 where
+  pub conn : ℕ
+  pub ask : Ask
+  pub request : CoapRequest
+  pub asked : IsAsk l k conn ask
+  pub sense : ask.sense ≡ Requests request
+  pub reads : reads l k ≡ Some j
+  pub earlier : j < k
+  pub exchange : Begun
+  pub opened : begun l j ≡ Some exchange
+  pub same : asks_same request exchange.request ≡ true
+  pub reply : Reply
+  pub number : reply.number ≡ j
+  pub begun_by : IsBegunBy l j exchange.request reply
+  pub current : outrun (before l k) (asked_place request) begun_by.ask ≡ false
+  pub moment : ℕ
+  pub mid : ℕ
+  pub token : List ℕ
+  pub first : IsFirst l moment begun_by.ask reply.sending request.peer
+      (observe_message request mid token)
+
 -- What was stored before the ask for a request equal to it, fresh at its moment, has this reply,
--- which came to a message that asks just what the ask means, sent after the exchange for that was
--- opened.
+-- which came to a message that asks just what the ask means, sent after the ask that it goes back
+-- to: by the exchange of that, or by one that a notification opened.
 pub record RestsOnStored (l : List Noted) (k j : ℕ) : Type 0 where
   pub conn : ℕ
   pub ask : Ask
@@ -60,14 +85,16 @@ pub record RestsOnStored (l : List Noted) (k j : ℕ) : Type 0 where
   pub reply : Reply
   pub number : reply.number ≡ j
   pub earlier : j < k
-  pub fits : IsReplyTo l is.opening reply
-  pub after : is.opening < reply.sending
+  pub owner : ℕ
+  pub owned : (owner ≡ is.opening) ⊎ (owner ≡ stored.opening)
+  pub fits : IsReplyTo l owner reply
+  pub after : stored.opening < reply.sending
   pub moment : ℕ
   pub mid : ℕ
   pub token : List ℕ
   pub block : Option Block
   pub manner : Manner
-  pub first : IsFirst l moment is.opening reply.sending request.peer
+  pub first : IsFirst l moment owner reply.sending request.peer
       (asking manner request block mid token)
 
 -- The reply is a copy of one to a message of which a copy stands before it: to one that asked for
@@ -195,12 +222,12 @@ pub record RestsOnKept (l : List Noted) (k j : ℕ) : Type 0 where
   pub earlier : j < opening
   pub told : IsToldFor l stored.opening request j
 
--- An answer rests on replies to the exchange that its ask reads alone, and where that renewed what
--- it keeps, on those of that.
+-- An answer rests on replies to the exchange that its ask reads alone, and on the notification that
+-- opened that, if one did; and where that renewed what it keeps, on those of that.
 abbrev pub RestsOnItsOwn : Type 0
 RestsOnItsOwn =
     (l : List Noted) (n c k j : ℕ) (js : List ℕ) → Legal l → IsAnswer l n c k (Live js)
-    → Contains js j → RestsOn l k j ⊎ RestsOnKept l k j
+    → Contains js j → RestsOn l k j ⊎ (RestsOnNotice l k j ⊎ RestsOnKept l k j)
 
 -- What an exchange keeps is renewed by the reply to its first message, which bears the ETag of that
 -- and asks nothing else but what was asked for: the reply is a 2.03 with the same ETag.

@@ -14,12 +14,13 @@ use Rattle.journal_book.specs.Entries.{Deed, Hears, Carries}
 use Rattle.journal_book.specs.Entries as D
 use Rattle.observe_share.specs.declared.notice.Notice as Shared
 use Rattle.observe_share.specs.declared.notice.Notice.TheVariants.{Update, Other}
+use Rattle.observe_share.specs.declared.registration.Registration.{Registration}
 use Rattle.observe_share.specs.Watches.{counts_for}
-use Rattle.history_laws.specs.Readings.{Noted, Note, Says, Recalls, Notice, Observation, Unobserved, Registers, Updates, Outdates, Cancels}
+use Rattle.history_laws.specs.Readings.{Noted, Note, Says, Recalls, Notice, Observation, Unobserved, Registers, Updates, Outdates, Starts, Cancels}
 use Rattle.history_laws.specs.Progress.{Progress, Ends}
 use Rattle.history_laws.specs.Transmissions.{FirstSending, first_at, last_sent, outstanding, transmission, mids_used}
 use Rattle.history_laws.specs.Exchanges.{Begun, begun, waits_for, open_exchanges, awaited, waiting}
-use Rattle.history_laws.specs.Joining.{outrun}
+use Rattle.history_laws.specs.Joining.{outrun, asks_the_same}
 use Rattle.history_laws.specs.Observing.{Watch, watches, watched, watch_under, most_watches, observes, notice_in, as_first}
 
 -- A CON or NON that is heard at this moment, from this peer and with this ID, repeats one that was
@@ -148,18 +149,38 @@ abbrev pub registers : Bool → Observation
 registers true = Registers
 registers false = Unobserved
 
+-- There is room for one exchange more: a place among the open ones, one among those that wait at
+-- its peer, and a message ID.
+abbrev pub has_room : List Noted → ℕ → CoapRequest → Bool
+has_room l t q =
+    nat_lt (length (open_exchanges l)) MAX_EXCHANGES
+    && (nat_lt (length (waiting l q.peer)) MAX_WAITING
+    && nat_lt (mids_used l t q.peer + length (waiting l q.peer)) MAX_MESSAGE_IDS)
+
+-- The rest of what a notification brings the first piece of is fetched where there is room for
+-- that, and no exchange of an equal GET is open, whether a write has outrun it or not.
+abbrev pub is_read : List Noted → CoapRequest → Bool
+is_read l q = list_any (λ (o : ℕ). asks_the_same q (begun l o)) (open_exchanges l)
+
+abbrev pub starts_for : List Noted → ℕ → ℕ → Option Begun → Observation
+starts_for l t k None = Outdates
+starts_for l t k (Some b) =
+    if has_room l t b.request && not (is_read l b.request)
+    then Starts k b.request else Outdates
+
 -- A CON or NON under the token of a watch is a notification. It counts where it is newer than what
 -- counted last (RFC 7641 section 3.4).
-abbrev pub counts_as : Shared.Notice → Progress → Observation
-counts_as (Other v) progress = Cancels
-counts_as (Update v) (Ends how) = Updates
-counts_as (Update v) progress = Outdates
+abbrev pub counts_as :
+    List Noted → ℕ → Registration → Shared.Notice → Progress → Observation
+counts_as l t r (Other v) progress = Cancels
+counts_as l t r (Update v) (Ends how) = Updates
+counts_as l t r (Update v) progress = starts_for l t r.opening (begun l r.opening)
 
-abbrev pub notified : ℕ → Content → Option Watch → Observation
-notified t m None = Unobserved
-notified t m (Some w) =
+abbrev pub notified : List Noted → ℕ → Content → Option Watch → Observation
+notified l t m None = Unobserved
+notified l t m (Some w) =
     if is_such m.kind && counts_for (notice_in m) t w.held
-    then counts_as (notice_in m) (as_first 0 0 m) else Unobserved
+    then counts_as l t w.held (notice_in m) (as_first 0 0 m) else Unobserved
 
 abbrev pub is_this : ℕ → Option ℕ → Bool
 is_this i None = false
@@ -169,7 +190,7 @@ abbrev pub observation_by : List Noted → ℕ → Content → ℕ → Option Fi
 observation_by l t m i None = Unobserved
 observation_by l t m i (Some f) =
     if is_this i (waits_for l f.opening) then registers (may_register l f.opening m)
-    else notified t m (watch_under l m.token)
+    else notified l t m (watch_under l m.token)
 
 abbrev pub observation_of : List Noted → ℕ → Content → Option ℕ → Observation
 observation_of l t m None = Unobserved
@@ -180,11 +201,3 @@ observation_of l t m (Some i) =
 abbrev pub notice_of : List Noted → ℕ → Peer → Content → Option ℕ → Notice
 notice_of l t p m to =
     record { place = has_place l t p to; observation = observation_of l t m to }
-
--- There is room for one exchange more: a place among the open ones, one among those that wait at
--- its peer, and a message ID.
-abbrev pub has_room : List Noted → ℕ → CoapRequest → Bool
-has_room l t q =
-    nat_lt (length (open_exchanges l)) MAX_EXCHANGES
-    && (nat_lt (length (waiting l q.peer)) MAX_WAITING
-    && nat_lt (mids_used l t q.peer + length (waiting l q.peer)) MAX_MESSAGE_IDS)

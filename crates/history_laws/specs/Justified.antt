@@ -20,7 +20,7 @@ use Rattle.history_laws.specs.Readings.{Noted, Note, Plain, Begins, Renews, Join
 use Rattle.history_laws.specs.Connections.{is_open, asks_of, answers_of, is_sealed, opened, has_opened}
 use Rattle.history_laws.specs.Progress.{Reply, numbers, Ending, Whole, Renewed, NotUnderstood, Reset, TimedOut, Turned, progress, next_message}
 use Rattle.history_laws.specs.Transmissions.{FirstSending, firsts, sent_last, bears_token, bears_mid, Transmission, transmission, due, outstanding}
-use Rattle.history_laws.specs.Exchanges.{Begun, begun, is_late, waits_for, replies, end_of, is_going, open_exchanges, waiting}
+use Rattle.history_laws.specs.Exchanges.{Begun, begun, is_late, waits_for, heard_for, end_of, is_going, open_exchanges, waiting}
 use Rattle.history_laws.specs.Joining.{joins}
 use Rattle.history_laws.specs.Observing.{Watch, idles, watches, manner, would_observe}
 use Rattle.history_laws.specs.Carrying.{carried, replied_by}
@@ -142,7 +142,7 @@ pub record MayBeFirst
   pub first : waiting l p ≡ o ∷ others
   pub free : outstanding l p ≡ None
   pub peer : p ≡ request.peer
-  pub message : next_message (manner l o) request (progress request (replies l o)) m.mid m.token
+  pub message : next_message (manner l o) request (progress request (heard_for l o)) m.mid m.token
       ≡ Some m
   pub spelled : Spells m bytes
   pub token_size : length m.token ≡ 8

@@ -10,7 +10,7 @@ use Rattle.uri_map.specs.declared.peer.Peer.{Peer}
 use Rattle.ask_model.specs.declared.cause.Cause.{Cause}
 use Rattle.ask_model.specs.declared.cause.Cause.TheVariants as C
 use Rattle.ask_model.specs.Requests.{CoapRequest, Sense, Requests, Refuses, Manner, asking, block_message, carried_by, observe_message}
-use Rattle.ask_model.specs.Sharing.{asked_key, asked_place, asks_same}
+use Rattle.ask_model.specs.Sharing.{asked_key, asked_place, asks_same, is_get}
 use Rattle.ask_model.specs.Observing.{may_observe}
 use Rattle.ask_model.specs.Views.{Ask}
 use Rattle.resp_cache.specs.Stored.{Stored, is_fresh}
@@ -23,8 +23,8 @@ use Rattle.blockwise.specs.Reading.{offset_in}
 use Rattle.blockwise.specs.Uploads.{next_block}
 use Rattle.history_laws.specs.Progress.{Reply, Ending, Whole, Progress, Gives, progress, next_message, Point, first_point, block_for, point_after}
 use Rattle.history_laws.specs.Transmissions.{FirstSending, firsts, Transmission, transmission, due, outstanding}
-use Rattle.history_laws.specs.Exchanges.{Begun, begun, kept, turn, waits_for, replies, end_here, end_of, open_exchanges}
-use Rattle.history_laws.specs.Joining.{outrun, is_joinable, joins}
+use Rattle.history_laws.specs.Exchanges.{Begun, begun, kept, begins_with, ask_behind, turn, waits_for, replies, heard_for, end_here, end_of, open_exchanges}
+use Rattle.history_laws.specs.Joining.{writes_at, outrun, is_joinable, joins}
 use Rattle.history_laws.specs.Observing.{Watch, most_watches, manner, watches}
 use Rattle.history_laws.specs.Storing.{IsStored, MissesAlone}
 use Rattle.history_laws.specs.Hearing.{IsReplyKind, repeated, has_room}
@@ -124,7 +124,7 @@ abbrev pub EndsFirst : Type 0
 EndsFirst =
     (l : List Noted) (o e : ℕ) (how : Ending) → Ends l o e how
     → (x : Noted) × (at l e ≡ Some x) × (end_of (before l e) o ≡ None)
-    × (end_here (begun (before l e) o) (kept (before l e) o) e (replies (before l e) o)
+    × (end_here (begun (before l e) o) (kept (before l e) o) e (heard_for (before l e) o)
     (turn (before l e) o x)
     ≡ Some how)
 
@@ -157,14 +157,14 @@ abbrev pub RepliesFit : Type 0
 RepliesFit = (l : List Noted) (o : ℕ) (r : Reply) → Legal l → Contains (replies l o) r
     → IsReplyTo l o r
 
--- Each first sending of an exchange is its next message after the replies before.
+-- Each first sending of an exchange is its next message after what was heard for it before.
 abbrev pub SendsNext : Type 0
 SendsNext =
     (l : List Noted) (t o i : ℕ) (p : Peer) (m : Content) (b : Begun) → Legal l
     → IsFirst l t o i p m
     → begun l o ≡ Some b
     → next_message (manner (before l i) o) b.request
-    (progress b.request (replies (before l i) o)) m.mid m.token ≡ Some m
+    (progress b.request (heard_for (before l i) o)) m.mid m.token ≡ Some m
 
 -- The reply came to a message for this block: one of its representation, or of its body.
 pub record IsFetched (l : List Noted) (o : ℕ) (q : CoapRequest) (block : Option Block)
@@ -182,14 +182,47 @@ AreFetched l o q point [] = ⊤
 AreFetched l o q point (r ∷ rs) =
     IsFetched l o q (block_for point) r × AreFetched l o q (point_after point r.message) rs
 
+-- What the exchange of this request begins with: a notification that opened it, with the first
+-- piece. It came under the token of a message that asked to be told of changes, for an ask of the
+-- same, to which a reply had come; and no write to the place had ended since that ask (RFC 7641
+-- section 3.2, RFC 7959 section 2.6).
+pub record IsBegunBy (l : List Noted) (o : ℕ) (q : CoapRequest) (r : Reply) : Type 0 where
+  pub number : r.number ≡ o
+  pub ask : ℕ
+  pub goes_back : ask_behind l o ≡ ask
+  pub since : ℕ
+  pub asked : begun l ask ≡ Some (record { since = since; request = q })
+  pub get : is_get q ≡ true
+  pub fits : IsReplyTo l ask r
+  pub moment : ℕ
+  pub mid : ℕ
+  pub token : List ℕ
+  pub first : IsFirst l moment ask r.sending q.peer (observe_message q mid token)
+  pub after : ask < r.sending
+  pub current : (w e : ℕ) (b : Begun) (how : Ending) → begun l w ≡ Some b
+      → writes_at (asked_place q) b ≡ true → Ends l w e how → e ≤ o → e ≤ ask
+
+abbrev pub BegunByNotices : Type 0
+BegunByNotices =
+    (l : List Noted) (o : ℕ) (b : Begun) (r : Reply) → Legal l → begun l o ≡ Some b
+    → Contains (begins_with l o) r → IsBegunBy l o b.request r
+
 -- What an exchange ends with as a whole came piece by piece, each one after those before: the
--- pieces of its representation (RFC 7959 section 2.4), or the answers to the pieces of its body
--- (section 2.3).
+-- pieces of its representation (RFC 7959 section 2.4), the first of which may be what it begins
+-- with, or the answers to the pieces of its body (section 2.3).
+pub record IsFetchedOn (l : List Noted) (o : ℕ) (q : CoapRequest) (rs : List Reply)
+    : Type 0 where
+  pub first : Reply
+  pub more : List Reply
+  pub are : rs ≡ first ∷ more
+  pub begun_by : IsBegunBy l o q first
+  pub fetched : AreFetched l o q (point_after (first_point q) first.message) more
+
 abbrev pub FetchedInOrder : Type 0
 FetchedInOrder =
     (l : List Noted) (o e : ℕ) (b : Begun) (w : Response) (rs : List Reply) → Legal l
     → begun l o ≡ Some b → Ends l o e (Whole w rs)
-    → AreFetched l o b.request (first_point b.request) rs
+    → AreFetched l o b.request (first_point b.request) rs ⊎ IsFetchedOn l o b.request rs
 
 -- The exchange has a first sending in the entry with this number.
 abbrev pub IsSending : List Noted → ℕ → ℕ → Type 0
@@ -201,7 +234,7 @@ brings (Gives upload got) = next_block upload
 brings progress = None
 
 abbrev pub block_sent : List Noted → ℕ → CoapRequest → ℕ → Option Block
-block_sent l o q i = brings (progress q (replies (before l i) o))
+block_sent l o q i = brings (progress q (heard_for (before l i) o))
 
 abbrev pub bytes_sent : List Noted → ℕ → CoapRequest → ℕ → ℕ
 bytes_sent l o q i = length (carried_by q.method (block_sent l o q i) q.body)
@@ -313,7 +346,7 @@ AnsweredAtOnce =
     → (n : ℕ) × (g : Grounds) × IsAnswer l n c k g
 
 -- The entry with this number sends these bytes to this peer, as the first sending of the exchange
--- of an ask before it, and they spell what that asks for.
+-- that goes back to an ask before it, and they spell what that asks for.
 pub record IsAskSent (l : List Noted) (i : ℕ) (p : Peer) (bytes : List ℕ) : Type 0 where
   pub ask : ℕ
   pub conn : ℕ
@@ -322,7 +355,9 @@ pub record IsAskSent (l : List Noted) (i : ℕ) (p : Peer) (bytes : List ℕ) : 
   pub message : Content
   pub moment : ℕ
   pub timeout : Option ℕ
-  pub stands : at l i ≡ Some (noted moment (Sends p bytes timeout) (First ask message))
+  pub opening : ℕ
+  pub stands : at l i ≡ Some (noted moment (Sends p bytes timeout) (First opening message))
+  pub goes_back : ask_behind l opening ≡ ask
   pub after : ask < i
   pub asks : IsAsk l ask conn asked
   pub sense : asked.sense ≡ Requests request

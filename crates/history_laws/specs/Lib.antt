@@ -30,3 +30,4 @@ pub mod WorkedCarried
 pub mod WorkedPieces
 pub mod WorkedUploads
 pub mod WorkedWatches
+pub mod WorkedUpdates

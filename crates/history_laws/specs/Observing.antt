@@ -19,7 +19,7 @@ use Rattle.observe_share.specs.declared.registration.Registration.{Registration}
 use Rattle.observe_share.specs.declared.notice.Notice as Shared
 use Rattle.observe_share.specs.declared.notice.Notice.TheVariants.{Update, Other}
 use Rattle.observe_share.specs.Watches.{is_of, is_idle, heard_by, first_changed, without}
-use Rattle.history_laws.specs.Readings.{Noted, Note, Begins, Renews, Joins, Says, Observation, Unobserved, Registers, Updates, Outdates, Cancels, at, before}
+use Rattle.history_laws.specs.Readings.{Noted, Note, Begins, Renews, Joins, Says, Observation, Unobserved, Registers, Updates, Outdates, Starts, Cancels, at, before}
 use Rattle.history_laws.specs.Progress.{Reply, Whole, Progress, Fetches, Ends, step}
 use Rattle.history_laws.specs.Transmissions.{FirstSending, first_at}
 use Rattle.history_laws.specs.Exchanges.{Begun, begun, kept, replies}
@@ -196,6 +196,7 @@ watched l = map sending_of (watches l)
 abbrev pub counts : Observation → Bool
 counts Updates = true
 counts Outdates = true
+counts (Starts k q) = true
 counts Cancels = true
 counts observation = false
 

@@ -14,8 +14,11 @@ pub data Observation : Type 0 where
   Registers : Observation
   -- a newer notification with a whole representation
   Updates : Observation
-  -- a newer notification with the first piece of one
+  -- a newer notification with the first piece of one, whose rest isn't fetched
   Outdates : Observation
+  -- or is: it opens an exchange for this request, which is what the ask with this number asked for
+  -- by which the proxy became an observer
+  Starts : (ask : ℕ) → (request : CoapRequest) → Observation
   -- a newer notification that is the last
   Cancels : Observation
 

@@ -16,7 +16,7 @@ use Rattle.resp_cache.specs.Stored.{Stored, lifetime, is_fresh}
 use Rattle.history_laws.specs.Responses.{Response, valid, renewed_response}
 use Rattle.history_laws.specs.Readings.{Noted, Note, Serves, Says, Updates, noted, at, before}
 use Rattle.history_laws.specs.Progress.{Reply, numbers, Whole, Renewed, Ends}
-use Rattle.history_laws.specs.Exchanges.{begun, end_of}
+use Rattle.history_laws.specs.Exchanges.{begun, ask_behind, end_of}
 use Rattle.history_laws.specs.Joining.{outrun, is_joinable, asks_the_same}
 use Rattle.history_laws.specs.Carrying.{CarriesSo}
 use Rattle.history_laws.specs.Observing.{Watch, watch_under, as_first, outdated}
@@ -69,7 +69,7 @@ pub record IsBrought (l : List Noted) (q : CoapRequest) (s : Stored) : Type 0 wh
   pub entry : Noted
   pub heard_in : at l first.number ≡ Some entry
   pub heard : s.heard ≡ entry.written.moment
-  pub origin : s.opening ≡ opening
+  pub origin : s.opening ≡ ask_behind l opening
   pub list : s.list ≡ numbers (first ∷ more)
 
 -- It may be answered with one that the journal begins with, on the same terms, where none came for

@@ -1,4 +1,5 @@
-use Rattle.history_laws.proofs.Order.{fetched-in-order, sends-next}
+use Rattle.history_laws.proofs.Begun.{fetched-in-order}
+use Rattle.history_laws.proofs.Quiet.{sends-next}
 use Rattle.history_laws.proofs.laws.fetched_in_order.Goals as goal
 
 pub returns-clause-next : goal.returns-clause-next

@@ -1,4 +1,5 @@
-use Rattle.history_laws.proofs.Renewed.{renewed-holds, served_renewed-holds, renewed_again-holds, unknown_tag-holds, late_unknown-holds, other_tag-refused, valid_late-refused, asked_while_fresh-refused, asked_outrun-refused, tagged_late-refused}
+use Rattle.history_laws.proofs.Renewed.{renewed-holds, served_renewed-holds, renewed_again-holds}
+use Rattle.history_laws.proofs.RenewedInPieces.{unknown_tag-holds, late_unknown-holds, other_tag-refused, valid_late-refused, asked_while_fresh-refused, asked_outrun-refused, tagged_late-refused}
 use Rattle.history_laws.proofs.worked.worked_renewed.Goals as goal
 
 pub returns-clause-renewed : goal.returns-clause-renewed
