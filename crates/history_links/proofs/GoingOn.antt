@@ -12,16 +12,17 @@ use Rattle.message_layer.specs.Hearing.{verdict_of}
 use Rattle.message_layer.specs.declared.state.Waiting.{Waiting}
 use Rattle.uri_map.proofs.CallerLemmas.{same_peer-itself}
 use Rattle.journal_book.specs.Entries.{Hears}
-use Rattle.history_laws.specs.Readings.{Noted, Notice, Says, before, noted}
+use Rattle.ask_model.specs.Requests.{CoapRequest}
+use Rattle.history_laws.specs.Readings.{Noted, Notice, Observation, Unobserved, Registers, Updates, Outdates, Starts, Cancels, Says, before, noted}
 use Rattle.history_laws.specs.Transmissions.{FirstSending, first_at}
-use Rattle.history_laws.specs.Exchanges.{Begun, begun, Turn, waits_by, openings, is_going, is_waiting, is_submitted_at, is_issued_at, issued, issued_by, submitted, rank, waits_for, waiting, goes_to}
-use Rattle.history_laws.specs.Hearing.{answers, notice_of}
+use Rattle.history_laws.specs.Exchanges.{Begun, begun_by, begun, started_by, Turn, waits_by, openings, is_going, is_waiting, is_submitted_at, is_issued_at, issued, issued_by, submitted, rank, waits_for, waiting, goes_to}
+use Rattle.history_laws.specs.Hearing.{answers, notice_of, observation_of}
 use Rattle.history_laws.specs.Justified.{Legal}
-use Rattle.history_laws.proofs.CallerLemmas.{and-left, and-right, before-new, begun-below, begun-listed, contains-filter, contains-none, eqb-same, filtered-from, first-is, first-or-later, found, Found, IsOneAtMost, listed-begun, NotRst, one-at-most, openings-rising, rising-filter, sent-for, some-is, submits-by, submitted-once, turn-replied, waiting-all, waits-first}
+use Rattle.history_laws.proofs.CallerLemmas.{and-left, and-right, before-new, begun-keeps, begun-listed, contains-filter, contains-none, eqb-same, filtered-from, first-is, first-or-later, found, Found, IsOneAtMost, listed-begun, NotRst, one-at-most, openings-rising, rising-filter, sent-for, some-is, submits-by, submitted-once, turn-replied, waiting-all, waits-first, eqb-itself, none-some, not-yet, said-either, starts-peer, unbegun}
 use Rattle.history_links.specs.Agrees.{WaitIn}
 use Rattle.history_links.specs.Steps.{GoesOnAgrees, heard, heard_link}
 use Rattle.history_links.proofs.Queueing.{pruned-count, wait-push}
-use Rattle.history_links.proofs.Replying.{queue-after}
+use Rattle.history_links.proofs.Replying.{queue-after, waits-after}
 use Rattle.history_links.proofs.Saying.{said-so}
 use Rattle.history_links.proofs.Still.{waits-all}
 
@@ -50,13 +51,49 @@ pub record Onward (l : List Noted) (t : ℕ) (p : Peer) (d : List ℕ) (m : Cont
   pub peer : b.request.peer ≡ p
   pub unsent : waits_for (heard l t p d m ∷ l) o ≡ None
 
-pub onward : (l : List Noted) (t : ℕ) (p : Peer) (d : List ℕ) (m : Content) (o : ℕ) (b : Begun) → Legal l → begun l o ≡ Some b
+-- What is opened by what is heard is fetched of whom that came from.
+began-peer : (l : List Noted) (t : ℕ) (p : Peer) (d : List ℕ) (m : Content) (o : ℕ) (b : Begun) → Legal l → o ≡ length l → begun (heard l t p d m ∷ l) o ≡ Some b
+    → b.request.peer ≡ p
+began-peer l t p d m o b legal here begins = by (answers l p m) refl (started (observation_of l t m (answers l p m)) refl)
+  where
+    opened : (q : Option CoapRequest) → begun_by q true t (begun l (length l)) ≡ Some b → q ≡ Some b.request
+    opened None e = absurd (none-some b (sym (not-yet l) ∙ e))
+    opened (Some q) e = ap (λ (c : Begun). Some c.request) (some-is _ _ e)
+
+    starts : started_by (observation_of l t m (answers l p m)) ≡ Some b.request
+    starts =
+        opened (started_by (observation_of l t m (answers l p m)))
+        (subst (λ (v : Bool). begun_by (started_by (observation_of l t m (answers l p m))) v t (begun l (length l)) ≡ Some b) (eqb-itself (length l))
+        (subst (λ (k : ℕ). begun (heard l t p d m ∷ l) k ≡ Some b) here begins))
+
+    started : (v : Observation) → observation_of l t m (answers l p m) ≡ v → (k : ℕ) × (observation_of l t m (answers l p m) ≡ Starts k b.request)
+    started (Starts k q) e = (k, e ∙ ap (Starts k) (some-is q b.request (sym (ap started_by e) ∙ starts)))
+    started Unobserved e = absurd (none-some _ (sym (ap started_by e) ∙ starts))
+    started Registers e = absurd (none-some _ (sym (ap started_by e) ∙ starts))
+    started Updates e = absurd (none-some _ (sym (ap started_by e) ∙ starts))
+    started Outdates e = absurd (none-some _ (sym (ap started_by e) ∙ starts))
+    started Cancels e = absurd (none-some _ (sym (ap started_by e) ∙ starts))
+
+    never : (k : ℕ) → Unobserved ≡ Starts k b.request → ⊥
+    never k e = cc
+
+    by : (to : Option ℕ) → answers l p m ≡ to → (k : ℕ) × (observation_of l t m (answers l p m) ≡ Starts k b.request) → b.request.peer ≡ p
+    by None e s = absurd (never s.0 (sym (ap (observation_of l t m) e) ∙ s.1))
+    by (Some i) e s = starts-peer l t p m i s.0 b.request legal e (sym (ap (observation_of l t m) e) ∙ s.1)
+
+pub onward : (l : List Noted) (t : ℕ) (p : Peer) (d : List ℕ) (m : Content) (o : ℕ) (b : Begun) → Legal l → begun (heard l t p d m ∷ l) o ≡ Some b
     → is_issued_at (heard l t p d m ∷ l) (length l) o ≡ true → Onward l t p d m o b
 onward l t p d m o b legal begins e =
     let x = heard l t p d m in
     let here = eqb-same (submitted (x ∷ l) o) (length l) (and-left _ (is_going (x ∷ l) o) e) in
     elim (submits-by x l o here) [
-      | inl opened ↦ let below = begun-below l o b begins in absurd (omega (arith, opened, below))
+      | inl opened ↦
+          let none = unbegun l (length l) legal (not-yet l) in
+          record {
+            here = here;
+            peer = began-peer l t p d m o b legal opened begins;
+            unsent = subst (λ (k : ℕ). waits_for (x ∷ l) k ≡ None) (sym opened) (waits-after l t p d m (answers l p m) (notice_of l t p m (answers l p m)) (length l) ∙ rw (none.0) refl);
+          }
       | inr it ↦
           let turned = turn-replied l o x it.0 it.1 it.2 it.3 in
           let said = said-so-to l t p d m it.0 it.1 turned.peer turned.bytes turned.notice turned.entry in
@@ -65,7 +102,7 @@ onward l t p d m o b legal begins e =
           let f = found l p m it.0 response kind said.0 in
           let sent = waits-first l o it.0 turned.waited in
           let asks = sent-for l sent.0 o it.0 sent.1 sent.2 legal sent.3 in
-          let same : asks.exchange ≡ b = some-is _ _ (sym asks.opened ∙ begins) in
+          let same : asks.exchange ≡ b = some-is _ _ (sym (begun-keeps x l o asks.exchange asks.opened) ∙ begins) in
           let own = first-is l sent.0 o it.0 sent.1 sent.2 f.first sent.3 f.is in
           record {
             here = here;
@@ -82,14 +119,14 @@ onward l t p d m o b legal begins e =
         both f = (cc, cc)
 
 -- It waits last at its peer.
-pub goes-last : (l : List Noted) (t : ℕ) (p : Peer) (d : List ℕ) (m : Content) (o : ℕ) (b : Begun) → begun l o ≡ Some b
+pub goes-last : (l : List Noted) (t : ℕ) (p : Peer) (d : List ℕ) (m : Content) (o : ℕ) (b : Begun) → begun (heard l t p d m ∷ l) o ≡ Some b
     → is_issued_at (heard l t p d m ∷ l) (length l) o ≡ true → Onward l t p d m o b
-    → filter (is_submitted_at (heard l t p d m ∷ l) p (length l)) (openings l) ≡ o ∷ []
+    → filter (is_submitted_at (heard l t p d m ∷ l) p (length l)) (openings (heard l t p d m ∷ l)) ≡ o ∷ []
 goes-last l t p d m o b begins e h =
-    only-one (is_submitted_at n p (length l)) l o (begun-listed l o (ap is_some begins))
+    only-one (is_submitted_at n p (length l)) n o (begun-listed n o (ap is_some begins))
     (and_from _ _ (and-left _ (is_going n o) e) waits)
     (λ a has is.
-    submitted-once x l a o (listed-begun l a has) (ap is_some begins)
+    submitted-once x l a o (said-either l t p d m (answers l p m) (notice_of l t p m (answers l p m)) refl) (listed-begun n a has) (ap is_some begins)
     (eqb-same (submitted n a) (length l) (and-left _ (is_waiting n p a) is)) h.here)
   where
     x : Noted
@@ -98,7 +135,7 @@ goes-last l t p d m o b begins e h =
     n : List Noted
     n = x ∷ l
 
-    goes : goes_to p (begun l o) ≡ true
+    goes : goes_to p (begun n o) ≡ true
     goes = rw (begins, h.peer) (same_peer-itself p)
 
     waits : is_waiting n p o ≡ true

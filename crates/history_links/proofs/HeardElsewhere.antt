@@ -1,6 +1,7 @@
 -- What is heard from another peer leaves the link.
 use Rattle.std.proofs.Common.{◌≡◌, ℕ, Bool, true, false, eqb, inl, inr, List, [], ◌∷◌, length, Option, Some, None, refl, sym, ap, subst, ◌∙◌, arith}
-use Rattle.std.specs.Prelude.{◌&&◌, filter, ◌||◌}
+use Rattle.std.specs.Prelude.{◌&&◌, filter, is_none, is_some, ◌||◌}
+use Rattle.std.specs.List.{list_any}
 use Rattle.std.specs.List.{Contains}
 use Rattle.std.proofs.lemmas.Bool.{false≢true}
 use Rattle.std.proofs.lemmas.Bool.Decides.{eqb_tells}
@@ -10,14 +11,15 @@ use Rattle.uri_map.specs.Peers.{same_peer}
 use Rattle.journal_book.specs.Entries.{Hears}
 use Rattle.history_laws.specs.Readings.{Noted, Says, Notice, noted}
 use Rattle.history_laws.specs.Transmissions.{FirstSending, first_at, last_sent}
-use Rattle.history_laws.specs.Exchanges.{Begun, begun, openings, waits_for, awaited, goes_to, is_waiting, is_submitted_at, submitted}
+use Rattle.ask_model.specs.Requests.{CoapRequest}
+use Rattle.history_laws.specs.Exchanges.{Begun, begun_by, begun, started_by, openings, waits_for, awaited, goes_to, is_going, is_waiting, is_submitted_at, submitted}
 use Rattle.history_laws.specs.Hearing.{is_such, is_live, went_under, went_as}
 use Rattle.history_laws.specs.Justified.{Legal}
-use Rattle.history_laws.proofs.CallerLemmas.{and-left, and-right, at-keeps, begun-below, eqb-same, filter-none, first-found, is-some, listed-begun, listed-are, sent-for, some-is, submits-by, turn-replied, waits-first}
+use Rattle.history_laws.proofs.CallerLemmas.{and-left, and-right, at-keeps, begun-below, begun-keeps, begun-listed, eqb-same, filter-none, first-found, is-some, listed-begun, listed-are, none-some, sent-for, some-is, submits-by, turn-replied, waits-first}
 use Rattle.history_links.specs.Agrees.{awaits, notified}
 use Rattle.history_links.specs.Steps.{SaysElsewhere}
 use Rattle.history_links.proofs.Still.{since, heard-at, heard-still}
-use Rattle.history_links.proofs.Replying.{says, is_to, ends_by, ends_what, way-after, waits-after, awaited-after}
+use Rattle.history_links.proofs.Replying.{says, is_to, ends_by, ends_what, way-after, waits-after, awaited-after, awaited-says}
 use Rattle.history_links.proofs.Judging.{token-found}
 use Rattle.history_links.proofs.Saying.{asked-once, waits-on}
 use Rattle.history_links.proofs.OtherPeers.{number-differs, nothing-found, turn-where}
@@ -80,7 +82,7 @@ not-here l t p r d m to u legal other o has = by (is_submitted_at n p (length l)
         let b = is-some (begun l o) (listed-begun l o has) in
         let here = eqb-same (submitted n o) (length l) (and-left _ (is_waiting n p o) e) in
         let waits : is_waiting n p o ≡ true = and-right (eqb (submitted n o) (length l)) _ e in
-        let goes : goes_to p (Some b.0) ≡ true = subst (λ (v : Option Begun). goes_to p v ≡ true) b.1 (and-left (goes_to p (begun l o)) _ waits) in
+        let goes : goes_to p (Some b.0) ≡ true = subst (λ (v : Option Begun). goes_to p v ≡ true) (begun-keeps x l o b.0 b.1) (and-left (goes_to p (begun n o)) (is_going n o && is_none (waits_for n o)) waits) in
         elim (submits-by x l o here) [
           | inl opened ↦ let below = begun-below l o b.0 b.1 in absurd (omega (arith, opened, below))
           | inr it ↦
@@ -94,14 +96,49 @@ not-here l t p r d m to u legal other o has = by (is_submitted_at n p (length l)
               sym goes ∙ subst (λ (q : Peer). same_peer q p ≡ false) peer apart
         ]
 
+opened-now : (l : List Noted) (t : ℕ) (r : Peer) (d : List ℕ) (m : Content) (to : Option ℕ) (u : Notice) (o : ℕ) (b : Begun) → begun l o ≡ None
+    → begun (says t r d m to u ∷ l) o ≡ Some b → started_by u.observation ≡ Some b.request
+opened-now l t r d m to u o b none opened = by (started_by u.observation) (eqb (length l) o) opened
+  where
+    by : (q : Option CoapRequest) (here : Bool) → begun_by q here t (begun l o) ≡ Some b → q ≡ Some b.request
+    by None here e = absurd (none-some b (sym none ∙ e))
+    by (Some q) true e = ap (λ (c : Begun). Some c.request) (some-is _ _ e)
+    by (Some q) false e = absurd (none-some b (sym none ∙ e))
+
 none-here : (l : List Noted) (t : ℕ) (p r : Peer) (d : List ℕ) (m : Content) (to : Option ℕ) (u : Notice) → Legal l → IsElsewhere l p to
-    → filter (is_submitted_at (says t r d m to u ∷ l) p (length l)) (openings l) ≡ []
-none-here l t p r d m to u legal other =
-    filter-none (is_submitted_at (says t r d m to u ∷ l) p (length l)) (openings l)
-    (listed-are (λ (o : ℕ). is_submitted_at (says t r d m to u ∷ l) p (length l) o ≡ false) (openings l) (not-here l t p r d m to u legal other))
+    → ((q : CoapRequest) → started_by u.observation ≡ Some q → same_peer q.peer p ≡ false)
+    → filter (is_submitted_at (says t r d m to u ∷ l) p (length l)) (openings (says t r d m to u ∷ l)) ≡ []
+none-here l t p r d m to u legal other starts =
+    filter-none (is_submitted_at n p (length l)) (openings n)
+    (listed-are (λ (o : ℕ). is_submitted_at n p (length l) o ≡ false) (openings n) (λ o has. by o (is-some (begun n o) (listed-begun n o has))))
+  where
+    n : List Noted
+    n = says t r d m to u ∷ l
+
+    not-and : (b c : Bool) → c ≡ false → (b && c) ≡ false
+    not-and true c e = e
+    not-and false c e = refl
+
+    no-left : (b c : Bool) → b ≡ false → (b && c) ≡ false
+    no-left true c e = absurd (false≢true (sym e))
+    no-left false c e = refl
+
+    -- what it opens is with another peer
+    new : (o : ℕ) → begun l o ≡ None → (b : Begun) → begun n o ≡ Some b → is_submitted_at n p (length l) o ≡ false
+    new o none b opened =
+        let it = opened-now l t r d m to u o b none opened in
+        let off : goes_to p (begun n o) ≡ false = ap (goes_to p) opened ∙ starts b.request it in
+        not-and (eqb (submitted n o) (length l)) (is_waiting n p o) (no-left (goes_to p (begun n o)) (is_going n o && is_none (waits_for n o)) off)
+
+    by : (o : ℕ) → (b : Begun) × (begun n o ≡ Some b) → is_submitted_at n p (length l) o ≡ false
+    by o opened = old (begun l o) refl
+      where
+        old : (v : Option Begun) → begun l o ≡ v → is_submitted_at n p (length l) o ≡ false
+        old None e = new o e opened.0 opened.1
+        old (Some c) e = not-here l t p r d m to u legal other o (begun-listed l o (ap is_some e))
 
 pub says-elsewhere : SaysElsewhere
-says-elsewhere start l t p r s d m to u b e other same =
+says-elsewhere start l t p r s d m to u b e other starts same =
     let a = b.agrees in
     let n = says t r d m to u ∷ l in
     record {
@@ -111,18 +148,20 @@ says-elsewhere start l t p r s d m to u b e other same =
       last = λ w after. a.last w (since l b.later after);
       count_up = λ w after. a.count_up w (since l b.later after);
       given = λ w after. a.given w (since l b.later after);
-      waits = waits-on start l t r p d m to u s.waiting a.waits (none-here l t p r d m to u b.legal other);
+      waits = waits-on start l t r p d m to u s.waiting a.waits (none-here l t p r d m to u b.legal other starts);
       awaits = λ token.
           a.awaits token
           ∙ (ap (λ (v : Bool). v || notified l p token)
           (sym (asked-once (λ (i : ℕ). went_under p token (first_at l i)) (ends_what to m) false (awaited l) (λ i x h. under-elsewhere l p to m other i token h))
-          ∙ sym (awaited-after (λ (i : ℕ). went_under p token (first_at l i)) to m (waits_for n) (waits_for l) (waits-after l t r d m to u) (openings l)))
+          ∙ (sym (awaited-after (λ (i : ℕ). went_under p token (first_at l i)) to m (waits_for n) (waits_for l) (waits-after l t r d m to u) (openings l))
+          ∙ sym (ap (list_any (λ (i : ℕ). went_under p token (first_at l i))) (awaited-says l t r d m to u b.legal))))
           ∙ ap (λ (v : Bool). awaits n p token || v) (sym (same token)));
       acks = λ mid token.
           a.acks mid token
           ∙ (sym (asked-once (λ (i : ℕ). went_under p token (first_at l i) && went_as p mid (first_at l i)) (ends_what to m) false (awaited l)
           (λ i x h. under-elsewhere l p to m other i token (and-left (went_under p token (first_at l i)) _ h)))
-          ∙ sym (awaited-after (λ (i : ℕ). went_under p token (first_at l i) && went_as p mid (first_at l i)) to m (waits_for n) (waits_for l) (waits-after l t r d m to u) (openings l)));
+          ∙ (sym (awaited-after (λ (i : ℕ). went_under p token (first_at l i) && went_as p mid (first_at l i)) to m (waits_for n) (waits_for l) (waits-after l t r d m to u) (openings l))
+          ∙ sym (ap (list_any (λ (i : ℕ). went_under p token (first_at l i) && went_as p mid (first_at l i))) (awaited-says l t r d m to u b.legal))));
       heard = heard-still l n p s.heard (record {
         later = b.later;
         before = λ w mid. rw (not-live t w p r d m to u e) refl;

@@ -164,7 +164,7 @@ next-follows start l t p s w ws b q small few free e =
     let waits = head-waits l p w ws h in
     let n = sent t p x.datagram (Some x.timeout) o m ∷ l in
     let others = subst (AllByRecursion (λ (q : ℕ). is_waiting l p q ≡ true)) h.is (waiting-all l p) in
-    let rises = subst (RisesBy (submitted l)) h.is (queue-rises l p) in
+    let rises = subst (RisesBy (submitted l)) h.is (queue-rises l p legal) in
     let still : waiting n p ≡ h.others = queue-kept (sent t p x.datagram (Some x.timeout) o m) l p
     (none-submitted (sent t p x.datagram (Some x.timeout) o m) l p refl (λ q w. sent-quiet l t p x.datagram (Some x.timeout) o m q))
     ∙ (ap (filter (is_waiting n p)) h.is ∙ gone l t p x.datagram (Some x.timeout) o m h.others others.1 rises.0) in (

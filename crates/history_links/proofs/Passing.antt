@@ -11,7 +11,7 @@ use Rattle.message_layer.specs.declared.state.Waiting.{Waiting}
 use Rattle.history_laws.specs.Readings.{Noted, Plain, noted}
 use Rattle.history_laws.specs.Progress.{Reply}
 use Rattle.history_laws.specs.Transmissions.{FirstSending, first_at, last_sent, transmission, if_outstanding}
-use Rattle.history_laws.specs.Exchanges.{Begun, begun, kept, is_late, Expired, Nothing, expires, turn, waits_by, waits_for, End, end_here, end_by, end_of, replies, is_going, goes_to, is_waiting, waiting, openings}
+use Rattle.history_laws.specs.Exchanges.{Begun, begun, kept, is_late, Expired, Nothing, expires, turn, waits_by, waits_for, End, end_here, end_by, end_of, heard_for, is_going, goes_to, is_waiting, waiting, openings}
 use Rattle.history_laws.specs.Hearing.{went_under, went_as}
 use Rattle.history_laws.proofs.CallerLemmas.{all-more, and-left, at-keeps, filter-by, none-submitted, NoReply, queue-kept, waiting-all}
 use Rattle.history_links.specs.Agrees.{Start, way_of, TurnIn, IsWaitingFor, WaitIn, awaits, notified}
@@ -40,7 +40,7 @@ ends-going a s n rs true (Some e) = refl
 ends-going a s n rs false old = refl
 
 pub going-passed : (l : List Noted) (t o : ℕ) → is_going (ticked_at t ∷ l) o ≡ (not (expires l o t (waits_for l o)) && is_going l o)
-going-passed l t o = ends-going (begun l o) (kept l o) (length l) (replies l o) (expires l o t (waits_for l o)) (end_of l o)
+going-passed l t o = ends-going (begun l o) (kept l o) (length l) (heard_for l o) (expires l o t (waits_for l o)) (end_of l o)
 
 -- Who waits and isn't late waits still.
 waiting-passed : (l : List Noted) (t : ℕ) (p : Peer) (o : ℕ) → is_waiting (ticked_at t ∷ l) p o ≡ (is_waiting l p o && not (is_late t (begun l o)))

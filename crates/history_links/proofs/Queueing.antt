@@ -27,7 +27,7 @@ use Rattle.message_layer.proofs.Effects.{filter-kept}
 use Rattle.history_laws.specs.Readings.{Noted, Note, Begins, Renews, at, noted, before}
 use Rattle.history_laws.specs.Transmissions.{FirstSending, firsts, if_outstanding, transmission, last_sent, first_at}
 use Rattle.history_laws.specs.Progress.{Reply, progress, next_message}
-use Rattle.history_laws.specs.Exchanges.{begun, kept, kept_by, opened_by, openings, opens_by, waits_for, replies, awaited, is_waiting, is_submitted_at, waiting}
+use Rattle.history_laws.specs.Exchanges.{begun, kept, kept_by, opened_by, openings, opens_by, waits_for, replies, begins_by, begins_with, heard_for, awaited, is_waiting, is_submitted_at, waiting}
 use Rattle.history_laws.specs.Observing.{manner, manner_by, observes, tag_of, unless_replied, wants_by, wants_in}
 use Rattle.history_laws.specs.Hearing.{went_under, went_as}
 use Rattle.history_laws.specs.Justified.{Legal}
@@ -131,6 +131,19 @@ awaited-same l t c a q note legal i =
 pub replied : (l : List Noted) (t c : ℕ) (a : Ask) (note : Note) → Legal l → replies (asked t c a note ∷ l) (length l) ≡ []
 replied l t c a note legal = (replies-none l (length l) legal (not-yet l)).1
 
+begins-here : (n : ℕ) (q : CoapRequest) (note : Note) → IsOpening q note → begins_by n note ≡ []
+begins-here n q (Begins r) i = refl
+begins-here n q (Renews r s) i = refl
+begins-here n q note i = absurd i
+
+pub heard-here : (l : List Noted) (t c : ℕ) (a : Ask) (q : CoapRequest) (note : Note) → Legal l → IsOpening q note
+    → heard_for (asked t c a note ∷ l) (length l) ≡ []
+heard-here l t c a q note legal i =
+    ap (λ (bs : List Reply). bs ++ replies (asked t c a note ∷ l) (length l)) nothing ∙ replied l t c a note legal
+  where
+    nothing : begins_with (asked t c a note ∷ l) (length l) ≡ []
+    nothing = rw (eqb-itself (length l)) (begins-here (length l) q note i)
+
 pub kept-here : (l : List Noted) (t c : ℕ) (a : Ask) (note : Note) → kept (asked t c a note ∷ l) (length l) ≡ kept_by note
 kept-here l t c a note = rw (eqb-itself (length l)) refl
 
@@ -225,8 +238,8 @@ queued-agrees start l t p s c a q note token text word gone b to i spelled size 
             request = q;
             opening = begun-here l t c a q note i;
             message = opening_message how q 0 token;
-            next = ap (λ (f : Manner). next_message f q (progress q (replies n (length l))) 0 token) (manner-here l t c a note legal)
-                ∙ (ap (λ (rs : List Reply). next_message how q (progress q rs) 0 token) (replied l t c a note legal) ∙ asks-first how q 0 token (plainly l c a q note i));
+            next = ap (λ (f : Manner). next_message f q (progress q (heard_for n (length l))) 0 token) (manner-here l t c a note legal)
+                ∙ (ap (λ (rs : List Reply). next_message how q (progress q rs) 0 token) (heard-here l t c a q note legal i) ∙ asks-first how q 0 token (plainly l c a q note i));
             spelled = spelled;
             token_size = size;
             token_apart = apart;

@@ -1,18 +1,21 @@
 -- What a message that is new does to exchanges and to messages on their way.
-use Rattle.std.proofs.Common.{◌≡◌, ℕ, Bool, true, false, cond, eqb, leb, List, [], ◌∷◌, ◌++◌, length, Option, Some, None, inl, inr, refl, sym, ap, subst, ◌∙◌}
+use Rattle.std.proofs.Common.{◌≡◌, ℕ, Bool, true, false, cond, eqb, leb, List, [], ◌∷◌, ◌++◌, length, Option, Some, None, inl, inr, refl, sym, ap, subst, ◌∙◌, append-nil}
 use Rattle.std.specs.Prelude.{◌&&◌, filter, not, is_none}
 use Rattle.std.specs.List.{AllByRecursion, list_any, filter_map}
+use Rattle.std.proofs.lemmas.List.Elements.{filter_map-append}
 use Rattle.std.proofs.lemmas.Bool.Decides.{eqb_tells}
 use Rattle.std.proofs.lemmas.Bool.{false≢true, or_parts}
 use Rattle.coap_codec.specs.declared.message.MsgType.{MsgType}
 use Rattle.coap_codec.specs.declared.message.MsgType.TheVariants.{Con, Non, Ack, Rst}
 use Rattle.coap_codec.specs.Spelling.{Content}
 use Rattle.uri_map.specs.declared.peer.Peer.{Peer}
+use Rattle.ask_model.specs.Requests.{CoapRequest}
 use Rattle.journal_book.specs.Entries.{Hears}
 use Rattle.history_laws.specs.Readings.{Noted, Says, Notice, noted}
 use Rattle.history_laws.specs.Transmissions.{transmission}
-use Rattle.history_laws.specs.Exchanges.{Turn, Nothing, Replied, answered_by, heard_turn, turn, waits_by, waits_for, openings, replies, end_here, end_by, end_of, is_going, is_waiting, is_submitted_at, is_issued_at, issued, submitted, waiting, begun, kept}
-use Rattle.history_laws.proofs.CallerLemmas.{all-more, filter-all, filter-none, waiting-all, waiting-goes, waiting-unsent}
+use Rattle.history_laws.specs.Exchanges.{Turn, Nothing, Replied, answered_by, heard_turn, turn, waits_by, waits_for, openings, heard_for, end_here, end_by, end_of, is_going, is_waiting, is_submitted_at, is_issued_at, issued, submitted, waiting, begun, kept, started_by, opened_by, awaited}
+use Rattle.history_laws.specs.Justified.{Legal}
+use Rattle.history_laws.proofs.CallerLemmas.{all-more, begun-keeps, filter-all, filter-none, not-yet, unbegun, waiting-all, waiting-begun, waiting-goes, waiting-unsent}
 use Rattle.history_links.specs.Steps.{NoneGoesOn}
 
 abbrev pub says : ℕ → Peer → List ℕ → Content → Option ℕ → Notice → Noted
@@ -102,7 +105,7 @@ still-after l t p d m to u q e = turn-is l t p d m to u q ∙ (effect to m u.pla
 pub going-still : (l : List Noted) (t : ℕ) (p : Peer) (d : List ℕ) (m : Content) (to : Option ℕ) (u : Notice) (q : ℕ)
     → hit to m (waits_for l q) ≡ false → end_of (says t p d m to u ∷ l) q ≡ end_of l q
 going-still l t p d m to u q e =
-    ap (λ (v : Turn). end_by (end_here (begun l q) (kept l q) (length l) (replies l q) v) (length l) (end_of l q)) (still-after l t p d m to u q e)
+    ap (λ (v : Turn). end_by (end_here (begun l q) (kept l q) (length l) (heard_for l q) v) (length l) (end_of l q)) (still-after l t p d m to u q e)
 
 -- Who waits for a turn waits on.
 pub waiting-on : (l : List Noted) (t : ℕ) (p r : Peer) (d : List ℕ) (m : Content) (to : Option ℕ) (u : Notice) (q : ℕ)
@@ -111,7 +114,29 @@ waiting-on l t p r d m to u q e =
     let none = waiting-unsent l r q e in
     let miss : hit to m (waits_for l q) ≡ false = ap (hit to m) none in
     let unsent : waits_for (says t p d m to u ∷ l) q ≡ waits_for l q = waits-after l t p d m to u q ∙ rw (none) refl in
-    rw (going-still l t p d m to u q miss, unsent) e
+    let b = waiting-begun l r q e in
+    let same : begun (says t p d m to u ∷ l) q ≡ begun l q = begun-keeps (says t p d m to u) l q b.0 b.1 ∙ sym b.1 in
+    rw (same, going-still l t p d m to u q miss, unsent) e
+
+-- What it opens awaits nothing yet.
+pub awaited-says : (l : List Noted) (t : ℕ) (p : Peer) (d : List ℕ) (m : Content) (to : Option ℕ) (u : Notice) → Legal l
+    → awaited (says t p d m to u ∷ l) ≡ filter_map (waits_for (says t p d m to u ∷ l)) (openings l)
+awaited-says l t p d m to u legal = by (started_by u.observation) refl
+  where
+    unsent : waits_for (says t p d m to u ∷ l) (length l) ≡ None
+    unsent = let none = (unbegun l (length l) legal (not-yet l)).0 in waits-after l t p d m to u (length l) ∙ rw (none) refl
+
+    by : (q : Option CoapRequest) → started_by u.observation ≡ q
+        → filter_map (waits_for (says t p d m to u ∷ l)) (openings (says t p d m to u ∷ l)) ≡ filter_map (waits_for (says t p d m to u ∷ l)) (openings l)
+    by None e = ap (λ (q : Option CoapRequest). filter_map (waits_for (says t p d m to u ∷ l)) (opened_by (length l) q (openings l))) e
+    by (Some q) e =
+        ap (λ (q : Option CoapRequest). filter_map (waits_for (says t p d m to u ∷ l)) (opened_by (length l) q (openings l))) e
+        ∙ (filter_map-append (waits_for (says t p d m to u ∷ l)) (openings l) (length l ∷ [])
+        ∙ (ap (λ (v : List ℕ). filter_map (waits_for (says t p d m to u ∷ l)) (openings l) ++ v) none
+        ∙ append-nil (filter_map (waits_for (says t p d m to u ∷ l)) (openings l))))
+      where
+        none : filter_map (waits_for (says t p d m to u ∷ l)) (length l ∷ []) ≡ []
+        none = rw (unsent) refl
 
 -- what is awaited
 pub awaited-after : (f : ℕ → Bool) (to : Option ℕ) (m : Content) (now old : ℕ → Option ℕ) → ((q : ℕ) → now q ≡ cond (hit to m (old q)) None (old q)) → (os : List ℕ)
@@ -132,17 +157,17 @@ awaited-after f to m now old is (q ∷ os) = by (old q) refl (awaited-after f to
 
 pub queue-after : (l : List Noted) (t : ℕ) (p r : Peer) (d : List ℕ) (m : Content) (to : Option ℕ) (u : Notice)
     → waiting (says t p d m to u ∷ l) r
-    ≡ waiting l r ++ filter (is_submitted_at (says t p d m to u ∷ l) r (length l)) (openings l)
+    ≡ waiting l r ++ filter (is_submitted_at (says t p d m to u ∷ l) r (length l)) (openings (says t p d m to u ∷ l))
 queue-after l t p r d m to u =
     let n = says t p d m to u ∷ l in
-    ap (λ (v : List ℕ). v ++ filter (is_submitted_at n r (length l)) (openings l))
+    ap (λ (v : List ℕ). v ++ filter (is_submitted_at n r (length l)) (openings n))
     (filter-all (is_waiting n r) (waiting l r) (all-more (λ (o : ℕ). is_waiting l r o ≡ true) (λ (o : ℕ). is_waiting n r o ≡ true)
     (waiting-on l t p r d m to u) (waiting l r) (waiting-all l r)))
 
 -- Where no exchange goes on, nothing is.
-pub none-goes : (l : List Noted) (x : Noted) (r : Peer) → NoneGoesOn l x → filter (is_submitted_at (x ∷ l) r (length l)) (openings l) ≡ []
+pub none-goes : (l : List Noted) (x : Noted) (r : Peer) → NoneGoesOn l x → filter (is_submitted_at (x ∷ l) r (length l)) (openings (x ∷ l)) ≡ []
 none-goes l x r none =
-    filter-none (is_submitted_at (x ∷ l) r (length l)) (openings l) (by (openings l) none)
+    filter-none (is_submitted_at (x ∷ l) r (length l)) (openings (x ∷ l)) (by (openings (x ∷ l)) none)
   where
     both : (a g : Bool) (w : Bool) → (a && g) ≡ false → (w ≡ true → g ≡ true) → (a && w) ≡ false
     both true g true e h = absurd (false≢true (sym e ∙ h refl))

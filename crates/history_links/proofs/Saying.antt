@@ -38,7 +38,7 @@ use Rattle.history_links.proofs.Copying.{is-last, is-outstanding}
 use Rattle.history_links.proofs.Repeating.{due-given, confirming-by, found-reply}
 use Rattle.history_links.proofs.Queueing.{acks-awaits, but-acks, but-awaits, kept-still}
 use Rattle.history_links.proofs.Remembering.{remembers, none-before}
-use Rattle.history_links.proofs.Replying.{says, is_to, ends_what, way-after, waits-after, awaited-after, none-goes, queue-after}
+use Rattle.history_links.proofs.Replying.{says, is_to, ends_what, way-after, waits-after, awaited-after, awaited-says, none-goes, queue-after}
 use Rattle.history_links.proofs.Judging.{is_ended, Judged}
 use Rattle.history_links.proofs.OwnMessages.{IsOwn, accepts, empties, own-judged}
 use Rattle.history_links.proofs.Acknowledgements.{ack-judged, rst-judged}
@@ -94,7 +94,7 @@ asked-once f g c (x ∷ xs) same = by (f x) refl (asked-once f g c xs (λ i e h.
 
 -- Who waited waits on, and what is submitted by the message waits last.
 pub waits-on : (start : Start) (l : List Noted) (t : ℕ) (p r : Peer) (d : List ℕ) (m : Content) (to : Option ℕ) (u : Notice) (ws : List Waiting)
-    → WaitIn start l (waiting l r) ws → filter (is_submitted_at (says t p d m to u ∷ l) r (length l)) (openings l) ≡ []
+    → WaitIn start l (waiting l r) ws → filter (is_submitted_at (says t p d m to u ∷ l) r (length l)) (openings (says t p d m to u ∷ l)) ≡ []
     → WaitIn start (says t p d m to u ∷ l) (waiting (says t p d m to u ∷ l) r) ws
 waits-on start l t p r d m to u ws i none =
     let n = says t p d m to u ∷ l in
@@ -199,23 +199,26 @@ pub record AgreesBut (start : Start) (l : List Noted) (p : Peer) (s : LinkState)
   pub heard : HeardIn start l p s.heard
 
 -- Under the token that a message ends no reply is awaited any more.
-pub awaits-after : (l : List Noted) (t : ℕ) (p : Peer) (s : LinkState) (d : List ℕ) (m : Content) (to : Option ℕ) (u : Notice) (v : Verdict) → Judged l p s m to v
+pub awaits-after : (l : List Noted) (t : ℕ) (p : Peer) (s : LinkState) (d : List ℕ) (m : Content) (to : Option ℕ) (u : Notice) (v : Verdict) → Legal l
+    → Judged l p s m to v
     → (token : List ℕ) → awaits (says t p d m to u ∷ l) p token ≡ (not (is_ended (ended_token v.news m.token) token) && awaits l p token)
-awaits-after l t p s d m to u v j token =
-    awaited-after (λ (i : ℕ). went_under p token (first_at l i)) to m (waits_for (says t p d m to u ∷ l)) (waits_for l) (waits-after l t p d m to u) (openings l)
+awaits-after l t p s d m to u v legal j token =
+    ap (list_any (λ (i : ℕ). went_under p token (first_at l i))) (awaited-says l t p d m to u legal)
+    ∙ (awaited-after (λ (i : ℕ). went_under p token (first_at l i)) to m (waits_for (says t p d m to u ∷ l)) (waits_for l) (waits-after l t p d m to u) (openings l)
     ∙ asked-once (λ (i : ℕ). went_under p token (first_at l i)) (ends_what to m) (is_ended (ended_token v.news m.token) token) (awaited l)
-    (λ i e h. j.awaits i token e h)
+    (λ i e h. j.awaits i token e h))
 
 after-judged : {start : Start} (l : List Noted) (t : ℕ) (p : Peer) (s : LinkState) (d : List ℕ) (m : Content) (to : Option ℕ) (u : Notice) (v : Verdict)
-    (gone : List ℕ → Bool) → IsFrom start l t → Judged l p s m to v → Agrees start l p s
+    (gone : List ℕ → Bool) → IsFrom start l t → Legal l → Judged l p s m to v → Agrees start l p s
     → Forgets l (says t p d m to u) p gone → EndsReset l p v.news gone
     → repeated l t p m ≡ None → AgreesBut start (says t p d m to u ∷ l) p (heard_link t m.mid m.token gone v s)
-after-judged {start = start} l t p s d m to u v gone later j a forgets resets none =
+after-judged {start = start} l t p s d m to u v gone later legal j a forgets resets none =
     let n = says t p d m to u ∷ l in
     let acked = λ (mid : ℕ) (token : List ℕ).
-    awaited-after (λ (i : ℕ). went_under p token (first_at l i) && went_as p mid (first_at l i)) to m (waits_for n) (waits_for l) (waits-after l t p d m to u) (openings l)
+    ap (list_any (λ (i : ℕ). went_under p token (first_at l i) && went_as p mid (first_at l i))) (awaited-says l t p d m to u legal)
+    ∙ (awaited-after (λ (i : ℕ). went_under p token (first_at l i) && went_as p mid (first_at l i)) to m (waits_for n) (waits_for l) (waits-after l t p d m to u) (openings l)
     ∙ asked-once (λ (i : ℕ). went_under p token (first_at l i) && went_as p mid (first_at l i)) (ends_what to m) (is_ended (ended_token v.news m.token) token) (awaited l)
-    (λ i e h. j.awaits i token e (and-left (went_under p token (first_at l i)) _ h)) in
+    (λ i e h. j.awaits i token e (and-left (went_under p token (first_at l i)) _ h))) in
     record {
       turn = turn-after l t p s d m to u v j a;
       known = a.known;
@@ -272,7 +275,7 @@ said-so start l t p s d m gone b none room forgets resets =
     let judged = judge l t p s m m.kind (b.started, b.later) b.legal b.agrees refl none room in
     record {
       owes = sym (ap (due p m.mid) judged.reply ∙ due-given p m.mid (answer_by m.kind (is_some (answers l p m)) (is_rejected m) (eqb m.code 0)) (confirming-by m.kind (is_some (answers l p m)) (is_rejected m) (eqb m.code 0)));
-      but = after-judged l t p s d m (answers l p m) (notice_of l t p m (answers l p m)) (verdict_of t s m) gone (b.started, b.later) judged b.agrees forgets resets none;
+      but = after-judged l t p s d m (answers l p m) (notice_of l t p m (answers l p m)) (verdict_of t s m) gone (b.started, b.later) b.legal judged b.agrees forgets resets none;
     }
 
 pub says-agrees : SaysAgrees

@@ -16,7 +16,7 @@ use Rattle.coap_codec.specs.declared.block.Block.{Block}
 use Rattle.blockwise.specs.Uploads.{next_block}
 use Rattle.history_laws.specs.Progress.{Progress, Ends, progress, next_message, Fetches, Gives, block_after}
 use Rattle.history_laws.specs.Transmissions.{mids_used}
-use Rattle.history_laws.specs.Exchanges.{Begun, begun, replies, goes_to, is_waiting, waiting}
+use Rattle.history_laws.specs.Exchanges.{Begun, begun, heard_for, goes_to, is_waiting, waiting}
 use Rattle.history_laws.specs.Observing.{manner}
 use Rattle.history_laws.specs.Justified.{Legal, MayBeFirst}
 use Rattle.history_links.specs.Agrees.{Start, IsFrom, TurnIn, IsWaitingFor, WaitIn, Agrees}
@@ -85,7 +85,7 @@ may-be-first l t p s w ws h legal from a few free =
     let goes : goes_to p (begun l h.opening) ≡ true = and-left (goes_to p (begun l h.opening)) _ waits in
     let peer : same_peer h.waits.request.peer p ≡ true = subst (λ (v : Option Begun). goes_to p v ≡ true) h.waits.opening goes in
     let mid = next_mid s.last_mid w.first_mid in
-    let progressed = progress h.waits.request (replies l h.opening) in
+    let progressed = progress h.waits.request (heard_for l h.opening) in
     let waiting_one : Content = record h.waits.message { token = w.token } in
     let same : h.waits.message ≡ record waiting_one { mid = 0 } = some-is _ _ (sym h.waits.next ∙ next-under (manner l h.opening) h.waits.request progressed w.token 0 h.waits.message h.waits.next) in
     record {

@@ -10,7 +10,7 @@ use Rattle.resp_cache.specs.Stored.{Stored}
 use Rattle.journal_book.specs.Entries.{Sends}
 use Rattle.history_laws.specs.Readings.{Noted, First, noted}
 use Rattle.history_laws.specs.Progress.{Reply}
-use Rattle.history_laws.specs.Exchanges.{Begun, Sent, Nothing, End, end_here, end_by, end_of, turn, waits_by, waits_for, replies, goes_to, begun, kept, is_waiting}
+use Rattle.history_laws.specs.Exchanges.{Begun, Sent, Nothing, End, end_here, end_by, end_of, turn, waits_by, waits_for, heard_for, goes_to, begun, kept, is_waiting}
 use Rattle.history_laws.proofs.CallerLemmas.{none-some, NoReply}
 use Rattle.history_links.proofs.Mids.{count-cons}
 use Rattle.history_laws.specs.Transmissions.{first_at}
@@ -25,7 +25,7 @@ none-ended a s n rs true old = refl
 none-ended a s n rs false old = refl
 
 pub ends-sent : (l : List Noted) (t : ℕ) (p : Peer) (b : List ℕ) (w : Option ℕ) (o : ℕ) (m : Content) (q : ℕ) → end_of (sent t p b w o m ∷ l) q ≡ end_of l q
-ends-sent l t p b w o m q = none-ended (begun l q) (kept l q) (length l) (replies l q) (eqb o q) (end_of l q)
+ends-sent l t p b w o m q = none-ended (begun l q) (kept l q) (length l) (heard_for l q) (eqb o q) (end_of l q)
 
 awaits-by : (n : ℕ) (b : Bool) (old : Option ℕ) → waits_by (cond b (Sent n) Nothing) old ≡ cond b (Some n) old
 awaits-by n true old = refl

@@ -13,10 +13,10 @@ use Rattle.message_layer.specs.declared.state.Reply.{Reply}
 use Rattle.history_laws.specs.Readings.{Noted, at, newest, before}
 use Rattle.history_laws.specs.Transmissions.{bears_token, firsts, first_at}
 use Rattle.history_laws.specs.Progress.{Reply as ExchangeReply, progress, next_message}
-use Rattle.history_laws.specs.Exchanges.{Begun, begun, kept, openings, turn, waits_for, replies, end_of, awaited, is_waiting, waiting, issued, rank}
+use Rattle.history_laws.specs.Exchanges.{Begun, begun, kept, openings, turn, waits_for, replies, heard_for, end_of, awaited, is_waiting, waiting, issued, rank}
 use Rattle.history_laws.specs.Hearing.{went_under, went_as, is_like, heard_before, live_heard, recalls}
 use Rattle.history_laws.specs.Confirming.{answered_as}
-use Rattle.history_laws.proofs.CallerLemmas.{all-more, at-cases, at-keeps, begun-keeps, issued-same, none-submitted, NoReply, queue-same, rank-keeps, replies-stay, waiting-all, waiting-begun, waiting-stays, before-keeps, begun-below}
+use Rattle.history_laws.proofs.CallerLemmas.{all-more, at-cases, at-keeps, begun-keeps, issued-same, none-submitted, NoReply, queue-same, rank-keeps, replies-stay, waiting-all, waiting-begun, waiting-stays, before-keeps, begun-below, heard-stays}
 use Rattle.history_links.specs.Agrees.{Start, IsWaitingFor, TurnIn, WaitIn, reply_of, awaits, awaits_ack, HeardIn, Agrees, notified, expects}
 use Rattle.history_laws.specs.Observing.{manner, manner_by, observes, tag_of, unless_replied, wants_in, watched}
 
@@ -39,6 +39,7 @@ pub record Still (l n : List Noted) : Type 0 where
   pub waits_are : (o : ℕ) → waits_for n o ≡ waits_for l o
   pub ends_are : (o : ℕ) → end_of n o ≡ end_of l o
   pub replies_are : (o : ℕ) → replies n o ≡ replies l o
+  pub heard_are : (o : ℕ) {b : Begun} → begun l o ≡ Some b → heard_for n o ≡ heard_for l o
   pub ranks_are : (o : ℕ) {b : Begun} → begun l o ≡ Some b → rank n o ≡ rank l o
   pub waiting_are : (p : Peer) → waiting n p ≡ waiting l p
   pub issued_are : issued n ≡ issued l
@@ -55,7 +56,7 @@ awaited-still l n e = rw (e.openings_are) (filter_map-same (waits_for n) (waits_
 -- An exchange keeps what its message was submitted as.
 pub record Keeps (l n : List Noted) (o : ℕ) : Type 0 where
   pub begun_is : (b : Begun) → begun l o ≡ Some b → begun n o ≡ Some b
-  pub replies_are : replies n o ≡ replies l o
+  pub heard_are : heard_for n o ≡ heard_for l o
   pub rank_is : rank n o ≡ rank l o
   pub manner_is : manner n o ≡ manner l o
 
@@ -66,8 +67,8 @@ waits-one {start = start} l n o w keeps apart a = record {
   request = a.request;
   opening = keeps.begun_is (record { since = a.since; request = a.request }) a.opening;
   message = a.message;
-  next = ap (λ (f : Manner). next_message f a.request (progress a.request (replies n o)) 0 w.token) keeps.manner_is
-      ∙ (ap (λ (rs : List ExchangeReply). next_message (manner l o) a.request (progress a.request rs) 0 w.token) keeps.replies_are ∙ a.next);
+  next = ap (λ (f : Manner). next_message f a.request (progress a.request (heard_for n o)) 0 w.token) keeps.manner_is
+      ∙ (ap (λ (rs : List ExchangeReply). next_message (manner l o) a.request (progress a.request rs) 0 w.token) keeps.heard_are ∙ a.next);
   spelled = a.spelled;
   token_size = a.token_size;
   token_apart = apart a.token_apart;
@@ -114,7 +115,7 @@ waiting-keeps x l p o e =
     let same = waiting-stays x l p o e in
     record {
       begun_is = λ c is. begun-keeps x l o c is;
-      replies_are = same;
+      heard_are = heard-stays x l o b.0 b.1 same;
       rank_is = rank-keeps x l o b.0 b.1 same;
       manner_is = manner-keep x l o b.0 b.1 same;
     }
@@ -138,6 +139,7 @@ still-by x l later firsts_are openings_are begun_are waits_are ends_are quiet ow
   waits_are = waits_are;
   ends_are = ends_are;
   replies_are = replied;
+  heard_are = λ o {b} e. heard-stays x l o b e (replied o);
   ranks_are = λ o {b} e. rank-keeps x l o b e (replied o);
   waiting_are = λ p. queue-same x l p (none-submitted x l p openings_are (λ o w. quiet o)) (λ o w. waiting p o ∙ w);
   issued_are = issued-same x l openings_are (λ o goes. quiet o);
@@ -220,7 +222,7 @@ rest-still {start = start} l n p s r e h a turn waiting_is last_is given_is awai
     keeps : (l n : List Noted) → Still l n → (p : Peer) (o : ℕ) → is_waiting l p o ≡ true → Keeps l n o
     keeps l n e p o w =
         let b = waiting-begun l p o w in
-        record { begun_is = λ c is. e.begun_are o ∙ is; replies_are = e.replies_are o; rank_is = e.ranks_are o b.1; manner_is = manner-same l n o (e.kept_are o b.1) (e.replies_are o) (e.observes_are o b.1) }
+        record { begun_is = λ c is. e.begun_are o ∙ is; heard_are = e.heard_are o b.1; rank_is = e.ranks_are o b.1; manner_is = manner-same l n o (e.kept_are o b.1) (e.replies_are o) (e.observes_are o b.1) }
 
     awaits-still : (l n : List Noted) → Still l n → (p : Peer) (token : List ℕ) → awaits n p token ≡ awaits l p token
     awaits-still l n e p token =

@@ -21,7 +21,7 @@ use Rattle.message_layer.specs.declared.state.Reply.TheVariants as R
 use Rattle.history_laws.specs.Readings.{Noted, First, noted, at, newest}
 use Rattle.history_laws.specs.Transmissions.{FirstSending, firsts, first_at, last_sent, is_recent, bears_token, mids_used, Transmission, transmission, outstanding}
 use Rattle.history_laws.specs.Progress.{progress, next_message}
-use Rattle.history_laws.specs.Exchanges.{begun, replies, rank, awaited, waiting}
+use Rattle.history_laws.specs.Exchanges.{begun, heard_for, rank, awaited, waiting}
 use Rattle.history_laws.specs.Observing.{manner, watched}
 use Rattle.history_laws.specs.Hearing.{knows, went_under, went_as, heard_before, live_heard}
 use Rattle.history_laws.specs.Confirming.{answered_as}
@@ -34,7 +34,8 @@ way_of o = record { timeout = o.timeout; copies = o.retransmissions; last = o.se
 pub record IsOut (l : List Noted) (p : Peer) (o : Outstanding) : Type 0 where
   pub first : FirstSending
   pub timeout : Option ℕ
-  pub stands : at l first.number ≡ Some (noted first.moment (Sends p o.datagram timeout) (First first.opening first.message))
+  pub stands : at l first.number ≡ Some
+      (noted first.moment (Sends p o.datagram timeout) (First first.opening first.message))
   pub is : outstanding l p ≡ Some first
   pub way : transmission l first.number ≡ Some (way_of o)
   pub token : first.message.token ≡ o.token
@@ -79,7 +80,8 @@ pub record IsWaitingFor (start : Start) (l : List Noted) (o : ℕ) (w : Waiting)
   pub request : CoapRequest
   pub opening : begun l o ≡ Some (record { since = since; request = request })
   pub message : Content
-  pub next : next_message (manner l o) request (progress request (replies l o)) 0 w.token ≡ Some message
+  pub next : next_message (manner l o) request (progress request (heard_for l o)) 0 w.token
+      ≡ Some message
   pub spelled : Spells message w.datagram
   pub token_size : length w.token ≡ 8
   pub token_apart : bears_token l w.token ≡ false
@@ -105,7 +107,8 @@ abbrev pub expects : List Noted → Peer → List ℕ → Bool
 expects l p token = awaits l p token || notified l p token
 
 abbrev pub awaits_ack : List Noted → Peer → ℕ → List ℕ → Bool
-awaits_ack l p mid token = list_any (λ (i : ℕ). went_under p token (first_at l i) && went_as p mid (first_at l i)) (awaited l)
+awaits_ack l p mid token = list_any (λ (i : ℕ). went_under p token (first_at l i)
+    && went_as p mid (first_at l i)) (awaited l)
 
 -- how a datagram was answered, by the kind of the message
 abbrev pub reply_of : Option MsgType → Reply
@@ -135,5 +138,6 @@ pub record Agrees (start : Start) (l : List Noted) (p : Peer) (s : LinkState) : 
   pub given : (t : ℕ) → IsFrom start l t → count_by (is_in_use t) s.given ≡ mids_used l t p
   pub waits : WaitIn start l (waiting l p) s.waiting
   pub awaits : (token : List ℕ) → list_any (is_awaited token) s.awaited ≡ expects l p token
-  pub acks : (mid : ℕ) (token : List ℕ) → list_any (is_awaited_by_ack mid token) s.awaited ≡ awaits_ack l p mid token
+  pub acks : (mid : ℕ) (token : List ℕ)
+      → list_any (is_awaited_by_ack mid token) s.awaited ≡ awaits_ack l p mid token
   pub heard : HeardIn start l p s.heard

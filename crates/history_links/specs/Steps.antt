@@ -25,7 +25,7 @@ use Rattle.history_laws.specs.Readings.{Noted, Note, Plain, Begins, Renews, Join
 use Rattle.history_laws.specs.Connections.{is_sealed}
 use Rattle.history_laws.specs.Transmissions.{FirstSending, first_at, bears_token, mids_used}
 use Rattle.history_laws.specs.Progress.{progress, next_message}
-use Rattle.history_laws.specs.Exchanges.{begun, kept_by, openings, replies, issued, is_issued_at, is_late, expires, waits_for, is_waiting, waiting}
+use Rattle.history_laws.specs.Exchanges.{begun, kept_by, started_by, openings, heard_for, issued, is_issued_at, is_late, expires, waits_for, is_waiting, waiting}
 use Rattle.history_laws.specs.Observing.{manner, manner_by, tag_of, wants_by}
 use Rattle.history_laws.specs.Hearing.{went_under, repeated, can_be_remembered, answers, notice_of}
 use Rattle.history_laws.specs.Confirming.{owed}
@@ -45,11 +45,13 @@ pub record MaySend (l : List Noted) : Type 0 where
   pub quiet : owed l ≡ None
 
 -- an entry that may follow, after which the link is this and agrees
-pub record Leads (start : Start) (l : List Noted) (p : Peer) (x : Noted) (s : LinkState) : Type 0 where
+pub record Leads (start : Start) (l : List Noted) (p : Peer) (x : Noted)
+    (s : LinkState) : Type 0 where
   pub follows : Follows l x.written.moment x.written.deed x.note
   pub agrees : Agrees start (x ∷ l) p s
 
--- Entries that are nothing to any link: of connections, an ask that joins an exchange, an ACK or RST, and what is heard and is nothing new.
+-- Entries that are nothing to any link: of connections, an ask that joins an exchange, an ACK or
+-- RST, and what is heard and is nothing new.
 abbrev pub IsSilent : Deed → Note → Type 0
 IsSilent (Opens c) Plain = ⊤
 IsSilent (Asks c a) Plain = ⊤
@@ -86,12 +88,15 @@ first t p o opening m = noted t (Sends p o.datagram (Some o.timeout)) (First ope
 
 abbrev pub NextFollows : Type 0
 NextFollows =
-    (start : Start) (l : List Noted) (t : ℕ) (p : Peer) (s : LinkState) (w : Waiting) (ws : List Waiting)
+    (start : Start) (l : List Noted) (t : ℕ) (p : Peer) (s : LinkState) (w : Waiting)
+    (ws : List Waiting)
     → Before start l t p s → MaySend l
     → w.first_mid < 65536 → mids_used l t p < MAX_MESSAGE_IDS
     → s.outstanding ≡ None → s.waiting ≡ w ∷ ws
-    → (o : ℕ) × (m : Content) × (is_waiting l p o ≡ true) × IsWaitingFor start l o w × (m.token ≡ w.token)
-    × Leads start l p (first t p (first_sent t s.last_mid w) o m) (with_outstanding s ws (first_sent t s.last_mid w))
+    → (o : ℕ) × (m : Content) × (is_waiting l p o ≡ true) × IsWaitingFor start l o w
+    × (m.token ≡ w.token)
+    × Leads start l p (first t p (first_sent t s.last_mid w) o m)
+    (with_outstanding s ws (first_sent t s.last_mid w))
 
 -- Under these tokens nothing is expected any more.
 abbrev pub but_gone : (List ℕ → Bool) → List Awaited → List Awaited
@@ -102,7 +107,8 @@ lets_go gone s = record s { awaited = but_gone gone s.awaited }
 
 -- So it is after the entry.
 abbrev pub Forgets : List Noted → Noted → Peer → (List ℕ → Bool) → Type 0
-Forgets l x p gone = (token : List ℕ) → expects (x ∷ l) p token ≡ (not (gone token) && expects l p token)
+Forgets l x p gone = (token : List ℕ)
+    → expects (x ∷ l) p token ≡ (not (gone token) && expects l p token)
 
 -- To the peer the same notifications come after it.
 abbrev pub IsUnnoticed : List Noted → Noted → Peer → Type 0
@@ -118,20 +124,25 @@ IsOpening q _ = ⊥
 abbrev pub first_manner : List Noted → Deed → Note → Manner
 first_manner l d note = manner_by (tag_of (kept_by note) []) (wants_by l d note)
 
--- Its message waits last where an ask opens an exchange with the peer. By that a watch for the same may end.
+-- Its message waits last where an ask opens an exchange with the peer. By that a watch for the same
+-- may end.
 abbrev pub QueuedAgrees : Type 0
 QueuedAgrees =
     (start : Start) (l : List Noted) (t : ℕ) (p : Peer) (s : LinkState)
-    (c : ℕ) (a : Ask) (q : CoapRequest) (note : Note) (token text : List ℕ) (word : ℕ) (gone : List ℕ → Bool)
+    (c : ℕ) (a : Ask) (q : CoapRequest) (note : Note) (token text : List ℕ) (word : ℕ)
+    (gone : List ℕ → Bool)
     → Before start l t p s → q.peer ≡ p → IsOpening q note
     → Spells (opening_message (first_manner l (Asks c a) note) q 0 token) text
     → length token ≡ 8 → bears_token l token ≡ false → token_number token ≡ start.issued + issued l
     → Forgets l (noted t (Asks c a) note) p gone
-    → Agrees start (noted t (Asks c a) note ∷ l) p (queued t (waits token text word) (lets_go gone s))
+    → Agrees start (noted t (Asks c a) note ∷ l) p
+    (queued t (waits token text word) (lets_go gone s))
 
--- What is heard asks for just what the link answers (RFC 7252 sections 4.2, 4.3, 4.5), which is this after it.
+-- What is heard asks for just what the link answers (RFC 7252 sections 4.2, 4.3, 4.5), which is
+-- this after it.
 pub record Heeds
-    (start : Start) (l : List Noted) (p : Peer) (x : Noted) (c : Option Confirmation) (s : LinkState)
+    (start : Start) (l : List Noted) (p : Peer) (x : Noted) (c : Option Confirmation)
+    (s : LinkState)
     : Type 0 where
   pub owes : owed (x ∷ l) ≡ c
   pub agrees : Agrees start (x ∷ l) p s
@@ -139,7 +150,8 @@ pub record Heeds
 -- A datagram that repeats one changes nothing.
 abbrev pub RepeatAgrees : Type 0
 RepeatAgrees =
-    (start : Start) (l : List Noted) (t : ℕ) (p : Peer) (s : LinkState) (d : List ℕ) (m : Content) (j : ℕ)
+    (start : Start) (l : List Noted) (t : ℕ) (p : Peer) (s : LinkState) (d : List ℕ) (m : Content)
+    (j : ℕ)
     → Before start l t p s → repeated l t p m ≡ Some j
     → Heeds start l p (noted t (Hears p d) (Repeats m j)) (due p m.mid (verdict_of t s m).reply) s
 
@@ -154,15 +166,16 @@ GarbledAgrees =
     → Before start l t p s
     → Heeds start l p (noted t (Hears p d) Garbled) (reset p (reset_for d)) s
 
--- The token under which no reply is awaited any more: that of a response that is told, or of a message that is reset.
+-- The token under which no reply is awaited any more: that of a response that is told, or of a
+-- message that is reset.
 abbrev pub ended_token : News → List ℕ → Option (List ℕ)
 ended_token Quiet token = None
 ended_token Response token = Some token
 ended_token (Reset of) token = Some of
 ended_token Lost token = None
 
--- What a link keeps after a message that it hears, before the next of its own has its turn: under these tokens nothing
--- is expected any more.
+-- What a link keeps after a message that it hears, before the next of its own has its turn: under
+-- these tokens nothing is expected any more.
 abbrev pub heard_link : ℕ → ℕ → List ℕ → (List ℕ → Bool) → Verdict → LinkState → LinkState
 heard_link t mid token gone v s = record {
   waiting = s.waiting;
@@ -178,9 +191,9 @@ heard_link t mid token gone v s = record {
 abbrev pub heard : List Noted → ℕ → Peer → List ℕ → Content → Noted
 heard l t p d m = noted t (Hears p d) (Says m (answers l p m) (notice_of l t p m (answers l p m)))
 
--- By it no exchange goes on: what it is a reply to has ended, if it is one.
+-- By it no exchange goes on, and none begins: what it is a reply to has ended, if it is one.
 abbrev pub NoneGoesOn : List Noted → Noted → Type 0
-NoneGoesOn l x = list_any (is_issued_at (x ∷ l) (length l)) (openings l) ≡ false
+NoneGoesOn l x = list_any (is_issued_at (x ∷ l) (length l)) (openings (x ∷ l)) ≡ false
 
 -- That of a message that is reset is one of these, where a reply to it was awaited.
 abbrev pub EndsReset : List Noted → Peer → News → (List ℕ → Bool) → Type 0
@@ -188,20 +201,25 @@ EndsReset l p news gone = (of : List ℕ) → news ≡ Reset of → awaits l p o
 
 abbrev pub SaysAgrees : Type 0
 SaysAgrees =
-    (start : Start) (l : List Noted) (t : ℕ) (p : Peer) (s : LinkState) (d : List ℕ) (m : Content) (gone : List ℕ → Bool)
+    (start : Start) (l : List Noted) (t : ℕ) (p : Peer) (s : LinkState) (d : List ℕ) (m : Content)
+    (gone : List ℕ → Bool)
     → Before start l t p s → repeated l t p m ≡ None → can_be_remembered l t p m ≡ true
     → Forgets l (heard l t p d m) p gone → EndsReset l p (verdict_of t s m).news gone
     → NoneGoesOn l (heard l t p d m)
-    → Heeds start l p (heard l t p d m) (due p m.mid (verdict_of t s m).reply) (heard_link t m.mid m.token gone (verdict_of t s m) s)
+    → Heeds start l p (heard l t p d m) (due p m.mid (verdict_of t s m).reply)
+    (heard_link t m.mid m.token gone (verdict_of t s m) s)
 
--- By it this exchange goes on: its next message, under a token of its own, waits last.
-pub record GoesOn (start : Start) (l : List Noted) (x : Noted) (o : ℕ) (token text : List ℕ) : Type 0 where
+-- By it this exchange goes on, or begins: its next message, under a token of its own, waits last.
+pub record GoesOn (start : Start) (l : List Noted) (x : Noted) (o : ℕ)
+    (token text : List ℕ) : Type 0 where
   pub is : is_issued_at (x ∷ l) (length l) o ≡ true
   pub since : ℕ
   pub request : CoapRequest
-  pub opening : begun l o ≡ Some (record { since = since; request = request })
+  pub opening : begun (x ∷ l) o ≡ Some (record { since = since; request = request })
   pub message : Content
-  pub next : next_message (manner (x ∷ l) o) request (progress request (replies (x ∷ l) o)) 0 token ≡ Some message
+  pub next : next_message (manner (x ∷ l) o) request
+      (progress request (heard_for (x ∷ l) o)) 0 token
+      ≡ Some message
   pub spelled : Spells message text
   pub token_size : length token ≡ 8
   pub token_apart : bears_token l token ≡ false
@@ -217,8 +235,8 @@ GoesOnAgrees =
     → Heeds start l p (heard l t p d m) (due p m.mid (verdict_of t s m).reply)
     (queued t (waits token text word) (heard_link t m.mid m.token gone (verdict_of t s m) s))
 
--- A tick gives up what was sent five times, and ends exchanges and watches: what bears a token of these is neither
--- expected nor sent any more (RFC 7252 sections 4.2, 4.8.2).
+-- A tick gives up what was sent five times, and ends exchanges and watches: what bears a token of
+-- these is neither expected nor sent any more (RFC 7252 sections 4.2, 4.8.2).
 abbrev pub is_over : ℕ → Option Outstanding → Bool
 is_over t None = false
 is_over t (Some o) = (o.retransmissions == MAX_RETRANSMIT) && nat_le (due_of o) t
@@ -236,14 +254,17 @@ passed_link t gone s = record {
 
 -- These are the tokens of the exchanges with the peer, and of the watches, that end at this moment.
 abbrev pub EndWaiting : List Noted → ℕ → (List ℕ → Bool) → List ℕ → List Waiting → Type 0
-EndWaiting l t gone (o ∷ os) (w ∷ ws) = (is_late t (begun l o) ≡ gone w.token) × EndWaiting l t gone os ws
+EndWaiting l t gone (o ∷ os) (w ∷ ws) = (is_late t (begun l o) ≡ gone w.token)
+    × EndWaiting l t gone os ws
 EndWaiting l t gone _ _ = ⊤
 
-pub record EndTokens (l : List Noted) (t : ℕ) (p : Peer) (s : LinkState) (gone : List ℕ → Bool) : Type 0 where
+pub record EndTokens (l : List Noted) (t : ℕ) (p : Peer) (s : LinkState)
+    (gone : List ℕ → Bool) : Type 0 where
   pub awaited : (o i : ℕ) (token : List ℕ) → waits_for l o ≡ Some i
       → went_under p token (first_at l i) ≡ true → expires l o t (Some i) ≡ gone token
   pub waiting : EndWaiting l t gone (waiting l p) s.waiting
-  pub watched : (token : List ℕ) → notified (noted t Passes Plain ∷ l) p token ≡ (not (gone token) && notified l p token)
+  pub watched : (token : List ℕ)
+      → notified (noted t Passes Plain ∷ l) p token ≡ (not (gone token) && notified l p token)
 
 abbrev pub PassAgrees : Type 0
 PassAgrees =
@@ -251,11 +272,13 @@ PassAgrees =
     → Before start l t p s → EndTokens l t p s gone
     → Agrees start (noted t Passes Plain ∷ l) p (passed_link t gone s)
 
--- What concerns another peer leaves the link: an ask that opens an exchange with that one, a message of its that
--- waited, a copy of one, and what is heard from it.
+-- What concerns another peer leaves the link: an ask that opens an exchange with that one, a
+-- message of its that waited, a copy of one, and what is heard from it, also where that opens an
+-- exchange with it.
 abbrev pub AskElsewhere : Type 0
 AskElsewhere =
-    (start : Start) (l : List Noted) (t : ℕ) (p : Peer) (s : LinkState) (c : ℕ) (a : Ask) (q : CoapRequest) (note : Note)
+    (start : Start) (l : List Noted) (t : ℕ) (p : Peer) (s : LinkState) (c : ℕ) (a : Ask)
+    (q : CoapRequest) (note : Note)
     → Before start l t p s → same_peer q.peer p ≡ false → IsOpening q note
     → IsUnnoticed l (noted t (Asks c a) note) p
     → Agrees start (noted t (Asks c a) note ∷ l) p s
@@ -270,15 +293,19 @@ FirstElsewhere =
 
 abbrev pub CopyElsewhere : Type 0
 CopyElsewhere =
-    (start : Start) (l : List Noted) (t : ℕ) (p r : Peer) (s : LinkState) (bytes : List ℕ) (i : ℕ) (f : FirstSending)
+    (start : Start) (l : List Noted) (t : ℕ) (p r : Peer) (s : LinkState) (bytes : List ℕ) (i : ℕ)
+    (f : FirstSending)
     → Before start l t p s → first_at l i ≡ Some f → same_peer f.peer p ≡ false
     → Agrees start (noted t (Sends r bytes None) (Copies i) ∷ l) p s
 
 abbrev pub SaysElsewhere : Type 0
 SaysElsewhere =
-    (start : Start) (l : List Noted) (t : ℕ) (p r : Peer) (s : LinkState) (d : List ℕ) (m : Content) (to : Option ℕ)
+    (start : Start) (l : List Noted) (t : ℕ) (p r : Peer) (s : LinkState) (d : List ℕ)
+    (m : Content) (to : Option ℕ)
     (notice : Notice)
     → Before start l t p s → same_peer r p ≡ false
-    → ((i : ℕ) (f : FirstSending) → to ≡ Some i → first_at l i ≡ Some f → same_peer f.peer p ≡ false)
+    → ((i : ℕ) (f : FirstSending) → to ≡ Some i → first_at l i ≡ Some f
+    → same_peer f.peer p ≡ false)
+    → ((q : CoapRequest) → started_by notice.observation ≡ Some q → same_peer q.peer p ≡ false)
     → IsUnnoticed l (noted t (Hears r d) (Says m to notice)) p
     → Agrees start (noted t (Hears r d) (Says m to notice) ∷ l) p s
