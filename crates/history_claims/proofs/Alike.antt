@@ -24,6 +24,18 @@ like-method r q like = ap (λ (m : Content). m.code) (like.message Plainly 0 [])
 pub like-get : (r q : CoapRequest) → IsLike r q → q.method ≡ 1 → IsSameGet q r
 like-get r q like get = (get, sym like.peer, λ manner mid token. sym (like.message manner mid token))
 
+-- What is for the same as the one is for the same as the other.
+pub same-through : (r q s : CoapRequest) → IsLike r q → IsSameGet r s → IsSameGet q s
+same-through r q s like g = (
+  sym (like-method r q like) ∙ g.0,
+  sym like.peer ∙ g.1,
+  λ manner mid token. sym (like.message manner mid token) ∙ g.2 manner mid token,
+)
+
+-- A GET is for the same as itself.
+pub own-get : (q : CoapRequest) → q.method ≡ 1 → IsSameGet q q
+own-get q get = (get, refl, λ manner mid token. refl)
+
 pub sent-like : (h : List Written) (o : ℕ) (r q : CoapRequest) (block : Option Block) (i : ℕ) (m : Content) → IsLike r q
     → IsSentFor h o r block i m → IsSentFor h o q block i m
 sent-like h o r q block i m like s =

@@ -21,7 +21,7 @@ use Rattle.history_claims.specs.Headline.{IsEntry, IsPending}
 use Rattle.history_claims.specs.Causes.{AreUnshared}
 use Rattle.history_claims.proofs.Entries.{entries-at}
 use Rattle.history_claims.proofs.Pending.{senses}
-use Rattle.history_claims.proofs.Unshared.{asks-itself, is-write, answered-after}
+use Rattle.history_claims.proofs.Unshared.{asks-itself, is-write, answered-after, write-asked, writes-method}
 
 -- A connection stays open till it is shut.
 abbrev pub NeverShut : List Noted → ℕ → Type 0
@@ -152,7 +152,8 @@ module _ (l : List Noted) (k s c : ℕ) (a : Ask) (q : CoapRequest) (legal : Leg
         → IsEntry (entries l) n u (Answers e h.opening g) → ⊥
     late-answer h n u e g early entry =
         let soon = p.before in
-        let after = answered-after l k _ legal here follows.0.0 h.opening h.write h.end (begun-before l k h.opening h.write h.opened) h.ended n u e g
+        let after = answered-after l k _ legal here follows.0.0 h.opening h.write h.end (begun-before l k h.opening h.write h.opened)
+        (write-asked l h.opening h.write legal (begun-before l k h.opening h.write h.opened) (writes-method q h.write h.changes)) h.ended n u e g
         (omega (arith, early, soon)) entry in
         let parts = and_parts (not (eqb h.write.request.method 1)) (same_place (asked_place q) (asked_place h.write.request)) h.changes in
         let place = sym ((places_decided (asked_place q) (asked_place h.write.request)).0 parts.1) ∙ ap asked_place (sym asks-q) in
@@ -170,16 +171,11 @@ module _ (l : List Noted) (k s c : ℕ) (a : Ask) (q : CoapRequest) (legal : Leg
         let later = h.later in
         absurd (omega (arith, le, later))
 
-  pub alone : (o : ℕ) (p : IsPending (entries l) k o q) → ((m s : ℕ) → m < k → IsEntry (entries l) m s (Shuts p.conn) → ⊥) → AreUnshared (entries l) o k
-  alone o p held t u d e r first second get =
-      let stands = entries-at l k _ second.stands in
-      let same : r ≡ q =
-      requests-same r q (sym (senses s e c u a _ Plain stands.0 (at-same l k _ _ here stands.1)) ∙ sense) in
-      let plain = subst (λ (r : CoapRequest). is_get r ≡ true) same get in
-      let h = outran-it o p held plain in (
+  pub alone : (o : ℕ) (p : IsPending (entries l) k o q) → ((m s : ℕ) → m < k → IsEntry (entries l) m s (Shuts p.conn) → ⊥) → AreUnshared (entries l) o k q q
+  alone o p held same =
+      let h = outran-it o p held (and_parts (is_get q) _ same).0 in (
         h.opening,
-        is-write l r h.opening h.write legal (begun-before l k h.opening h.write h.opened)
-            (subst (λ (r : CoapRequest). writes_at (asked_place r) h.write ≡ true) (sym same) h.changes),
+        is-write l q h.opening h.write legal (begun-before l k h.opening h.write h.opened) h.changes,
         subst (λ (m : ℕ). h.opening < m) (length-before l k _ here) (begun-below (before l k) h.opening h.write h.opened),
         λ n u e g early entry. late-answer o p held h n u e g early entry,
       )

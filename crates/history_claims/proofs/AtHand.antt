@@ -9,15 +9,15 @@ use Rattle.ask_model.specs.Sharing.{asked_key, asks_same}
 use Rattle.ask_model.specs.Views.{Ask}
 use Rattle.ask_model.proofs.CallerLemmas.{asks-onward, same-key, same-place}
 use Rattle.resp_cache.specs.Stored.{Stored, lifetime, is_fresh}
-use Rattle.journal_book.specs.Entries.{Grounds, Live, Asks, Answers, Written}
-use Rattle.history_laws.specs.Readings.{Noted, Note, Begins, Renews, Serves, entries, at, before, noted}
+use Rattle.journal_book.specs.Entries.{Grounds, Live, Asks, Hears, Answers, Written}
+use Rattle.history_laws.specs.Readings.{Noted, Note, Begins, Renews, Serves, entries, at, before, noted, Says}
 use Rattle.history_laws.specs.Connections.{is_sealed}
 use Rattle.history_laws.specs.Exchanges.{opens_by, Begun, begun}
 use Rattle.history_laws.specs.Joining.{outrun, is_joinable, asks_the_same}
 use Rattle.history_laws.specs.Storing.{IsRenewal, IsStored, IsCrowdedOut, MissesAlone, first_in}
 use Rattle.history_laws.specs.Justified.{AskNote, Follows, Legal, AtRest, Stands, UnservedNote}
 use Rattle.history_laws.specs.Laws.{IsFirst}
-use Rattle.history_laws.proofs.CallerLemmas.{asked-for, at-below, at-same, at-still, before-twice, begun-opening, follows-at, legal-before, none-some, renewal-shared, shared-is, unserved-of}
+use Rattle.history_laws.proofs.CallerLemmas.{at-below, at-same, at-still, before-twice, begun-opening, follows-at, legal-before, none-some, opened-for, renewal-shared, shared-is, unserved-of}
 use Rattle.history_claims.specs.Headline.{IsAsked}
 use Rattle.history_claims.specs.Once.{AreFew, IsHeld, told, used, IsUnwritten, WasTold, IsAtHand, IsServedSo, CanWaitFor, IsSentNothing, AreAskedOnce, IsUnnotified}
 use Rattle.history_claims.specs.Order.{CanBeSpared}
@@ -25,9 +25,10 @@ use Rattle.history_claims.proofs.Entries.{entries-at}
 use Rattle.history_claims.proofs.Given.{served-so}
 use Rattle.history_claims.proofs.Held.{asks-come, uncrowded}
 use Rattle.history_claims.proofs.Quiet.{asks-a-get, asks-through, at-there, unsealed-before}
-use Rattle.history_claims.proofs.Told.{e, fresh-so, listed-so, quiet, stored, stored-then, told-in, used-then}
+use Rattle.history_claims.proofs.Told.{e, fresh-so, listed-so, quiet, stored, stored-then, told-in, untold-since, used-then}
 use Rattle.history_claims.proofs.Latest.{IsLatest, joinable-so, stored-once}
 use Rattle.history_claims.proofs.Messages.{moments-rise}
+use Rattle.history_claims.proofs.Notified.{notice-began}
 use Rattle.history_claims.proofs.Unsent.{none-for-other}
 use Rattle.history_claims.proofs.Unshared.{asks-itself}
 use Rattle.history_claims.proofs.Waits.{opens-none, sent-nothing}
@@ -88,6 +89,12 @@ asks-no-answer s t c d k a g u v e = go (ap (λ (x : Noted). x.written.deed) e)
     go : Asks c a ≡ Answers d k g → ⊥
     go f = cc
 
+hears-no-answer : (s t : ℕ) (p : Peer) (b : List ℕ) (d k : ℕ) (g : Grounds) (u v : Note) → noted s (Hears p b) u ≡ noted t (Answers d k g) v → ⊥
+hears-no-answer s t p b d k g u v e = go (ap (λ (x : Noted). x.written.deed) e)
+  where
+    go : Hears p b ≡ Answers d k g → ⊥
+    go f = cc
+
 -- what was told in the entry n, and the ask k of a later moment
 module _ (l : List Noted) (legal : Legal l) (q : CoapRequest) (o n : ℕ) (js : List ℕ) (was : WasTold (entries l) q o n js)
     (k : ℕ) (z : Noted) (here : at l k ≡ Some z) (later : n < k) (none : IsUnwritten (entries l) o k q) (untold : IsUnnotified (entries l) js k q)
@@ -127,23 +134,32 @@ module _ (l : List Noted) (legal : Legal l) (q : CoapRequest) (o n : ℕ) (js : 
   told-misses : (y c t : ℕ) (a : Ask) (note : Note) (r : CoapRequest) → opens_by note ≡ Some r → a.sense ≡ Requests r
       → Follows (before l y) t (Asks c a) note → MissesAlone (before l y) t r
   told-misses y c t a note r opens sense may =
-      told-so note opens (subst (λ (s : Sense). UnservedNote (before l y) t s note) sense (unserved-of (before l y) t a note may.4))
+      told-so note opens (subst (λ (s : Sense). AskNote (before l y) t s note) sense may.3)
+      (subst (λ (s : Sense). UnservedNote (before l y) t s note) sense (unserved-of (before l y) t a note may.4))
     where
-      told-so : (note : Note) → opens_by note ≡ Some r → UnservedNote (before l y) t (Requests r) note → MissesAlone (before l y) t r
-      told-so (Begins s) e h = h
-      told-so (Renews s u) e h = h
-      told-so note e h = cc
+      told-so : (note : Note) → opens_by note ≡ Some r → AskNote (before l y) t (Requests r) note → UnservedNote (before l y) t (Requests r) note
+          → MissesAlone (before l y) t r
+      told-so (Begins s) opens asks h = h
+      told-so (Renews s u) opens asks h = h
+      told-so (Says m to notice) opens asks h = absurd asks
+      told-so note opens asks h = absurd cc
 
   none-opened : (m : ℕ) → m ≤ k → ((y : ℕ) → n < y → y < m → IsCrowded y → ⊥) → ((y : ℕ) → n < y → y < m → IsLatest (before l y) q S)
       → (y : ℕ) (b : Begun) → e l legal q o n js was < y → y < m → begun l y ≡ Some b → asks_same q b.request ≡ true → ⊥
   none-opened m high free earlier y b after less opened same =
-      let ask = asked-for l y b legal opened in
-      let may = follows-at l y _ legal ask.stands in
-      elim (leb_tells y n) [
-        | inl u ↦ quiet l legal q o n js was y _ after u.1 ask.stands (asks-come (before l y) b.since ask.conn ask.ask ask.note may)
-        | inr u ↦
-            misses-none y ask.conn b.since ask.ask ask.note b.request ask.sense same (earlier y u.1 less)
-            (young-at y _ ask.stands (omega (arith, less, high))) (free y u.1 less) (told-misses y ask.conn b.since ask.ask ask.note b.request ask.opens ask.sense may)
+      elim (opened-for l y b legal opened) [
+        | inl ask ↦
+            let may = follows-at l y _ legal ask.stands in
+            elim (leb_tells y n) [
+              | inl u ↦ quiet l legal q o n js was y _ after u.1 ask.stands (asks-come (before l y) b.since ask.conn ask.ask ask.note may)
+              | inr u ↦
+                  misses-none y ask.conn b.since ask.ask ask.note b.request ask.sense same (earlier y u.1 less)
+                  (young-at y _ ask.stands (omega (arith, less, high))) (free y u.1 less)
+                  (told-misses y ask.conn b.since ask.ask ask.note b.request ask.opens ask.sense may)
+            ]
+        | inr notice ↦
+            untold-since l legal q o n js was k z here later none untold young k later (omega arith) notice.ask y b.request notice.message after (omega (arith, less, high))
+            (notice-began l y b legal notice).notified same
       ]
 
   stored-at : (fuel m : ℕ) → m < fuel → n < m → m ≤ k → ((y : ℕ) → n < y → y < m → IsCrowded y → ⊥) → IsLatest (before l m) q S
@@ -169,9 +185,11 @@ module _ (l : List Noted) (legal : Legal l) (q : CoapRequest) (o n : ℕ) (js : 
     where
       unopened : (b : Begun) → begun l n ≡ Some b → ⊥
       unopened b opened =
-          let ask = asked-for l n b legal opened in
           let answer = told-in l legal q o n js was in
-          asks-no-answer b.since was.told_at ask.conn was.conn o ask.ask (Live js) ask.note answer.0 (at-same l n _ _ ask.stands answer.1)
+          elim (opened-for l n b legal opened) [
+            | inl ask ↦ asks-no-answer b.since was.told_at ask.conn was.conn o ask.ask (Live js) ask.note answer.0 (at-same l n _ _ ask.stands answer.1)
+            | inr notice ↦ hears-no-answer b.since was.told_at notice.peer notice.bytes was.conn o (Live js) _ answer.0 (at-same l n _ _ notice.stands answer.1)
+          ]
 
   -- nor after an ask to which it was served
   module _ (a c t : ℕ) (r : CoapRequest) (asked : IsAsked (entries l) a c t (Requests r)) (same : asks_same q r ≡ true) (after : n < a) (below : a < k)

@@ -1,5 +1,5 @@
 -- An own answer names its cause.
-use Rattle.std.proofs.Common.{◌≡◌, ℕ, ◌+◌, ◌<◌, ◌≤◌, ◌⊎◌, true, inl, inr, List, [], ◌∷◌, ◌++◌, length, Option, Some, None, refl, sym, ap, subst, ◌∙◌, arith}
+use Rattle.std.proofs.Common.{◌≡◌, ℕ, ◌+◌, ◌<◌, ◌≤◌, ◌⊎◌, true, inl, inr, List, [], ◌∷◌, ◌++◌, length, Option, Some, None, refl, sym, ap, subst, ◌∙◌, arith, append_assoc}
 use Rattle.std.specs.Prelude.{is_none}
 use Rattle.std.proofs.lemmas.Bool.Decides.{eqb_tells, leb_tells}
 use Rattle.std.specs.List.{Contains}
@@ -20,10 +20,10 @@ use Rattle.history_laws.specs.Connections.{is_open}
 use Rattle.history_laws.specs.Readings.{Noted, Note, Plain, Says, entries, at, before, noted}
 use Rattle.history_laws.specs.Progress.{Reply, Ending, Reset, TimedOut, Turned}
 use Rattle.history_laws.specs.Transmissions.{Transmission, given_up, transmission, sent_last}
-use Rattle.history_laws.specs.Exchanges.{opens_by, Begun, begun, late_by, is_late, Expired, expires, turn, waits_for, replies, kept, end_here, end_of}
+use Rattle.history_laws.specs.Exchanges.{opens_by, Begun, begun, late_by, is_late, Expired, expires, turn, waits_for, replies, kept, end_here, end_of, ask_behind, begins_with, heard_for}
 use Rattle.history_laws.specs.Justified.{IsAsk, IsTurnedAway as WasTurnedAway, IsRefused as WasRefused, IsOverdue, Caused, Ends, reads, pending, Follows, MayCome, Legal, Stands}
 use Rattle.history_laws.specs.Laws.{IsFirst}
-use Rattle.history_laws.proofs.CallerLemmas.{asked-for, at-before, at-below, at-newest, at-same, at-still, before-twice, begun-before, ends-first, follows-at, IsFirst-below, legal-before, length-before, none-after-end, none-some, replies-fit, sent-for, some-is, waits-first}
+use Rattle.history_laws.proofs.CallerLemmas.{at-before, at-below, at-newest, at-same, at-still, before-twice, begun-before, begun-early, ends-first, follows-at, IsFirst-below, legal-before, length-before, none-after-end, none-some, replies-fit, sent-for, some-is, waits-first}
 use Rattle.history_claims.specs.Headline.{IsEntry, IsSentFor, IsHeard, IsUnanswered}
 use Rattle.history_claims.specs.Causes.{IsUnsettled, IsUnsent, IsTurnedAway, IsCutOff, IsRepliedTo, IsTimedOut, IsGivenUp, IsReset, IsRefused, IsCausedBy, AreCaused}
 use Rattle.history_claims.proofs.Entries.{entries-at, newest-before}
@@ -120,7 +120,7 @@ module _ (l : List Noted) (n t c k : ℕ) (cause : Cause) (j : ℕ) (legal : Leg
         let end = ends-first (before l n) o j Reset h in
         let y : Noted = end.0 in
         let late = before (before l n) j in
-        let u = reset-turn (begun late o) (kept late o) (turn late o y) j (replies late o) end.3 in
+        let u = reset-turn (begun late o) (kept late o) (turn late o y) j (heard_for late o) end.3 in
         let it = rejected-in late o y (follows-at (before l n) j y early end.1) u in
         let first = first-before l n _ o _ _ _ (first-before (before l n) j it.sent_at o it.sending it.peer it.sent it.first) in
         let sent = sent-as l it.sent_at o it.sending it.peer it.sent x.exchange legal x.opened first in
@@ -136,8 +136,9 @@ module _ (l : List Noted) (n t c k : ℕ) (cause : Cause) (j : ℕ) (legal : Leg
           below j y end.1,
           record {
             request = q;
-            opening = o;
+            opening = ask_behind l o;
             since = x.exchange.since;
+            entry = o;
             shared = x.shared;
             live = x.later j Reset h;
             sending = it.sending;
@@ -157,7 +158,7 @@ module _ (l : List Noted) (n t c k : ℕ) (cause : Cause) (j : ℕ) (legal : Leg
     Unheard = (m : Content) × (block : Option Block) × IsSentFor (entries l) o q block j m × IsUnanswered (entries l) q.peer j m n
 
     abbrev Named : Type 0
-    Named = Unheard ⊎ (IsRepliedTo (entries l) n k o q j ⊎ ((j ≡ k) × IsUnsent (entries l) o k o q))
+    Named = Unheard ⊎ (IsRepliedTo (entries l) n k o (ask_behind l o) q j ⊎ ((j ≡ k) × IsUnsent (entries l) o k o q))
 
     abbrev IsNamed : Type 0
     IsNamed = (sent_last (before l n) o ≡ Some j) ⊎ ((sent_last (before l n) o ≡ None) × (j ≡ k))
@@ -170,10 +171,9 @@ module _ (l : List Noted) (n t c k : ℕ) (cause : Cause) (j : ℕ) (legal : Leg
     -- the latest first sending of the exchange
     last-first : sent_last (before l n) o ≡ Some j → (s : ℕ) × (p : Peer) × (m : Content) × IsFirst (before l n) s o j p m
     last-first some =
-        let it = asked-for l o x.exchange legal x.opened in
         let ask = ask-before in
         let first = x.not_later in
-        sent-last-first (before l n) o j it.conn x.exchange.since it.ask _ early (at-still l n o _ _ here (omega (arith, first, ask)) it.stands) some
+        sent-last-first (before l n) o j x.exchange early (begun-early l n o x.exchange (at-below l n _ here) x.opened (omega (arith, first, ask))) some
 
     -- which is the newest of them, also before its end
     newest : sent_last (before l n) o ≡ Some j → (s i : ℕ) (p : Peer) (m : Content) → IsFirst (before l n) s o i p m → i ≤ j
@@ -201,7 +201,7 @@ module _ (l : List Noted) (n t c k : ℕ) (cause : Cause) (j : ℕ) (legal : Leg
         let y : Noted = end.0 in
         let s : ℕ = y.written.moment in
         let u : turn (before l e) o y ≡ Expired =
-        subst (λ (v : List Noted). turn v o y ≡ Expired) twice (expired-turn (begun (before (before l n) e) o) (kept (before (before l n) e) o) (turn (before (before l n) e) o y) e (replies (before (before l n) e) o) end.3) in
+        subst (λ (v : List Noted). turn v o y ≡ Expired) twice (expired-turn (begun (before (before l n) e) o) (kept (before (before l n) e) o) (turn (before (before l n) e) o y) e (heard_for (before (before l n) e) o) end.3) in
         let it = turn-expired (before l e) o y u in
         let tick = at-before l n e y end.1 ∙ ap (λ (v : Noted). Some v) it.entry in
         go (waits_for (before l e) o) refl s y.note (earlier e y end.1) tick it.over
@@ -285,9 +285,9 @@ module _ (l : List Noted) (n t c k : ℕ) (cause : Cause) (j : ℕ) (legal : Leg
       where
         -- the end is a tick
         not-heard : (e i : ℕ) (y : Noted) (p : Peer) (z : Content) (s : ℕ) → e ≡ i → at l e ≡ Some y
-            → end_here (begun (before (before l n) e) o) (kept (before (before l n) e) o) e (replies (before (before l n) e) o) (turn (before (before l n) e) o y) ≡ Some TimedOut → IsHeard (entries l) p i s z → ⊥
+            → end_here (begun (before (before l n) e) o) (kept (before (before l n) e) o) e (heard_for (before (before l n) e) o) (turn (before (before l n) e) o y) ≡ Some TimedOut → IsHeard (entries l) p i s z → ⊥
         not-heard e i y p z s same there ends h =
-            let it = turn-expired (before (before l n) e) o y (expired-turn (begun (before (before l n) e) o) (kept (before (before l n) e) o) (turn (before (before l n) e) o y) e (replies (before (before l n) e) o) ends) in
+            let it = turn-expired (before (before l n) e) o y (expired-turn (begun (before (before l n) e) o) (kept (before (before l n) e) o) (turn (before (before l n) e) o y) e (heard_for (before (before l n) e) o) ends) in
             let tick = stands-as l e y _ there it.entry in
             let heard = entries-at l i _ h.stands in
             hears-not s y.written.moment p h.bytes heard.0 y.note
@@ -308,11 +308,17 @@ module _ (l : List Noted) (n t c k : ℕ) (cause : Cause) (j : ℕ) (legal : Leg
         )
 
     -- it was opened before its message was sent
-    opened-for : (v : List Noted) (s : ℕ) (p : Peer) (m : Content) → Legal v → ((b : Begun) → begun v o ≡ Some b → begun l o ≡ Some b)
+    was-opened : (v : List Noted) (s : ℕ) (p : Peer) (m : Content) → Legal v → ((b : Begun) → begun v o ≡ Some b → begun l o ≡ Some b)
         → IsFirst v s o j p m → begun v o ≡ Some x.exchange
-    opened-for v s p m legal grown f =
+    was-opened v s p m legal grown f =
         let it = sent-for v s o j p m legal f in
         it.opened ∙ ap (λ (b : Begun). Some b) (some-is _ _ (sym (grown it.exchange it.opened) ∙ x.opened))
+
+    -- what was heard ends so
+    heard-so : (v : List Noted) (others : List Reply) (last : Reply) → replies v o ≡ others ++ last ∷ []
+        → heard_for v o ≡ (begins_with v o ++ others) ++ last ∷ []
+    heard-so v others last e =
+        ap (λ (rs : List Reply). begins_with v o ++ rs) e ∙ sym (append_assoc (begins_with v o) others (last ∷ []))
 
     last-before : (v : List Noted) (others : List Reply) (last : Reply) → Legal v → replies v o ≡ others ++ last ∷ [] → length v ≤ n → last.number < n
     last-before v others last legal all le =
@@ -327,8 +333,8 @@ module _ (l : List Noted) (n t c k : ℕ) (cause : Cause) (j : ℕ) (legal : Leg
         elim (latest (before l n) f.0 o j f.1 f.2 f.3 due.1 (newest some)) [
           | inl waits ↦ inl (unheard f.0 f.1 f.2 f.3 (unanswered-till l n _ f.0 o j f.1 f.2 legal early here f.3 waits))
           | inr w ↦
-              inr (inl (replied-last l n t c k o (Fault cause j) legal note here x j n _ here (opened-for (before l n) f.0 f.1 f.2 early (λ b e. begun-before l n o b e) f.3) due.1
-              (over-now (inr due)) (newest some) w.0 w.1 w.2 w.3 (last-before (before l n) w.0 w.1 early w.2 (omega (arith, len)))))
+              inr (inl (replied-last l n t c k o (Fault cause j) legal note here x j n _ here (was-opened (before l n) f.0 f.1 f.2 early (λ b e. begun-before l n o b e) f.3) due.1
+              (over-now (inr due)) (newest some) (begins_with (before l n) o ++ w.0) w.1 (heard-so (before l n) w.0 w.1 w.2) w.3 (last-before (before l n) w.0 w.1 early w.2 (omega (arith, len)))))
         ]
     named-by (inl ended) some =
         let f = last-first some in
@@ -344,8 +350,8 @@ module _ (l : List Noted) (n t c k : ℕ) (cause : Cause) (j : ℕ) (legal : Leg
               let all : replies (before l e) o ≡ w.0 ++ w.1 ∷ [] = subst (λ (v : List Noted). replies v o ≡ w.0 ++ w.1 ∷ []) twice w.2 in
               let going = subst (λ (v : List Noted). end_of v o ≡ None) twice end.2 in
               let first = subst (λ (v : List Noted). IsFirst v f.0 o j f.1 f.2) twice (first-then e TimedOut ended.1 f.0 f.1 f.2 f.3) in
-              inr (inl (replied-last l n t c k o (Fault cause j) legal note here x j e end.0 there (opened-for (before l e) f.0 f.1 f.2 (legal-before l e legal) (λ b g. begun-before l e o b g) first) going
-              (over-now (inl ended)) (newest some) w.0 w.1 all w.3 (last-before (before l e) w.0 w.1 (legal-before l e legal) all (omega (arith, size, before_end)))))
+              inr (inl (replied-last l n t c k o (Fault cause j) legal note here x j e end.0 there (was-opened (before l e) f.0 f.1 f.2 (legal-before l e legal) (λ b g. begun-before l e o b g) first) going
+              (over-now (inl ended)) (newest some) (begins_with (before l e) o ++ w.0) w.1 (heard-so (before l e) w.0 w.1 all) w.3 (last-before (before l e) w.0 w.1 (legal-before l e legal) all (omega (arith, size, before_end)))))
         ]
 
     names : HasTimedOut → IsNamed → (j < n) × Named
@@ -359,7 +365,7 @@ module _ (l : List Noted) (n t c k : ℕ) (cause : Cause) (j : ℕ) (legal : Leg
     timed-out named how =
         let it = names how named in (
           it.0,
-          record { request = q; opening = o; since = x.exchange.since; shared = x.shared; names = it.1; over = late how },
+          record { request = q; opening = ask_behind l o; since = x.exchange.since; entry = o; shared = x.shared; names = it.1; over = late how },
         )
       where
         late : HasTimedOut → IsOver

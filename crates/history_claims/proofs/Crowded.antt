@@ -12,7 +12,7 @@ use Rattle.ask_model.specs.Requests.{CoapRequest, Sense, Requests}
 use Rattle.ask_model.specs.Views.{Ask}
 use Rattle.uri_map.proofs.CallerLemmas.{same_peer-same}
 use Rattle.history_claims.proofs.Sending.{first-before, listed-sent}
-use Rattle.history_claims.proofs.Pending.{pending-is}
+use Rattle.history_claims.proofs.Pending.{open-is}
 use Rattle.history_claims.proofs.Unshared.{unshared}
 use Rattle.history_claims.proofs.Counting.{apart-push, apart-filter, apart-filtered}
 use Rattle.journal_book.specs.Entries.{Sent, Deed, Sends, Hears, Asks, Carries, Written}
@@ -22,8 +22,8 @@ use Rattle.history_laws.specs.Transmissions.{FirstSending, firsts_by, firsts, is
 use Rattle.history_laws.specs.Exchanges.{Begun, begun, opens_by, opened_by, openings, is_going, open_exchanges, goes_to, is_waiting, waiting as waiting_at, waits_for, submitted}
 use Rattle.history_laws.specs.Hearing.{has_room, let_go, has_place}
 use Rattle.history_laws.specs.Justified.{AskNote, Follows, Legal}
-use Rattle.history_laws.proofs.CallerLemmas.{all-listed, all-of, at-before, begun-below, contains-mapped, filtered-from, first-or-later, follows-at, is-some, IsListed, length-before, listed-begun, listed-below, none-some, queue-rises, RisesBy, waiting-all, waiting-unsent}
-use Rattle.history_claims.specs.Headline.{IsPending}
+use Rattle.history_laws.proofs.CallerLemmas.{all-listed, all-of, at-before, begun-below, contains-mapped, filtered-from, first-or-later, follows-at, is-some, IsListed, length-before, listed-begun, listed-below, none-some, queue-rises, RisesBy, waiting-all, waiting-unsent, legal-before}
+use Rattle.history_claims.specs.Headline.{IsOpen}
 use Rattle.history_claims.specs.Causes.{AreApart, AreMany, AreUnshared, AreManyPending, IsRecent, IsCrowded, exchanges, waiting, ids, IsFull, queue, mids}
 
 openings-below : (l : List Noted) (o : ℕ) → Contains (openings l) o → o < length l
@@ -104,10 +104,10 @@ module _ (l : List Noted) (k : ℕ) (x : Noted) (legal : Legal l) (here : at l k
       let going = and_parts (is_going (before l k) o) (is_none (waits_for (before l k) o)) parts.1 in
       (record { exchange = b.0; opened = b.1; going = going.0 }, b.2)
 
-  pending-open : (o : ℕ) (it : Open o) → IsPending (entries l) k o it.exchange.request
-  pending-open o it = (pending-is l k o x legal here unsealed it.going it.exchange it.opened).0
+  now-open : (o : ℕ) (it : Open o) → IsOpen (entries l) k o it.exchange.request
+  now-open o it = open-is l k o x legal here unsealed it.going it.exchange it.opened
 
-  unshared-open : (a b : ℕ) → Open a → Open b → a < b → AreUnshared (entries l) a b
+  unshared-open : (a b : ℕ) (first : Open a) (second : Open b) → a < b → AreUnshared (entries l) a b first.exchange.request second.exchange.request
   unshared-open a b first second lt =
       unshared l k x legal here unsealed a b first.exchange second.exchange first.opened second.opened first.going lt
 
@@ -118,7 +118,7 @@ module _ (l : List Noted) (k : ℕ) (x : Noted) (legal : Legal l) (here : at l k
           ones = open_exchanges (before l k);
           many = omega arith;
           apart = apart-filtered (is_going (before l k)) (openings (before l k)) (openings-apart (before l k));
-          each = λ o h. let it = open-listed o h in (it.exchange.request, tt, pending-open o it);
+          each = λ o h. let it = open-listed o h in (it.exchange.request, tt, now-open o it);
         };
         unshared = λ a b first second lt. unshared-open a b (open-listed a first) (open-listed b second) lt;
       }
@@ -129,8 +129,8 @@ module _ (l : List Noted) (k : ℕ) (x : Noted) (legal : Legal l) (here : at l k
         asks = record {
           ones = waiting_at (before l k) p;
           many = omega arith;
-          apart = rises-apart (submitted (before l k)) (waiting_at (before l k) p) (queue-rises (before l k) p);
-          each = λ o h. let it = open-waiting p o h in (it.0.exchange.request, it.1, pending-open o it.0);
+          apart = rises-apart (submitted (before l k)) (waiting_at (before l k) p) (queue-rises (before l k) p (legal-before l k legal));
+          each = λ o h. let it = open-waiting p o h in (it.0.exchange.request, it.1, now-open o it.0);
         };
         unshared = λ a b first second lt. unshared-open a b (open-waiting p a first).0 (open-waiting p b second).0 lt;
       }
@@ -155,8 +155,8 @@ module _ (l : List Noted) (k : ℕ) (x : Noted) (legal : Legal l) (here : at l k
           asks = record {
             ones = o ∷ waiting_at (before l k) p;
             many = omega arith;
-            apart = (not-among, rises-apart (submitted (before l k)) (waiting_at (before l k) p) (queue-rises (before l k) p));
-            each = λ a h. let w = among a h in (w.0.exchange.request, w.1, pending-open a w.0);
+            apart = (not-among, rises-apart (submitted (before l k)) (waiting_at (before l k) p) (queue-rises (before l k) p (legal-before l k legal)));
+            each = λ a h. let w = among a h in (w.0.exchange.request, w.1, now-open a w.0);
           };
           unshared = λ a b first second lt. unshared-open a b (among a first).0 (among b second).0 lt;
         }

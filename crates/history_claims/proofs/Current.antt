@@ -12,7 +12,7 @@ use Rattle.history_laws.specs.Justified.{Stands}
 use Rattle.history_laws.specs.Grounds.{replies_in}
 use Rattle.history_laws.specs.Progress.{Point, first_point, point_after}
 use Rattle.history_laws.proofs.CallerLemmas.{contains-none, first-or-later, some-is}
-use Rattle.history_claims.specs.Headline.{IsEntry, IsAsked, AreHeardFor, IsWriteAnswer, AreNotified, RestsOn}
+use Rattle.history_claims.specs.Headline.{IsEntry, IsAsked, AreHeardFor, AreHeardOn, IsShared, IsWriteAnswer, RestsOn}
 use Rattle.history_claims.specs.Carried.{AreCarriedFor}
 use Rattle.history_claims.specs.Stored.{IsServed, RestsOnRenewed, WasWhole, WasRenewed, never, again}
 use Rattle.history_claims.specs.Order.{AnswersLater}
@@ -39,23 +39,46 @@ heard-later h k w q point (i ∷ js) (m ∷ ms) j le heard has =
       | inr later ↦ heard-later h i w q (point_after point m) js ms j (omega (arith, le, after, came)) heard.1 later
     ]
 
--- so did a notification
-kept-later : (h : List Written) (k w : ℕ) (q : CoapRequest) (js : List ℕ) (ms : List Content) (j : ℕ) → w ≤ k
-    → AreHeardFor h k q (first_point q) js ms ⊎ AreNotified h k q js ms → Contains js j → AnswersLater h w q.peer j
-kept-later h k w q js ms j le (inl heard) has = heard-later h k w q (first_point q) js ms j le heard has
-kept-later h k w q (i ∷ []) (m ∷ []) j le (inr n) has =
+-- so did a notification, and what was heard on from that
+heard-on-later : (h : List Written) (k w : ℕ) (q : CoapRequest) (js : List ℕ) (ms : List Content) (j : ℕ) → w ≤ k
+    → AreHeardOn h k q js ms → Contains js j → AnswersLater h w q.peer j
+heard-on-later h k w q [] ms j le heard has = absurd heard
+heard-on-later h k w q (i ∷ js) [] j le heard has = absurd heard
+heard-on-later h k w q (i ∷ js) (m ∷ ms) j le heard has =
+    let same = heard.0.1 in
+    let n = heard.0.2 in
     let it = n.observed.heard in
     let after = it.sent_for.after in
-    elim (first-or-later i [] j has) [
-      | inl same ↦
-          subst (AnswersLater h w q.peer) same
-          (it.sending, it.sent_for.moment, it.sent, m, omega (arith, le, after), it.sent_for.first, n.response)
-      | inr later ↦ absurd (contains-none j later)
+    let came = n.response.after in
+    elim (first-or-later i js j has) [
+      | inl e ↦
+          subst (AnswersLater h w q.peer) e
+          (subst (λ (p : Peer). AnswersLater h w p i) (sym same.1)
+          (it.sending, it.sent_for.moment, it.sent, m, omega (arith, le, after), it.sent_for.first, n.response))
+      | inr later ↦ heard-later h i w q (point_after (first_point q) m) js ms j (omega (arith, le, after, came)) heard.1 later
     ]
-kept-later h k w q [] ms j le (inr n) has = absurd n
-kept-later h k w q (i ∷ []) [] j le (inr n) has = absurd n
-kept-later h k w q (i ∷ []) (m ∷ o ∷ ms) j le (inr n) has = absurd n
-kept-later h k w q (i ∷ l ∷ js) ms j le (inr n) has = absurd n
+
+kept-later : (h : List Written) (k w : ℕ) (q : CoapRequest) (js : List ℕ) (ms : List Content) (j : ℕ) → w ≤ k
+    → AreHeardFor h k q (first_point q) js ms ⊎ AreHeardOn h k q js ms → Contains js j → AnswersLater h w q.peer j
+kept-later h k w q js ms j le (inl heard) has = heard-later h k w q (first_point q) js ms j le heard has
+kept-later h k w q js ms j le (inr heard) has = heard-on-later h k w q js ms j le heard has
+
+-- A write that was answered before an ask was answered before what that shares was begun.
+shared-later : (h : List Written) (c k w n o since : ℕ) (q : CoapRequest) → IsWriteAnswer h q w → w < k → IsShared h c k q n o since
+    → (w < n) × (w < o)
+shared-later h c k w n o since q answer lt s = elim (s.shares) [
+  | inl own ↦ let entry = own.0 in let here = own.1 in (omega (arith, lt, entry), omega (arith, lt, here))
+  | inr (inl joined) ↦
+      let entry = joined.0 in
+      let fresh = joined.1.fresh w answer lt in
+      (omega (arith, fresh, entry), fresh)
+  | inr (inr to) ↦
+      let fresh = to.fresh w answer lt in
+      let n = to.fetching.notified in
+      let sent = n.observed.heard.sent_for.after in
+      let came = n.response.after in
+      (omega (arith, fresh, sent, came), fresh)
+]
 
 -- what an ask asks
 abbrev entry_of : ℕ → Deed → Written
@@ -153,21 +176,18 @@ current-live : (h : List Written) → Stands h → (n c k s w j : ℕ) (js : Lis
 current-live h stands n c k s w j js q asked write has lt (inl it) =
     let same = asked-one h k c c s it.shared.moment q it.request asked it.shared.asked in
     let answer = subst (λ (q : CoapRequest). IsWriteAnswer h q w) same write in
-    let earlier : w < it.opening =
-    elim (it.shared.shares) [
-      | inl own ↦ let here = own.0 in omega (arith, lt, here)
-      | inr joined ↦ joined.0.fresh w answer lt
-    ] in
+    let earlier = shared-later h c k w it.entry it.opening it.since it.request answer lt it.shared in
+    let sooner = earlier.0 in
+    let first = earlier.1 in
     subst (λ (q : CoapRequest). AnswersLater h w q.peer j) (sym same)
-    (heard-later h it.opening w it.request (first_point it.request) js it.messages j (omega (arith, earlier)) it.heard has)
+    (elim (it.heard) [
+      | inl heard ↦ heard-later h it.entry w it.request (first_point it.request) js it.messages j (omega (arith, sooner)) heard has
+      | inr heard ↦ heard-on-later h it.opening w it.request js it.messages j (omega (arith, first)) heard.1 has
+    ])
 current-live h stands n c k s w j js q asked write has lt (inr it) =
     let same = asked-one h k c c s it.shared.moment q it.request asked it.shared.asked in
     let answer = subst (λ (q : CoapRequest). IsWriteAnswer h q w) same write in
-    let earlier : w < it.opening =
-    elim (it.shared.shares) [
-      | inl own ↦ let here = own.0 in omega (arith, lt, here)
-      | inr joined ↦ joined.0.fresh w answer lt
-    ] in
+    let earlier : w < it.opening = (shared-later h c k w it.opening it.opening it.since it.request answer lt it.shared).1 in
     let v = it.valid.heard in
     let after = v.sent_for.after in
     subst (λ (q : CoapRequest). AnswersLater h w q.peer j) (sym same)

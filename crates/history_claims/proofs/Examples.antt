@@ -19,7 +19,7 @@ use Rattle.history_laws.specs.WorkedMessages as M
 use Rattle.history_laws.specs.WorkedEndings as E
 use Rattle.history_laws.specs.WorkedSpoiled as S
 use Rattle.history_laws.proofs.CallerLemmas.{all_answered-holds, content-spelled, eqb-same, given_up-holds, put-spelled, range-passes, rejected-holds, some-is, timed_out-holds}
-use Rattle.history_claims.specs.Headline.{IsEntry, IsAsked, IsPending, IsShared, IsHeardFor, AreHeardFor}
+use Rattle.history_claims.specs.Headline.{IsEntry, IsAsked, IsPending, IsShared, IsHeardFor, AreHeardFor, IsNotified}
 use Rattle.history_claims.specs.Causes.{AreCopies, IsGivenUp}
 use Rattle.history_claims.specs.Worked.{Answered, TimedOut, Rejected, GivenUp, Crossed, Foreseen, Early}
 use Rattle.history_claims.proofs.Resting.{rests-heard}
@@ -75,6 +75,20 @@ places g h ns len j t d size all e is =
     let so = range-passes (lies_so g h ns) 0 len j all (omega arith) (omega (arith, within, size)) in
     subst (λ (b : Bool). (not b || lies_in ns j) ≡ true) (ap (passes_in g) e ∙ is) so
 
+abbrev pub is_hearing : Deed → Bool
+is_hearing (Hears p b) = true
+is_hearing d = false
+
+-- A notification comes after another response: where one message was heard, none is one.
+pub not-notified : (h : List Written) (o : ℕ) (q : CoapRequest) (j : ℕ) (m : Content) (a : ℕ) → IsNotified h o q j m
+    → ((i s : ℕ) (d : Deed) → IsEntry h i s d → is_hearing d ≡ true → i ≤ j → i ≡ a) → ⊥
+not-notified h o q j m a n only =
+    let later = n.later in
+    let it = n.observed.heard.response in
+    let first = only n.registered it.moment _ it.heard.stands refl (omega (arith, later)) in
+    let second = only j n.response.moment _ n.response.heard.stands refl (omega arith) in
+    omega (arith, later, first, second)
+
 abbrev pub entry_of : ℕ → Deed → Written
 entry_of t d = record { moment = t; deed = d }
 
@@ -94,9 +108,16 @@ sense-same t s c d a b e = go (ap (λ (x : Written). x.deed) (some-is _ _ e))
     go : Asks c a ≡ Asks d b → a.sense ≡ b.sense
     go f = ap (λ (a : Ask). a.sense) (asks-same f)
 
-pub first-alone : (h : List Written) (c : ℕ) (q : CoapRequest) (o since t d : ℕ) → IsEntry h 0 t (Opens d) → (s : IsShared h c 1 q o since)
-    → (o ≡ 1) × (since ≡ s.moment)
-first-alone h c q o since t d here s = elim (s.shares) [ inl own ↦ own | inr j ↦ absurd (none j.0.request j.0.pending) ]
+pub first-alone : (h : List Written) (c : ℕ) (q : CoapRequest) (n o since t d : ℕ) → IsEntry h 0 t (Opens d) → (s : IsShared h c 1 q n o since)
+    → (n ≡ 1) × (o ≡ 1) × (since ≡ s.moment)
+first-alone h c q n o since t d here s = elim (s.shares) [
+  | inl own ↦ own
+  | inr (inl j) ↦ absurd (none j.1.request j.1.pending)
+  | inr (inr to) ↦
+      let before = to.fetching.before in
+      let sent = to.fetching.notified.response.after in
+      absurd (omega (arith, before, sent))
+]
   where
     none : (r : CoapRequest) → IsPending h 1 o r → ⊥
     none r p =
@@ -152,8 +173,12 @@ crossed-heard q block m h =
         absurd (omega (arith, numbers))
 
 -- what asks for the PUT shares with no other
-put-alone : (q : CoapRequest) (o since : ℕ) → IsShared (entries S.crossed) 1 4 q o since → o ≡ 4
-put-alone q o since s = elim (s.shares) [ inl own ↦ own.0 | inr j ↦ absurd (no-get (sense-same 500 s.moment 1 1 (ask_for M.put_light) _ s.asked.stands) j.0.same.0) ]
+put-alone : (q : CoapRequest) (n o since : ℕ) → IsShared (entries S.crossed) 1 4 q n o since → n ≡ 4
+put-alone q n o since s = elim (s.shares) [
+  | inl own ↦ own.0
+  | inr (inl j) ↦ absurd (no-get (sense-same 500 s.moment 1 1 (ask_for M.put_light) _ s.asked.stands) j.1.same.0)
+  | inr (inr to) ↦ absurd (no-get (sense-same 500 s.moment 1 1 (ask_for M.put_light) _ s.asked.stands) to.alike.0)
+]
   where
     asked-same : (q r : CoapRequest) → Requests q ≡ Requests r → q ≡ r
     asked-same q r e = cc
@@ -165,8 +190,11 @@ put-alone q o since s = elim (s.shares) [ inl own ↦ own.0 | inr j ↦ absurd (
 
 pub crossed : Crossed
 crossed h =
-    go h.messages
-    (subst (λ (k : ℕ). AreHeardFor (entries S.crossed) k h.request (first_point h.request) (9 ∷ []) h.messages) (put-alone h.request h.opening h.since h.shared) h.heard)
+    let own = put-alone h.request h.entry h.opening h.since h.shared in
+    elim (h.heard) [
+      | inl heard ↦ go h.messages (subst (λ (k : ℕ). AreHeardFor (entries S.crossed) k h.request (first_point h.request) (9 ∷ []) h.messages) own heard)
+      | inr on ↦ let begins = on.0 in absurd (omega (arith, own, begins))
+    ]
   where
     go : (ms : List Content) → AreHeardFor (entries S.crossed) 4 h.request (first_point h.request) (9 ∷ []) ms → ⊥
     go [] heard = absurd heard
@@ -245,7 +273,7 @@ early h =
     elim (h.over) [
       | inl w ↦
           let asked : 0 ≡ h.shared.moment = moment-same 0 h.shared.moment _ _ h.shared.asked.stands in
-          let alone = (first-alone (entries S.timed_out_early) 0 h.request h.opening h.since 0 0 refl h.shared).1 in
+          let alone = (first-alone (entries S.timed_out_early) 0 h.request h.entry h.opening h.since 0 0 refl h.shared).2 in
           absurd (omega (arith, w, asked, alone))
       | inr w ↦ given-up-early h.request.peer w.0 w.3
     ]

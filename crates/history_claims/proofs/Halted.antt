@@ -8,15 +8,16 @@ use Rattle.uri_map.specs.declared.peer.Peer.{Peer}
 use Rattle.ask_model.specs.Requests.{CoapRequest}
 use Rattle.journal_book.specs.Entries.{Grounds, Answers, Hears}
 use Rattle.history_laws.specs.Readings.{Noted, Note, Says, Notice, entries, at, before, noted}
-use Rattle.history_laws.specs.Progress.{Reply, NotUnderstood, Turned, Progress, first_progress, progress, ended_by}
-use Rattle.history_laws.specs.Exchanges.{kept, Begun, begun, Replied, turn, waits_for, replies, end_of, is_going}
+use Rattle.history_laws.specs.Progress.{Reply, NotUnderstood, Turned, progress, ended_by}
+use Rattle.history_laws.specs.Exchanges.{kept, Begun, begun, Replied, turn, waits_for, replies, end_of, is_going, ask_behind, begins_with, heard_for}
 use Rattle.history_laws.specs.Hearing.{answers, notice_of, has_place}
 use Rattle.history_laws.specs.Justified.{Ends, MaySay, Follows, Legal}
 use Rattle.history_laws.specs.Laws.{IsFirst}
 use Rattle.history_laws.proofs.CallerLemmas.{at-before, at-below, at-entries, at-same, before-twice, begun-before, ends-first, follows-at, legal-before, length-before, none-after-end, replies-fit, sent-for, some-is, turn-replied, waits-first}
-use Rattle.history_claims.specs.Causes.{IsUnsent, AreRepliesTo, IsCutOff, IsRepliedTo, IsNotUnderstood}
+use Rattle.history_claims.specs.Causes.{IsUnsent, AreRepliesFor, IsCutOff, IsRepliedTo, IsNotUnderstood}
 use Rattle.history_claims.proofs.Sending.{first-before, sent-as}
-use Rattle.history_claims.proofs.Pieces.{replies-like, progress-like, still-going, replies-to}
+use Rattle.history_claims.proofs.Pieces.{begins-till, heard-fits, progress-like, still-going}
+use Rattle.history_claims.proofs.Heard.{replies-for, replies-for-like}
 use Rattle.history_claims.proofs.Pending.{unsent-in}
 use Rattle.history_claims.proofs.Readers.{Reads}
 use Rattle.history_claims.proofs.Ending.{failed-turn, cut-turn, reply-placed}
@@ -43,6 +44,10 @@ hears-same s t p r b d u v e = go (ap (λ (x : Noted). x.written.deed) e)
     go : Hears p b ≡ Hears r d → p ≡ r
     go f = cc
 
+-- What was heard for an exchange came after what it answers was sent.
+sent-sooner : (l : List Noted) (o : ℕ) (b : Begun) (r : Reply) → Legal l → begun l o ≡ Some b → Contains (heard_for l o) r → r.sending < r.number
+sent-sooner l o b r legal opened has = (heard-fits l o b r legal opened has).1.after
+
 -- an exchange that the ask of an answer reads
 module _ (l : List Noted) (n t c k o : ℕ) (g : Grounds) (legal : Legal l) (note : Note) (here : at l n ≡ Some (noted t (Answers c k g) note))
     (x : Reads l n c k o) where
@@ -62,7 +67,7 @@ module _ (l : List Noted) (n t c k o : ℕ) (g : Grounds) (legal : Legal l) (not
     last = record { number = e; sending = i; message = m }
 
     abbrev others : List Reply
-    others = replies (before (before l n) e) o
+    others = heard_for (before (before l n) e) o
 
     asked-then : (w : ℕ) × (p : Peer) × (m : Content) × IsFirst (before (before l n) e) w o i p m
     asked-then = waits-first (before (before l n) e) o i (turn-replied (before (before l n) e) o y i m place is).waited
@@ -73,30 +78,36 @@ module _ (l : List Noted) (n t c k o : ℕ) (g : Grounds) (legal : Legal l) (not
         let s = sent-for (before (before l n) e) w.0 o i w.1 w.2 (legal-before (before l n) e early) w.3 in
         s.opened ∙ ap (λ (b : Begun). Some b) (some-is _ _ (sym (begun-before l n o _ (begun-before (before l n) e o _ s.opened)) ∙ x.opened))
 
-    heard-then : AreRepliesTo (entries l) o q (first_progress q) (others ++ last ∷ [])
+    heard-then : AreRepliesFor (entries l) (ask_behind l o) q (others ++ last ∷ [])
     heard-then =
-        let it = reply-placed (before l n) e o i m place y there is in
-        let all : replies (before l n) o ≡ (others ++ last ∷ []) ++ it.0 = it.1 ∙ sym (append_assoc others (last ∷ []) it.0) in
-        let heard = replies-to l n o x.exchange _ legal x.opened here (begun-before (before l n) e o _ opened-then) (others ++ last ∷ []) it.0 all in
-        subst (λ (u : Progress). AreRepliesTo (entries l) o q u (others ++ last ∷ [])) (progress-like x.exchange.request q [] x.like)
-        (replies-like (entries l) o x.exchange.request q (progress x.exchange.request []) (others ++ last ∷ []) x.like heard)
+        let v : List Noted = before l n in
+        let till : List Reply = replies (before v e) o in
+        let it = reply-placed v e o i m place y there is in
+        let all : replies v o ≡ (till ++ last ∷ []) ++ it.0 = it.1 ∙ sym (append_assoc till (last ∷ []) it.0) in
+        let begins = begins-till v e o x.exchange y there opened-then in
+        let same : begins_with v o ++ (till ++ last ∷ []) ≡ others ++ last ∷ [] =
+        sym (append_assoc (begins_with v o) till (last ∷ [])) ∙ ap (λ (hs : List Reply). (hs ++ till) ++ last ∷ []) (sym begins) in
+        replies-for-like (entries l) (ask_behind l o) x.exchange.request q (others ++ last ∷ []) x.like
+        (subst (λ (rs : List Reply). AreRepliesFor (entries l) (ask_behind l o) x.exchange.request rs) same
+        (replies-for l n o x.exchange _ legal x.opened here (begun-before v e o _ opened-then) (till ++ last ∷ []) it.0 all))
 
   pub not-understood : (j : ℕ) → Ends (before l n) o j NotUnderstood → (j < n) × IsNotUnderstood (entries l) c k j
   not-understood j h =
       let end = ends-first (before l n) o j NotUnderstood h in
       let y : Noted = end.0 in
       let late = before (before l n) j in
-      let failed = failed-turn (begun late o) (kept late o) (turn late o y) j (replies late o) end.3 in
+      let failed = failed-turn (begun late o) (kept late o) (turn late o y) j (heard_for late o) end.3 in
       let it = failed.1 in
-      let rs : List Reply = replies late o ++ record { number = j; sending = it.sending; message = it.message } ∷ [] in (
+      let rs : List Reply = heard_for late o ++ record { number = j; sending = it.sending; message = it.message } ∷ [] in (
         below j y end.1,
         record {
           request = q;
-          opening = o;
+          opening = ask_behind l o;
           since = x.exchange.since;
+          entry = o;
           shared = x.shared;
           live = x.later j NotUnderstood h;
-          others = replies late o;
+          others = heard_for late o;
           last = record { number = j; sending = it.sending; message = it.message };
           number = refl;
           heard = heard-then j it.sending y it.message failed.0 end.1 it.is;
@@ -135,7 +146,7 @@ module _ (l : List Noted) (n t c k o : ℕ) (g : Grounds) (legal : Legal l) (not
       let end = ends-first (before l n) o e Turned h in
       let y : Noted = end.0 in
       let late = before (before l n) e in
-      let it = cut-turn (begun late o) (kept late o) (turn late o y) e (replies late o) end.3 in
+      let it = cut-turn (begun late o) (kept late o) (turn late o y) e (heard_for late o) end.3 in
       let replied = turn-replied late o y it.sending it.message false it.is in
       let opened = opened-then e it.sending y it.message false end.1 it.is in
       let peer = heard-of e it.sending y it.message false end.1 it.is in
@@ -143,13 +154,14 @@ module _ (l : List Noted) (n t c k o : ℕ) (g : Grounds) (legal : Legal l) (not
       let heard : at l e ≡ Some (noted y.written.moment (Hears q.peer replied.bytes) (Says it.message (Some it.sending) replied.notice)) =
       subst (λ (p : Peer). at l e ≡ Some (noted y.written.moment (Hears p replied.bytes) (Says it.message (Some it.sending) replied.notice))) (peer ∙ x.like.peer)
       (stands-as l e y _ (at-before l n e y end.1) replied.entry) in
-      let rs : List Reply = replies late o ++ record { number = e; sending = it.sending; message = it.message } ∷ [] in
+      let rs : List Reply = heard_for late o ++ record { number = e; sending = it.sending; message = it.message } ∷ [] in
       record {
         request = q;
-        opening = o;
+        opening = ask_behind l o;
         since = x.exchange.since;
+        entry = o;
         shared = x.shared;
-        others = replies late o;
+        others = heard_for late o;
         last = record { number = e; sending = it.sending; message = it.message };
         went = record {
           heard = heard-then e it.sending y it.message false end.1 it.is;
@@ -172,20 +184,22 @@ module _ (l : List Noted) (n t c k o : ℕ) (g : Grounds) (legal : Legal l) (not
   -- No more was sent after the last of the replies.
   pub replied-last : (j e : ℕ) (y : Noted) → at l e ≡ Some y → begun (before l e) o ≡ Some x.exchange → end_of (before l e) o ≡ None
       → Over o (before l n) → ((s i : ℕ) (p : Peer) (m : Content) → IsFirst (before l n) s o i p m → i ≤ j) → (others : List Reply) (last : Reply)
-      → replies (before l e) o ≡ others ++ last ∷ [] → last.sending ≡ j → last.number < n → IsRepliedTo (entries l) n k o q j
+      → heard_for (before l e) o ≡ others ++ last ∷ [] → last.sending ≡ j → last.number < n → IsRepliedTo (entries l) n k o (ask_behind l o) q j
   replied-last j e y there opened going over newest others last all names soon =
       let rs : List Reply = others ++ last ∷ [] in
-      let heard = replies-to l e o x.exchange y legal x.opened there opened rs [] (all ∙ sym (append-nil rs)) in
-      let has : Contains (replies (before l e) o) last = subst (λ (v : List Reply). Contains v last) (sym all) (Contains-push others last) in
-      let after = (replies-fit (before l e) o last (legal-before l e legal) has).after in
+      let then : List Reply = replies (before l e) o in
+      let heard : AreRepliesFor (entries l) (ask_behind l o) x.exchange.request rs =
+      subst (λ (rs : List Reply). AreRepliesFor (entries l) (ask_behind l o) x.exchange.request rs) all
+      (replies-for l e o x.exchange y legal x.opened there opened then [] (sym (append-nil then))) in
+      let has : Contains (heard_for (before l e) o) last = subst (λ (v : List Reply). Contains v last) (sym all) (Contains-push others last) in
+      let after = sent-sooner (before l e) o x.exchange last (legal-before l e legal) opened has in
       record {
         others = others;
         last = last;
         names = names;
         went = record {
-          heard = subst (λ (u : Progress). AreRepliesTo (entries l) o q u rs) (progress-like x.exchange.request q [] x.like)
-              (replies-like (entries l) o x.exchange.request q (progress x.exchange.request []) rs x.like heard);
-          going = ap (ended_by true) (sym (progress-like x.exchange.request q rs x.like)) ∙ still-going (before l e) o x.exchange rs opened going all;
+          heard = replies-for-like (entries l) (ask_behind l o) x.exchange.request q rs x.like heard;
+          going = ap (ended_by true) (sym (progress-like x.exchange.request q rs x.like)) ∙ still-going (before l e) o x.exchange rs (legal-before l e legal) opened going all;
         };
         before = soon;
         unsent = unsent-after last.number over

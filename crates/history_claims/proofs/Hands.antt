@@ -13,7 +13,7 @@ use Rattle.journal_book.specs.Entries.{Deed, Opens, Asks, Shuts}
 use Rattle.history_laws.specs.Readings.{Noted, Note, at, before, noted}
 use Rattle.history_laws.specs.Connections.{has_opened, open_by, is_open, asks_of, answers_of, opened_by, opened}
 use Rattle.history_laws.specs.Progress.{Ending}
-use Rattle.history_laws.specs.Exchanges.{Begun, begun, is_late, Turn, Nothing, Sent, Replied, Rejected, Expired, expires, turn, waits_for, replies, kept, end_here, end_of, is_going}
+use Rattle.history_laws.specs.Exchanges.{Begun, begun, is_late, Turn, Nothing, Sent, Replied, Rejected, Expired, expires, turn, waits_for, kept, end_here, end_of, is_going, heard_for}
 use Rattle.history_laws.specs.Justified.{IsAsk, Ends, reads_in, reads, reads_open, pending, is_in_hand, Follows, Legal, AtRest, MayCome}
 use Rattle.history_laws.specs.Laws.{IsFirst}
 use Rattle.history_laws.proofs.CallerLemmas.{ask-listed, asks-keep, asks-once, at-same, at-still, before-twice, begun-below, ends-first, few-waiting, follows-at, IsFirst-below, legal-before, length-before, more-answers, next-above, none-some, open-below, range-passes, sent-for, turn-replied, waits-first}
@@ -117,7 +117,7 @@ ends-after l k e how legal ended =
     let end = ends-first l k e how ended in
     subst (λ (n : ℕ). k < n) (length-before l e end.0 end.1) (go end.0 (turn (before l e) k end.0) refl end.3)
   where
-    go : (x : Noted) (u : Turn) → turn (before l e) k x ≡ u → end_here (begun (before l e) k) (kept (before l e) k) e (replies (before l e) k) u ≡ Some how → k < length (before l e)
+    go : (x : Noted) (u : Turn) → turn (before l e) k x ≡ u → end_here (begun (before l e) k) (kept (before l e) k) e (heard_for (before l e) k) u ≡ Some how → k < length (before l e)
     go x (Replied i m place) is h = waits-after (before l e) k i (legal-before l e legal) (turn-replied (before l e) k x i m place is).waited
     go x Rejected is h = let it = turn-rejected (before l e) k x is in waits-after (before l e) k it.to (legal-before l e legal) it.waited
     go x Expired is h =
@@ -127,14 +127,14 @@ ends-after l k e how legal ended =
 
 -- What goes on when a connection asks ends after that.
 asks-end-none : (l : List Noted) (o n t c : ℕ) (a : Ask) (note : Note) (how : Ending)
-    → end_here (begun l o) (kept l o) n (replies l o) (turn l o (noted t (Asks c a) note)) ≡ Some how → ⊥
+    → end_here (begun l o) (kept l o) n (heard_for l o) (turn l o (noted t (Asks c a) note)) ≡ Some how → ⊥
 asks-end-none l o n t c a note how h = none-some how h
 
 pub not-at-ask : (l : List Noted) (o e t c : ℕ) (a : Ask) (note : Note) (how : Ending) → Ends l o e how → at l e ≡ Some (noted t (Asks c a) note) → ⊥
 not-at-ask l o e t c a note how ended here =
     let end = ends-first l o e how ended in
     asks-end-none (before l e) o e t c a note how
-    (subst (λ (x : Noted). end_here (begun (before l e) o) (kept (before l e) o) e (replies (before l e) o) (turn (before l e) o x) ≡ Some how)
+    (subst (λ (x : Noted). end_here (begun (before l e) o) (kept (before l e) o) e (heard_for (before l e) o) (turn (before l e) o x) ≡ Some how)
     (at-same l e end.0 (noted t (Asks c a) note) end.1 here) end.3)
 
 pub ends-later : (l : List Noted) (k c o e : ℕ) (a : Ask) (how : Ending) → IsAsk l k c a → is_going (before l k) o ≡ true → Ends l o e how → k < e
@@ -151,7 +151,7 @@ ends-later l k c o e a how ask going ended =
           let twice = before-twice l k e _ ask.stands w.1 in
           let over : is_none (end_of (before l k) o) ≡ false =
           ended-at (before l k) o e end.0 how (at-still l k e _ _ ask.stands w.1 end.1)
-          (subst (λ (v : List Noted). end_here (begun v o) (kept v o) e (replies v o) (turn v o end.0) ≡ Some how) (sym twice) end.3) in
+          (subst (λ (v : List Noted). end_here (begun v o) (kept v o) e (heard_for v o) (turn v o end.0) ≡ Some how) (sym twice) end.3) in
           absurd (false≢true (sym over ∙ going))
     ]
 
@@ -172,7 +172,7 @@ module _ (l : List Noted) (c k o e : ℕ) (how : Ending) (a : Ask) (legal : Lega
       let twice = before-twice l i e x here late in
       let over : is_none (end_of (before l i) o) ≡ false =
       ended-at (before l i) o e end.0 how (at-still l i e _ _ here late end.1)
-      (subst (λ (v : List Noted). end_here (begun v o) (kept v o) e (replies v o) (turn v o end.0) ≡ Some how) (sym twice) end.3) in
+      (subst (λ (v : List Noted). end_here (begun v o) (kept v o) e (heard_for v o) (turn v o end.0) ≡ Some how) (sym twice) end.3) in
       let below_ask : c < opened (before l k) = open-below (before l k) (legal-before l k legal) c asked-open in
       let more = opened-before (before l i) k (legal-before l i legal) in
       let sooner = before-twice l i k x here less in

@@ -10,16 +10,17 @@ use Rattle.journal_book.specs.Entries.{Deed, Opens, Asks, Sends, Hears, Passes, 
 use Rattle.history_laws.specs.Readings.{Noted, Note, Serves, First, entries, at, before, noted}
 use Rattle.history_laws.specs.Connections.{is_sealed}
 use Rattle.history_laws.specs.Progress.{Ending, Whole, Renewed}
-use Rattle.history_laws.specs.Exchanges.{Begun, begun, End, Nothing, Sent, turn, replies, kept, end_here, end_of}
+use Rattle.history_laws.specs.Exchanges.{Begun, begun, End, Nothing, Sent, turn, replies, kept, end_here, end_of, heard_for}
 use Rattle.history_laws.specs.Storing.{IsUse, IsUsedSince, KeysDiffer, IsCrowdedOut, ComesSo, IsStoring}
 use Rattle.history_laws.specs.Justified.{Follows, Legal, MayCome}
-use Rattle.history_laws.proofs.CallerLemmas.{asked-for, at-before, at-below, begun-before, begun-below, contains-later, contains-none, end-since, ends-first, first-or-later, follows-at, none-some, served-by, length-before, updates-since}
+use Rattle.history_laws.proofs.CallerLemmas.{at-before, at-below, begun-before, begun-below, contains-later, contains-none, end-since, ends-first, first-or-later, follows-at, none-some, opened-for, served-by, length-before, updates-since}
 use Rattle.history_claims.specs.Once.{AreFew}
 use Rattle.history_claims.proofs.Alone.{requests-same}
 use Rattle.history_claims.proofs.Entries.{asked-entry}
-use Rattle.history_claims.proofs.Quiet.{asked-since}
+use Rattle.history_claims.proofs.Quiet.{asked-since, open-since}
+use Rattle.history_claims.proofs.Pending.{fetching-is}
 use Rattle.history_claims.proofs.Alike.{stored-get}
-use Rattle.history_claims.proofs.Notified.{update-is}
+use Rattle.history_claims.proofs.Notified.{notice-began, update-is}
 
 -- Of keys that differ, and are among others, there are no more than of these.
 without : (ys : List CacheKey) (x : CacheKey) → Contains ys x
@@ -61,11 +62,11 @@ few-keys (x ∷ xs) ys differ there =
     omega (arith, size, ih)
 
 -- What ends an exchange is an input.
-sent-ends-none : (b : Bool) (l : List Noted) (o n i : ℕ) (how : Ending) → end_here (begun l o) (kept l o) n (replies l o) (cond b (Sent i) Nothing) ≡ Some how → ⊥
+sent-ends-none : (b : Bool) (l : List Noted) (o n i : ℕ) (how : Ending) → end_here (begun l o) (kept l o) n (heard_for l o) (cond b (Sent i) Nothing) ≡ Some how → ⊥
 sent-ends-none true l o n i how e = none-some how e
 sent-ends-none false l o n i how e = none-some how e
 
-sends-end-none : (l : List Noted) (o n t : ℕ) (d : Deed) (note : Note) (how : Ending) → end_here (begun l o) (kept l o) n (replies l o) (turn l o (noted t d note)) ≡ Some how
+sends-end-none : (l : List Noted) (o n t : ℕ) (d : Deed) (note : Note) (how : Ending) → end_here (begun l o) (kept l o) n (heard_for l o) (turn l o (noted t d note)) ≡ Some how
     → Follows l t d note → MayCome l
 sends-end-none l o n t (Hears p b) note how e may = may.0
 sends-end-none l o n t Passes note how e may = may.0
@@ -118,22 +119,31 @@ module _ (l : List Noted) (s u k : ℕ) (y : Noted) (q : CoapRequest) (legal : L
   ended-of i key o since r late begun_then how ended_then get is =
       let b : Begun = record { since = since; request = r } in
       let opened = begun-before l m o b begun_then in
-      let ask = asked-for l o b legal opened in
       let below = subst (λ (n : ℕ). o < n) size (begun-below (before l m) o b begun_then) in
       let e : End = record { number = i; how = how } in
       let ended = end-since l m o e ended_then in
       let came = ends-come l o e legal ended in
       let after = later-than i came.0 late came.1 came.2 in
       let other : o ≡ s → ⊥ = λ same. unopened b (subst (λ (o : ℕ). begun l o ≡ Some b) same opened) in
-      subst IsAmong is
-      (few.all o r (record {
-        conn = ask.conn;
-        moment = since;
-        asked = asked-entry l o ask.conn since ask.ask _ (Requests r) ask.stands ask.sense;
-        before = omega (arith, below, le);
-        since = asked-since l s o y b e legal there unsealed opened ended (omega (arith, after)) other;
-      })
-      get)
+      elim (opened-for l o b legal opened) [
+        | inl ask ↦
+            subst IsAmong is
+            (few.all o r (record {
+              conn = ask.conn;
+              moment = since;
+              asked = asked-entry l o ask.conn since ask.ask _ (Requests r) ask.stands ask.sense;
+              before = omega (arith, below, le);
+              since = asked-since l s o y b e legal there unsealed opened ended (omega (arith, after)) other ask;
+            })
+            get)
+        | inr notice ↦
+            subst IsAmong is
+            (few.told notice.ask o r notice.message (notice-began l o b legal notice).notified (omega (arith, below, le))
+            (elim (open-since l s o y b e legal there opened ended (omega (arith, after)) other) [
+              | inl lt ↦ inl lt
+              | inr w ↦ inr (since, fetching-is l s o y legal there w.0 b w.1 notice)
+            ]))
+      ]
 
   -- what was used since
   used-of : (i : ℕ) (key : CacheKey) → u < i → IsUse (before l m) i key → IsAmong key
@@ -164,7 +174,7 @@ module _ (l : List Noted) (s u k : ℕ) (y : Noted) (q : CoapRequest) (legal : L
           let told = update-is l it.opening i it.response (it.first ∷ it.more) b legal opened now in
           let after = later-than i _ late now.stands (follows-at l i _ legal now.stands).0 in
           let below = subst (λ (n : ℕ). i < n) size (at-below (before l m) i _ t.stands) in
-          subst IsAmong it.is (few.told it.opening i it.request now.message after (omega (arith, below, le)) told.0)
+          subst IsAmong it.is (few.told it.opening i it.request now.message told.0 (omega (arith, below, le)) (inl after))
 
   all-used : (keys : List CacheKey) → AllByRecursion (IsUsedSince (before l m) (asked_key q)) keys → AllByRecursion (Contains few.others) keys
   all-used [] h = tt

@@ -1,5 +1,5 @@
 -- The worked journals of a body in two pieces, as entries.
-use Rattle.std.proofs.Common.{◌≡◌, List, [], ◌∷◌, Some, refl, sym, subst}
+use Rattle.std.proofs.Common.{◌≡◌, inl, inr, List, [], ◌∷◌, Some, refl, sym, subst, arith}
 use Rattle.coap_codec.specs.Spelling.{Content, Spells}
 use Rattle.coap_codec.proofs.Unique.{spells_one}
 use Rattle.ask_model.specs.Requests.{CoapRequest}
@@ -13,7 +13,7 @@ use Rattle.history_laws.proofs.CallerLemmas.{answer-spelled, endless-holds, none
 use Rattle.history_claims.specs.Headline.{AreHeardFor}
 use Rattle.history_claims.specs.Worked.{Uploaded, TurnedDown, LeftOut, Endless}
 use Rattle.history_claims.proofs.Causes.{causes-in}
-use Rattle.history_claims.proofs.Examples.{heard-texts, sense-same}
+use Rattle.history_claims.proofs.Examples.{first-alone, heard-texts, sense-same}
 use Rattle.history_claims.proofs.Resting.{rests-heard}
 use Rattle.history_claims.proofs.Together.{requests-same}
 
@@ -28,12 +28,18 @@ endless = (causes-in U.endless 6 900 0 1 C.NotUnderstood 5 endless-holds.0 refl)
 
 -- not so: by itself the second answer isn't one to the request
 pub left-out : LeftOut
-left-out h = go h.messages h.heard h.whole
+left-out h = elim (h.heard) [
+  | inl heard ↦ go h.messages heard h.whole
+  | inr on ↦
+      let own = (first-alone (entries U.uploaded) 0 h.request h.entry h.opening h.since 0 0 refl h.shared).0 in
+      let begins = on.0 in
+      absurd (omega (arith, own, begins))
+]
   where
     asks : U.put_file ≡ h.request
     asks = requests-same U.put_file h.request (sense-same 0 h.shared.moment 0 0 (ask_for U.put_file) _ h.shared.asked.stands)
 
-    go : (ms : List Content) → AreHeardFor (entries U.uploaded) h.opening h.request (first_point h.request) (5 ∷ []) ms → whole_of h.request ms ≡ Some h.response → ⊥
+    go : (ms : List Content) → AreHeardFor (entries U.uploaded) h.entry h.request (first_point h.request) (5 ∷ []) ms → whole_of h.request ms ≡ Some h.response → ⊥
     go [] heard whole = heard
     go (m ∷ n ∷ ms) heard whole = heard.1
     go (m ∷ []) heard whole =

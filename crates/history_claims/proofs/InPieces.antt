@@ -17,7 +17,7 @@ use Rattle.history_laws.proofs.CallerLemmas.{eqb-same, fetched-holds, gap_heard-
 use Rattle.history_claims.specs.Headline.{IsFirstSending, IsHeardFor, AreHeardFor, AsksFor}
 use Rattle.history_claims.specs.Worked.{Fetched, Astray, asked_early, AskedEarly, Gap}
 use Rattle.history_claims.proofs.Causes.{causes-in}
-use Rattle.history_claims.proofs.Examples.{is_first, places, lies_in, texts, heard-texts, sense-same}
+use Rattle.history_claims.proofs.Examples.{first-alone, is_first, places, lies_in, texts, heard-texts, sense-same}
 use Rattle.history_claims.proofs.Resting.{rests-heard}
 use Rattle.history_claims.proofs.Together.{requests-same}
 
@@ -31,7 +31,13 @@ gap = (causes-in P.gap_heard 6 900 0 1 C.NotUnderstood 5 gap_heard-holds.0 refl)
 
 -- both were asked for before entry 4
 pub asked-early : AskedEarly
-asked-early h = go h.messages h.heard
+asked-early h = elim (h.heard) [
+  | inl heard ↦ go h.messages heard
+  | inr on ↦
+      let own = (first-alone (entries asked_early) 0 h.request h.entry h.opening h.since 0 0 refl h.shared).0 in
+      let begins = on.0 in
+      absurd (omega (arith, own, begins))
+]
   where
     soon : (i : ℕ) → lies_in (2 ∷ 3 ∷ []) i ≡ true → i < 4
     soon i e =
@@ -43,7 +49,7 @@ asked-early h = go h.messages h.heard
           ]
         ]
 
-    go : (ms : List Content) → AreHeardFor (entries asked_early) h.opening h.request (first_point h.request) (4 ∷ 5 ∷ []) ms → ⊥
+    go : (ms : List Content) → AreHeardFor (entries asked_early) h.entry h.request (first_point h.request) (4 ∷ 5 ∷ []) ms → ⊥
     go [] heard = heard
     go (m ∷ []) heard = heard.1
     go (m ∷ n ∷ ms) heard =
@@ -76,7 +82,13 @@ sent-second t p m f =
     ap (λ (m : Content). third m.options) (spells_one m (P.get_block 2) f.bytes f.spelled (subst (Spells (P.get_block 2)) text get-other-spelled))
 
 pub astray : Astray
-astray h = go h.messages h.heard
+astray h = elim (h.heard) [
+  | inl heard ↦ go h.messages heard
+  | inr on ↦
+      let own = (first-alone wrong 0 h.request h.entry h.opening h.since 0 0 refl h.shared).0 in
+      let begins = on.0 in
+      absurd (omega (arith, own, begins))
+]
   where
     asks : M.get_light ≡ h.request
     asks = requests-same M.get_light h.request (sense-same 0 h.shared.moment 0 0 (ask_for M.get_light) _ h.shared.asked.stands)
@@ -106,7 +118,7 @@ astray h = go h.messages h.heard
           ]
         ]
 
-    go : (ms : List Content) → AreHeardFor wrong h.opening h.request (first_point h.request) (3 ∷ 5 ∷ []) ms → ⊥
+    go : (ms : List Content) → AreHeardFor wrong h.entry h.request (first_point h.request) (3 ∷ 5 ∷ []) ms → ⊥
     go [] heard = heard
     go (m ∷ []) heard = heard.1
     go (m ∷ n ∷ o ∷ ms) heard = heard.1.1

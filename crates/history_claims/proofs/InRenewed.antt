@@ -17,7 +17,7 @@ use Rattle.history_laws.specs.WorkedPieces.{get_block}
 use Rattle.history_laws.specs.WorkedMessages as M
 use Rattle.history_laws.specs.WorkedRenewed as N
 use Rattle.history_laws.proofs.CallerLemmas.{eqb-same, get-spelled, next-spelled, renewed-holds, renewed_again-holds, served_renewed-holds, some-is, tagged-spelled, valid-8-spelled, valid-again-spelled, validates-spelled}
-use Rattle.history_claims.specs.Headline.{IsEntry, IsFirstSending, IsHeard, IsWriteAnswer, AreHeardFor, AreNotified}
+use Rattle.history_claims.specs.Headline.{IsEntry, IsFirstSending, IsHeard, IsWriteAnswer, AreHeardFor, AreHeardOn}
 use Rattle.history_claims.specs.Carried.{IsCarriedFirst}
 use Rattle.history_claims.specs.Stored.{WasHeardHere, WasCarried, WasWhole, WasRenewed, never, again}
 use Rattle.history_claims.specs.Worked.{Renewed, OtherTag, ValidLate, asked_after, RenewedAfter}
@@ -91,20 +91,20 @@ module _ (h : List Written) (q : CoapRequest) (s : Stored) (list : s.list ≡ 5 
           let came = a.0.response.after in
           (tag-by m w.other s.response w.other.peer a.0.response.moment a.0.response.heard whole, omega (arith, sent, came))
 
-      told-so : (ms : List Content) → AreNotified h s.opening w.other (5 ∷ []) ms → whole_of w.other ms ≡ Some s.response → IsSeven
+      told-so : (ms : List Content) → AreHeardOn h s.opening w.other (5 ∷ []) ms → whole_of w.other ms ≡ Some s.response → IsSeven
       told-so [] a whole = absurd a
-      told-so (m ∷ n ∷ ms) a whole = absurd a
+      told-so (m ∷ n ∷ ms) a whole = absurd a.1
       told-so (m ∷ []) a whole =
-          let sent = a.observed.heard.sent_for.after in
-          let came = a.response.after in
-          (tag-by m w.other s.response w.other.peer a.response.moment a.response.heard whole, omega (arith, sent, came))
+          let sent = a.0.2.observed.heard.sent_for.after in
+          let came = a.0.2.response.after in
+          (tag-by m w.other s.response a.0.0.peer a.0.2.response.moment a.0.2.response.heard whole, omega (arith, sent, came))
 
       by : WasHeardHere h s.opening w.other s.list w.messages s.heard ⊎ WasCarried h s.opening w.other s.list w.messages s.heard
           → IsSeven
       by (inl here) =
           elim (here.heard) [
             | inl a ↦ heard-so w.messages (subst (λ (js : List ℕ). AreHeardFor h s.opening w.other (first_point w.other) js w.messages) list a) w.whole
-            | inr a ↦ told-so w.messages (subst (λ (js : List ℕ). AreNotified h s.opening w.other js w.messages) list a) w.whole
+            | inr a ↦ told-so w.messages (subst (λ (js : List ℕ). AreHeardOn h s.opening w.other js w.messages) list a) w.whole
           ]
       by (inr copied) =
           let first = subst (λ (js : List ℕ). IsCarriedFirst h s.heard js) list copied.first in
@@ -229,5 +229,6 @@ renewed-after h =
     opened-after =
         elim (h.shared.shares) [
           | inl own ↦ let same = own.0 in omega (arith, same)
-          | inr j ↦ j.0.fresh 10 mine (lit< tt)
+          | inr (inl j) ↦ j.1.fresh 10 mine (lit< tt)
+          | inr (inr to) ↦ to.fresh 10 mine (lit< tt)
         ]

@@ -10,7 +10,7 @@ use Rattle.journal_book.specs.Entries.{Grounds, Passes, Answers}
 use Rattle.history_laws.specs.Readings.{Noted, Note, entries, at, before, noted}
 use Rattle.history_laws.specs.Connections.{is_open}
 use Rattle.history_laws.specs.Progress.{Reply, Ending, TimedOut}
-use Rattle.history_laws.specs.Exchanges.{Begun, begun, is_late, Turn, Nothing, Expired, expires, turn, waits_for, replies, kept, end_here, end_of, is_going}
+use Rattle.history_laws.specs.Exchanges.{Begun, begun, is_late, Turn, Nothing, Expired, expires, turn, waits_for, replies, kept, end_here, end_of, is_going, heard_for}
 use Rattle.history_laws.specs.Justified.{IsAsk, Ends, reads, pending, Follows, MayCome, Legal}
 use Rattle.history_laws.proofs.CallerLemmas.{at-before, at-below, at-same, at-still, before-twice, begun-opening, ends-first, follows-at, legal-before, length-before, none-some, opens-begun, some-is}
 use Rattle.history_claims.specs.Headline.{IsInTime}
@@ -34,9 +34,9 @@ going-in-time l k o n t x note b legal here going opened after early tick late =
     let was = opens-begun (before l n) o b.since opening.0 opening.1 b.request opening.3 (at-still l n o _ _ tick after stands) in
     let over : turn (before l n) o (noted t Passes note) ≡ Expired = rw (late-expires (before l n) o t b (waits_for (before l n) o) was late) refl in
     let twice = before-twice l k n x here early in
-    let ends : end_here (begun (before (before l k) n) o) (kept (before (before l k) n) o) n (replies (before (before l k) n) o) (turn (before (before l k) n) o (noted t Passes note)) ≡ Some TimedOut =
-    subst (λ (v : List Noted). end_here (begun v o) (kept v o) n (replies v o) (turn v o (noted t Passes note)) ≡ Some TimedOut) (sym twice)
-    (subst (λ (u : Turn). end_here (begun (before l n) o) (kept (before l n) o) n (replies (before l n) o) u ≡ Some TimedOut) (sym over) refl) in
+    let ends : end_here (begun (before (before l k) n) o) (kept (before (before l k) n) o) n (heard_for (before (before l k) n) o) (turn (before (before l k) n) o (noted t Passes note)) ≡ Some TimedOut =
+    subst (λ (v : List Noted). end_here (begun v o) (kept v o) n (heard_for v o) (turn v o (noted t Passes note)) ≡ Some TimedOut) (sym twice)
+    (subst (λ (u : Turn). end_here (begun (before l n) o) (kept (before l n) o) n (heard_for (before l n) o) u ≡ Some TimedOut) (sym over) refl) in
     false≢true (sym (ended-at (before l k) o n _ TimedOut (at-still l k n _ _ here early tick) ends) ∙ going)
 
 -- a tick ends an exchange in one way
@@ -45,9 +45,9 @@ passes-end : (o : Option Begun) (v : Option Stored) (b : Bool) (n : ℕ) (rs : L
 passes-end o v true n rs how e = sym (some-is TimedOut how e)
 passes-end o v false n rs how e = absurd (none-some how e)
 
-ends-at-tick : (l : List Noted) (k e s : ℕ) (note : Note) (how : Ending) → end_here (begun l k) (kept l k) e (replies l k) (turn l k (noted s Passes note)) ≡ Some how
+ends-at-tick : (l : List Noted) (k e s : ℕ) (note : Note) (how : Ending) → end_here (begun l k) (kept l k) e (heard_for l k) (turn l k (noted s Passes note)) ≡ Some how
     → how ≡ TimedOut
-ends-at-tick l k e s note how h = passes-end (begun l k) (kept l k) (expires l k s (waits_for l k)) e (replies l k) how h
+ends-at-tick l k e s note how h = passes-end (begun l k) (kept l k) (expires l k s (waits_for l k)) e (heard_for l k) how h
 
 -- The answer to an ask whose exchange ended otherwise comes before a tick that finds that late.
 module _ (l : List Noted) (n t c k o : ℕ) (g : Grounds) (note : Note) (legal : Legal l) (here : at l n ≡ Some (noted t (Answers c k g) note)) (a : Ask)
@@ -96,7 +96,7 @@ module _ (l : List Noted) (n t c k o : ℕ) (g : Grounds) (note : Note) (legal :
                   let stands = subst (λ (e : ℕ). at (before l n) e ≡ Some y) v.1 end.1 in
                   let same : y ≡ noted s Passes u = at-same (before l n) i y (noted s Passes u) stands tick in
                   other (ends-at-tick (before (before l n) e) o e s u how
-                  (subst (λ (y : Noted). end_here (begun (before (before l n) e) o) (kept (before (before l n) e) o) e (replies (before (before l n) e) o) (turn (before (before l n) e) o y) ≡ Some how) same end.3))
+                  (subst (λ (y : Noted). end_here (begun (before (before l n) e) o) (kept (before (before l n) e) o) e (heard_for (before (before l n) e) o) (turn (before (before l n) e) o y) ≡ Some how) same end.3))
               | inr v ↦ let le = w.1 in let not = v.1 in tick-after e i s u how ended later (omega (arith, le, not)) less tick
             ]
             | inr w ↦ tick-before e i s end.0 u end.1 end.2 after w.1 tick old

@@ -2,7 +2,7 @@
 use Rattle.std.proofs.Common.{◌≡◌, ◌⊎◌, ℕ, ◌+◌, ◌<◌, ◌≤◌, Bool, true, false, eqb, inl, inr, List, [], ◌∷◌, None, refl, sym, ap, subst, ◌∙◌, arith, lit<}
 use Rattle.std.specs.List.{Contains}
 use Rattle.std.proofs.lemmas.Bool.{false≢true, or_cases}
-use Rattle.coap_codec.specs.Spelling.{Spells}
+use Rattle.coap_codec.specs.Spelling.{Content, Spells}
 use Rattle.uri_map.specs.declared.peer.Peer.{Peer}
 use Rattle.ask_model.specs.Requests.{CoapRequest, Requests}
 use Rattle.ask_model.specs.Sharing.{asked_key, is_get}
@@ -17,14 +17,14 @@ use Rattle.history_laws.specs.WorkedEndings as E
 use Rattle.history_laws.specs.WorkedStore as K
 use Rattle.history_laws.specs.WorkedUploads as U
 use Rattle.history_laws.proofs.CallerLemmas.{all_answered-holds, contains-none, eqb-same, get-again-spelled, get-spelled, put-spelled, read_from_store-holds, uploaded-holds, some-is}
-use Rattle.history_claims.specs.Headline.{IsEntry, IsAsked, IsFirstSending, IsWrite}
+use Rattle.history_claims.specs.Headline.{IsEntry, IsAsked, IsFirstSending, IsNotified, IsOpen, IsPending, IsWrite}
 use Rattle.history_claims.specs.Causes.{AreCopies}
 use Rattle.history_claims.specs.Once.{WasAsked, told, WasTold, IsAtHand, CanWaitFor}
 use Rattle.history_claims.specs.Order.{IsOver, confirmed, rejected, answered, given_up}
 use Rattle.history_claims.specs.Worked.{asked_by_two}
 use Rattle.history_claims.specs.WorkedOrder.{ServedAgain, asked_anew, AskedAnew, Waited, asked_apart, AskedApart, InOrder, CopiedEarly, NotWaited}
 use Rattle.history_claims.proofs.AtHand.{served-in}
-use Rattle.history_claims.proofs.Examples.{places, lies_in, moment-same, sense-same}
+use Rattle.history_claims.proofs.Examples.{is_hearing, places, lies_in, moment-same, not-notified, sense-same}
 use Rattle.history_claims.proofs.InOrder.{in-order}
 use Rattle.history_claims.proofs.Together.{is_ask, requests-same}
 
@@ -45,10 +45,6 @@ abbrev is_tick : Deed → Bool
 is_tick Passes = true
 is_tick d = false
 
-abbrev pub is_hearing : Deed → Bool
-is_hearing (Hears p b) = true
-is_hearing d = false
-
 abbrev is_again : Deed → Bool
 is_again (Sends p b None) = true
 is_again d = false
@@ -61,7 +57,8 @@ two-of i a b e = elim (or_cases (eqb i a) _ e) [ inl w ↦ inl (eqb-same i a w) 
 
 -- the GET of entry 1, which is answered in entry 4
 module _ (h : List Written) (asks : IsEntry h 1 0 (Asks 0 (ask_for M.get_light))) (hears : IsEntry h 3 700 (Hears server E.non_bytes))
-    (answers : IsEntry h 4 700 (Answers 0 1 (Live (3 ∷ [])))) (only : (i s : ℕ) (d : Deed) → IsEntry h i s d → is_ask d ≡ true → i < 5 → i ≡ 1) where
+    (answers : IsEntry h 4 700 (Answers 0 1 (Live (3 ∷ [])))) (only : (i s : ℕ) (d : Deed) → IsEntry h i s d → is_ask d ≡ true → i < 5 → i ≡ 1)
+    (once : (i s : ℕ) (d : Deed) → IsEntry h i s d → is_hearing d ≡ true → i ≡ 3) where
   non-spelled : Spells E.non_message E.non_bytes
   non-spelled = read_from_store-holds.0.0.0.0.2.3.spelled
 
@@ -103,12 +100,8 @@ module _ (h : List Written) (asks : IsEntry h 1 0 (Asks 0 (ask_for M.get_light))
         | inr pending ↦ let sooner = pending.before in omega (arith, place, sooner)
       ]
 
-  unheard : (j s : ℕ) (p : Peer) (b : List ℕ) → j ≡ 4 → IsEntry h j s (Hears p b) → ⊥
-  unheard j s p b place e =
-      answers-not 700 s p b (ap (λ (x : Written). x.deed) (some-is _ _ (sym answers ∙ subst (λ (i : ℕ). IsEntry h i s (Hears p b)) place e)))
-    where
-      answers-not : (t s : ℕ) (p : Peer) (b : List ℕ) → Answers 0 1 (Live (3 ∷ [])) ≡ Hears p b → ⊥
-      answers-not t s p b e = cc
+  unheard : (o j : ℕ) (r : CoapRequest) (m : Content) → IsNotified h o r j m → ⊥
+  unheard o j r m n = not-notified h o r j m 3 n (λ i s d e is lt. once i s d e is)
 
   at-hand : IsAtHand h 5 60699 M.get_light (3 ∷ [])
   at-hand =
@@ -117,8 +110,8 @@ module _ (h : List Written) (asks : IsEntry h 1 0 (Asks 0 (ask_for M.get_light))
         answer = 4;
         told = told-once;
         fresh = lit< tt;
-        held = told (lit< tt) (record { others = []; few = lit< tt; all = few; told = λ o j r m up low n. absurd (omega (arith, up, low)) });
-        unnotified = λ o j r m up low n same. unheard j n.response.moment r.peer n.response.heard.bytes (omega (arith, up, low)) n.response.heard.stands;
+        held = told (lit< tt) (record { others = []; few = lit< tt; all = few; told = λ o j r m n low up. absurd (unheard o j r m n) });
+        unnotified = λ o j r m up low n same. unheard o j r m n;
         unwritten = unwritten;
       }
 
@@ -128,7 +121,8 @@ first-ask i e lt = elim (two-of i 1 5 e) [ inl w ↦ w | inr w ↦ absurd (omega
 pub served-again : ServedAgain
 served-again =
     let h : List Written = entries K.read_from_store in
-    let hand = at-hand h refl refl refl (λ i s d e is lt. first-ask i (places is_ask h (1 ∷ 5 ∷ []) 7 i s d refl refl e is) lt) in
+    let hand = at-hand h refl refl refl (λ i s d e is lt. first-ask i (places is_ask h (1 ∷ 5 ∷ []) 7 i s d refl refl e is) lt)
+    (λ i s d e is. one-of i 3 (places is_hearing h (3 ∷ []) 7 i s d refl refl e is)) in
     let asked : IsAsked h 5 0 60699 (Requests M.get_light) =
     record { came = (ask_for M.get_light).came; rules = (ask_for M.get_light).rules; stands = refl } in
     (hand, served-in K.read_from_store read_from_store-holds.0 read_from_store-holds.1 5 0 60699 M.get_light (3 ∷ []) asked hand)
@@ -136,7 +130,8 @@ served-again =
 pub asked-anew : AskedAnew
 asked-anew claim =
     let h : List Written = entries asked_anew in
-    let hand = at-hand h refl refl refl (λ i s d e is lt. first-ask i (places is_ask h (1 ∷ 5 ∷ []) 7 i s d refl refl e is) lt) in
+    let hand = at-hand h refl refl refl (λ i s d e is lt. first-ask i (places is_ask h (1 ∷ 5 ∷ []) 7 i s d refl refl e is) lt)
+    (λ i s d e is. one-of i 3 (places is_hearing h (3 ∷ []) 7 i s d refl refl e is)) in
     let asked : IsAsked h 5 0 60699 (Requests M.get_light) =
     record { came = (ask_for M.get_light).came; rules = (ask_for M.get_light).rules; stands = refl } in
     elim ((claim.served 5 0 60699 M.get_light (3 ∷ []) asked hand).answered) [
@@ -185,9 +180,21 @@ waited =
     (λ i s d e is. false≢true (places is_tick h [] 5 i s d refl refl e is))
     (λ i s d e is. false≢true (places is_shut h [] 5 i s d refl refl e is))
 
+-- Nothing was heard, so what is open was asked for.
+asked-open : (k a : ℕ) (r : CoapRequest) → IsOpen (entries asked_apart) k a r → IsPending (entries asked_apart) k a r
+asked-open k a r (inl p) = p
+asked-open k a r (inr f) =
+    let it = f.2.notified.response in
+    absurd (false≢true (places is_hearing (entries asked_apart) [] 6 a it.moment _ refl refl it.heard.stands refl))
+
+owned-by : (k a : ℕ) (r : CoapRequest) → IsOpen (entries asked_apart) k a r → ((a ≡ 1) ⊎ (a ≡ 4)) × (a < k)
+owned-by k a r opened =
+    let it = asked-open k a r opened in
+    (two-of a 1 4 (places is_ask (entries asked_apart) (1 ∷ 4 ∷ []) 6 a it.moment _ refl refl it.asked.stands refl), it.before)
+
 pub asked-apart : AskedApart
 asked-apart claim =
-    elim (two-of (claim.owner 5) 1 4 (places is_ask (entries asked_apart) (1 ∷ 4 ∷ []) 6 (claim.owner 5) _ _ refl refl (claim.each 5 600 server W.get_again again).pending.asked.stands refl)) [
+    elim ((owned-by 5 (claim.owner 5) _ (claim.each 5 600 server W.get_again again).pending).0) [
       | inl first_one ↦
           let it = claim.replied 2 5 0 600 server server M.get_message W.get_again first again (owner_first ∙ sym first_one) (lit< tt) in
           false≢true (places is_hearing (entries asked_apart) [] 6 it.0 it.3.moment _ refl refl it.3.heard.stands refl)
@@ -211,9 +218,9 @@ asked-apart claim =
 
     owner_first : claim.owner 2 ≡ 1
     owner_first =
-        let it = (claim.each 2 0 server M.get_message first).pending in
-        let sooner = it.before in
-        sooner-ask (claim.owner 2) (places is_ask (entries asked_apart) (1 ∷ 4 ∷ []) 6 (claim.owner 2) it.moment _ refl refl it.asked.stands refl) (omega (arith, sooner))
+        let it = owned-by 2 (claim.owner 2) _ (claim.each 2 0 server M.get_message first).pending in
+        let sooner = it.1 in
+        elim (it.0) [ inl w ↦ w | inr w ↦ absurd (omega (arith, sooner, w)) ]
 
 -- in order
 pub in-order-both : WritesInOrder → InOrder

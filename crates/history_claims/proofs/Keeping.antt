@@ -12,12 +12,12 @@ use Rattle.ask_model.specs.Requests.{CoapRequest, Requests, Validating}
 use Rattle.ask_model.specs.Sharing.{asked_key, asked_place, asks_same}
 use Rattle.ask_model.specs.Views.{Ask}
 use Rattle.ask_model.proofs.CallerLemmas.{asks-alike, asks-onward, same-place}
-use Rattle.journal_book.specs.Entries.{Written}
+use Rattle.journal_book.specs.Entries.{Asks, Written}
 use Rattle.resp_cache.specs.Stored.{Stored}
 use Rattle.history_laws.specs.Responses.{Response, is_tellable, joined, renewed_response, whole_fetched, whole_of}
-use Rattle.history_laws.specs.Readings.{Noted, entries, at, before}
+use Rattle.history_laws.specs.Readings.{Noted, entries, at, before, noted}
 use Rattle.history_laws.specs.Progress.{Reply, Renewed, messages, numbers}
-use Rattle.history_laws.specs.Exchanges.{Begun, begun}
+use Rattle.history_laws.specs.Exchanges.{Begun, begun, ask_behind}
 use Rattle.history_laws.specs.Joining.{outrun}
 use Rattle.history_laws.specs.Observing.{outdated}
 use Rattle.history_laws.specs.Carrying.{carried}
@@ -25,17 +25,17 @@ use Rattle.history_laws.specs.Storing.{IsAsHeard, IsBrought, IsCarried, IsRenewe
 use Rattle.history_laws.specs.Justified.{Ends, IsAsk, Legal}
 use Rattle.history_laws.specs.Laws.{IsFetched}
 use Rattle.history_laws.specs.Grounds.{IsCarriedReply, IsConfirmed}
-use Rattle.history_laws.proofs.CallerLemmas.{asked-for, asking-alike, at-before, at-below, at-entries, at-same, at-still, begun-before, begun-below, begun-early, carried-before, carried-below, carried-fit, comes-fit, confirmed-as-asked, contains-none, filter-all, first-or-later, heard-of, legal-before, length-before, listed-are, none-some, number-of, renewed-here, RenewedHere, renewed-of, reply-before, shared-is, some-is}
+use Rattle.history_laws.proofs.CallerLemmas.{ask-behind, asking-alike, at-before, at-below, at-entries, at-same, at-still, begun-before, begun-below, begun-early, behind-below, behind-since, behind-unoutrun, carried-before, carried-below, carried-fit, comes-fit, confirmed-as-asked, contains-none, filter-all, first-or-later, heard-of, legal-before, length-before, listed-are, none-some, number-of, renewed-here, RenewedHere, renewed-of, reply-before, shared-is, some-is}
 use Rattle.history_claims.specs.Headline.{IsFirstSending, IsNew, IsNewest, IsResponse, IsSameGet, IsUnanswered, IsWriteAnswer}
 use Rattle.history_claims.specs.Stored.{WasWhole, IsValid, WasRenewed, never, again, WasStored}
 use Rattle.history_claims.proofs.Alike.{IsLike, same-get}
 use Rattle.history_claims.proofs.Carried.{ask-copied, carried-all}
 use Rattle.history_claims.proofs.Entries.{asked-entry, entries-at}
 use Rattle.history_claims.proofs.Newest.{newest-in}
-use Rattle.history_claims.proofs.Notified.{came-heard}
+use Rattle.history_claims.proofs.Heard.{came-heard}
 use Rattle.history_claims.proofs.Quiet.{asks-back, at-there}
 use Rattle.history_claims.proofs.Waiting.{heard-so}
-use Rattle.history_claims.proofs.Written.{carried-unwritten, fresh-at}
+use Rattle.history_claims.proofs.Written.{IsAskedAt, carried-unwritten, fresh-at}
 
 -- What is stored for a GET is stored for each that asks the same.
 pub get-through : (q r o : CoapRequest) → asks_same q r ≡ true → IsSameGet r o → IsSameGet q o
@@ -213,7 +213,7 @@ pub record KeptHere (l : List Noted) (k : ℕ) (q : CoapRequest) (s : Stored) : 
   pub starts : first.list ≡ start ∷ more
   pub newest : outdated (before l k) (asked_key q) start ≡ false
   pub unoutrun : outrun (before l k) (asked_place q) first.opening ≡ false
-  pub opened : ((b : Begun) × (begun l first.opening ≡ Some b)) ⊎ ((b : Begun) × (carried l first.opening ≡ Some b))
+  pub opened : IsAskedAt l first.opening ⊎ ((b : Begun) × (carried l first.opening ≡ Some b))
 
 stored-path : (w v : Response) (o p t u : ℕ) (js ns : List ℕ) → w ≡ v → o ≡ p → t ≡ u → js ≡ ns
     → ◌≡◌ {A = Stored} (record { response = w; opening = o; heard = t; list = js }) (record { response = v; opening = p; heard = u; list = ns })
@@ -243,43 +243,55 @@ module _ (l : List Noted) (k : ℕ) (x : Noted) (q : CoapRequest) (s : Stored) (
       let exchange = shared-is (before l k) q o is.shared in
       let b : Begun = exchange.exchange in
       let opened = begun-before l k o b exchange.opened in
-      let first_ask = asked-for l o b legal opened in
+      let first_ask = ask-behind l o b legal opened in
+      let a : ℕ = ask_behind l o in
+      let then = behind-since l k o b exchange.opened in
+      let origin : s.opening ≡ a = is.origin ∙ then in
+      let start = subst (λ (i : ℕ). at l i ≡ Some (noted first_ask.asked.moment (Asks first_ask.conn first_ask.ask) first_ask.asked.note)) (sym first_ask.is) first_ask.asked.stands in
       let rs : List Reply = is.first ∷ is.more in
       let was = came-heard l k o is.ending s.response rs b x legal here exchange.opened is.comes in
       let r : Reply = is.first in
-      let fits = comes-fit (before l k) o is.ending s.response rs r early is.comes (zero, omega arith, refl) in
+      let fits = (comes-fit (before l k) o is.ending s.response rs r early is.comes (zero, omega arith, refl)).fits in
       let entry = some-is _ _ (sym is.heard_in ∙ fits.heard) in
-      let path = stored-path s.response s.response s.opening o s.heard fits.moment s.list (numbers rs) refl is.origin
+      let path = stored-path s.response s.response s.opening a s.heard fits.moment s.list (numbers rs) refl origin
       (is.heard ∙ ap (λ (x : Noted). x.written.moment) entry) is.list in
       let plain = brought-plain is (whole-tells b.request (messages rs) s.response (same-get b.request q (asks-back q b.request exchange.same)) was.1) in
       record {
-        first = record { response = s.response; opening = o; heard = fits.moment; list = numbers rs };
+        first = record { response = s.response; opening = a; heard = fits.moment; list = numbers rs };
         whole = record {
           other = b.request;
           same = get-of q b.request exchange.same;
           messages = messages rs;
           heard = inl (record {
             conn = first_ask.conn;
-            moment = b.since;
-            asked = asked-entry l o first_ask.conn b.since first_ask.ask first_ask.note (Requests b.request) first_ask.stands first_ask.sense;
+            moment = first_ask.asked.moment;
+            asked = asked-entry l a first_ask.conn first_ask.asked.moment first_ask.ask first_ask.asked.note (Requests b.request) start first_ask.sense;
             heard = was.0;
             first = (fits.peer, fits.bytes, at-entries l r.number _ (at-before l k r.number _ fits.heard));
           });
           whole = was.1;
           content = was.2;
         };
-        earlier = below-ask o (begun-below (before l k) o b exchange.opened);
-        renewed = subst (λ (v : Stored). WasRenewed (entries l) q (record { response = s.response; opening = o; heard = fits.moment; list = numbers rs }) k v) (sym path)
+        earlier =
+            let below = behind-below l o b legal opened in
+            let less = below-ask o (begun-below (before l k) o b exchange.opened) in
+            omega (arith, below, less);
+        renewed = subst (λ (v : Stored). WasRenewed (entries l) q (record { response = s.response; opening = a; heard = fits.moment; list = numbers rs }) k v) (sym path)
             (never (λ j has. (plain j has).1));
-        origin = is.origin;
+        origin = origin;
         pieces = ap (pieces_in (before l k)) is.list ∙ pieces-then (numbers rs) plain;
         plain = plain;
         start = r.number;
         more = numbers is.more;
         starts = refl;
         newest = is.newest;
-        unoutrun = exchange.fresh;
-        opened = inl (b, opened);
+        unoutrun =
+            let place = same-place q b.request exchange.same in
+            subst (λ (i : ℕ). outrun (before l k) (asked_place q) i ≡ false) then
+            (subst (λ (p : Place). outrun (before l k) p (ask_behind (before l k) o) ≡ false) (sym place)
+            (behind-unoutrun (before l k) o b early exchange.opened
+            (subst (λ (p : Place). outrun (before l k) p o ≡ false) place exchange.fresh)));
+        opened = inl (first_ask.asked.moment, first_ask.conn, first_ask.ask, first_ask.asked.note, start);
       }
     where
       get-of : (q r : CoapRequest) → asks_same q r ≡ true → IsSameGet q r
@@ -290,7 +302,7 @@ module _ (l : List Noted) (k : ℕ) (x : Noted) (q : CoapRequest) (s : Stored) (
       brought-plain is tells j has =
           let rs : List Reply = is.first ∷ is.more in
           let it = number-of rs j has in
-          let fits = comes-fit (before l k) is.opening is.ending s.response rs it.0 early is.comes it.1 in
+          let fits = (comes-fit (before l k) is.opening is.ending s.response rs it.0 early is.comes it.1).fits in
           let heard = at-before l k it.0.number _ fits.heard in
           let not_valid : is_valid_in (at l it.0.number) ≡ false = ap is_valid_in heard ∙ tellable-not it.0.message (each-tells rs it.0 tells it.1) in
           let below = below-ask it.0.number (at-below (before l k) it.0.number _ fits.heard) in
@@ -447,6 +459,6 @@ was-stored l k c a q s legal ask it = (
     current : (n : ℕ) → IsWriteAnswer (entries l) q n → n < k → n < it.first.opening
     current n w lt =
         elim (it.opened) [
-          | inl h ↦ fresh-at l k c a q legal ask n w lt it.first.opening h.0 h.1 it.unoutrun
+          | inl h ↦ fresh-at l k c a q legal ask n w lt it.first.opening h it.unoutrun
           | inr h ↦ absurd (carried-unwritten l k c a q legal ask n w lt it.first.opening h.0 h.1 it.unoutrun)
         ]

@@ -7,6 +7,7 @@ mod Repeats
 mod Waiting
 mod Pieces
 mod Notified
+mod Heard
 mod Ending
 mod Hands
 mod InTime

@@ -11,9 +11,9 @@ use Rattle.history_laws.specs.Responses.{is_tellable}
 use Rattle.history_laws.specs.Readings.{Noted, Note, Says, entries, at, before, noted}
 use Rattle.history_laws.specs.Connections.{is_open}
 use Rattle.history_laws.specs.Progress.{Reply, numbers, messages}
-use Rattle.history_laws.specs.Exchanges.{replies}
+use Rattle.history_laws.specs.Laws.{IsReplyTo}
 use Rattle.history_laws.specs.Justified.{pending, Follows, Legal}
-use Rattle.history_laws.proofs.CallerLemmas.{at-before, at-newest, at-same, at-still, contains-later, legal-before, replies-fit}
+use Rattle.history_laws.proofs.CallerLemmas.{at-before, at-newest, at-same, at-still, contains-later, legal-before}
 use Rattle.history_claims.specs.Headline.{IsEntry, IsHeard, IsHeardFirst}
 use Rattle.history_claims.specs.Once.{AreHeard}
 use Rattle.history_claims.proofs.Entries.{entries-at, newest-before}
@@ -32,19 +32,20 @@ heard-same s t p r b c u v e = go (ap (λ (x : Noted). x.written.deed) e)
     go f = cc
 
 -- The messages of entries are those of the replies that they heard.
-pub same-messages : (l : List Noted) (n o : ℕ) (p : Peer) (rs : List Reply) (ms : List Content) → Legal l → ((r : Reply) → Contains rs r → Contains (replies (before l n) o) r)
+pub same-messages : (l : List Noted) (n : ℕ) (p : Peer) (rs : List Reply) (ms : List Content) → Legal l
+    → ((r : Reply) → Contains rs r → (k : ℕ) × IsReplyTo (before l n) k r)
     → AreHeard (entries l) p (numbers rs) ms → ms ≡ messages rs
-same-messages l n o p [] [] legal listed h = refl
-same-messages l n o p [] (m ∷ ms) legal listed h = absurd h
-same-messages l n o p (r ∷ rs) [] legal listed h = absurd h
-same-messages l n o p (r ∷ rs) (m ∷ ms) legal listed h =
-    let fits = replies-fit (before l n) o r (legal-before l n legal) (listed r (zero, omega arith, refl)) in
+same-messages l n p [] [] legal listed h = refl
+same-messages l n p [] (m ∷ ms) legal listed h = absurd h
+same-messages l n p (r ∷ rs) [] legal listed h = absurd h
+same-messages l n p (r ∷ rs) (m ∷ ms) legal listed h =
+    let fits = (listed r (zero, omega arith, refl)).1 in
     let heard = h.0.1 in
     let stands = entries-at l r.number _ heard.stands in
     let text = heard-same h.0.0 fits.moment p fits.peer heard.bytes fits.bytes stands.0 (Says r.message (Some r.sending) fits.notice)
     (at-same l r.number _ _ stands.1 (at-before l n r.number _ fits.heard)) in
     let here : m ≡ r.message = spells_one m r.message heard.bytes heard.spelled (subst (Spells r.message) (sym text) fits.spelled) in
-    let more = same-messages l n o p rs ms legal (λ v has. listed v (contains-later r rs v has)) h.1 in
+    let more = same-messages l n p rs ms legal (λ v has. listed v (contains-later r rs v has)) h.1 in
     rw (here, more) refl
 
 -- the first of the replies that an answer names

@@ -1,6 +1,5 @@
 -- A notification that counts for a watch is one of what an ask observes.
-use Rattle.std.proofs.Common.{◌≡◌, ℕ, ◌<◌, ◌⊎◌, true, ◌&&◌, eqb, inl, inr, List, length, Some, None, sym, ap, subst, ◌∙◌, arith}
-use Rattle.std.specs.Prelude.{is_none, ◌==◌}
+use Rattle.std.proofs.Common.{◌≡◌, ℕ, ◌<◌, true, List, Some, None, sym, ap, subst, ◌∙◌, arith}
 use Rattle.std.proofs.lemmas.Bool.{false≢true, and_parts}
 use Rattle.coap_codec.specs.declared.message.MsgType.{MsgType}
 use Rattle.coap_codec.specs.declared.message.MsgType.TheVariants.{Con, Non, Ack, Rst}
@@ -12,18 +11,18 @@ use Rattle.ask_model.specs.Sharing.{asked_key, is_get}
 use Rattle.ask_model.specs.Observing.{is_named}
 use Rattle.ask_model.specs.Views.{Ask}
 use Rattle.journal_book.specs.Entries.{Asks, Sends, Written}
-use Rattle.history_laws.specs.Responses.{Response, whole_of}
+use Rattle.history_laws.specs.Responses.{Response}
 use Rattle.history_laws.specs.Readings.{Noted, entries, at, before}
-use Rattle.history_laws.specs.Progress.{Reply, numbers, messages, first_point}
+use Rattle.history_laws.specs.Progress.{Reply}
 use Rattle.history_laws.specs.Exchanges.{Begun, begun}
 use Rattle.history_laws.specs.Observing.{Watch}
 use Rattle.history_laws.specs.Hearing.{is_such}
-use Rattle.history_laws.specs.Storing.{ComesSo, UpdatesSo}
+use Rattle.history_laws.specs.Storing.{UpdatesSo}
 use Rattle.history_laws.specs.Justified.{Legal}
 use Rattle.history_laws.specs.Laws.{IsFirst, IsFetched, IsReplyTo}
-use Rattle.history_laws.proofs.CallerLemmas.{at-before, at-below, at-entries, begun-before, ends-all, first-response, first-whole, IsNews, legal-before, length-before, news-fits, replies-fit, some-is, update-news, updates-since, WatchFits, IsTold, news-told, tell-fits}
-use Rattle.history_claims.specs.Headline.{IsEntry, IsFirstSending, IsResponse, IsHeardFor, IsNew, BringsResponse, MayRepeat, AreHeardFor, IsNotified, AreNotified}
-use Rattle.history_claims.proofs.Pieces.{heard-all}
+use Rattle.history_laws.proofs.CallerLemmas.{at-before, at-below, at-entries, at-same, begun-before, IsNews, legal-before, length-before, news-fits, replies-fit, some-is, started, StartedFor, update-news, WatchFits, IsTold, news-told, tell-fits}
+use Rattle.history_claims.specs.Headline.{IsEntry, IsFirstSending, IsResponse, IsHeardFor, IsNew, BringsResponse, MayRepeat, IsNotified}
+use Rattle.history_claims.proofs.Entries.{entries-at}
 use Rattle.history_claims.proofs.Repeats.{heard-entry, says-new}
 use Rattle.history_claims.proofs.Sending.{first-entry}
 use Rattle.history_claims.proofs.Waiting.{heard-so}
@@ -142,27 +141,36 @@ update-is l o e w rs b legal opened u = registers b opened
         (λ c is. subst (λ (c : Begun). IsNotified (entries l) u.watch.held.opening c.request e u.message × (is_get c.request ≡ true))
         (some-is it.exchange c (sym it.opened ∙ is)) (it.is, it.get))
 
--- What came for a GET was heard for the ask that opened its exchange.
-abbrev pub WasHeard : List Noted → ℕ → CoapRequest → Response → List Reply → Type 0
-WasHeard l o q w rs =
-    (AreHeardFor (entries l) o q (first_point q) (numbers rs) (messages rs) ⊎ AreNotified (entries l) o q (numbers rs) (messages rs))
-    × (whole_of q (messages rs) ≡ Some w) × (w.code ≡ 69)
+-- What opened an exchange is one too, heard when that began.
+pub record BegunBy (l : List Noted) (o : ℕ) (b : Begun) (it : StartedFor l o b) : Type 0 where
+  pub notified : IsNotified (entries l) it.ask b.request o it.message
+  pub moment : notified.response.moment ≡ b.since
 
-pub came-heard : (l : List Noted) (k o e : ℕ) (w : Response) (rs : List Reply) (b : Begun) (x : Noted) → Legal l → at l k ≡ Some x → begun (before l k) o ≡ Some b
-    → ComesSo (before l k) o e w rs → WasHeard l o b.request w rs
-came-heard l k o e w rs b x legal stands opened (inl it) =
-    let all = ends-all (before l k) o e w rs it.ended in
-    let same : all.exchange ≡ b = some-is _ _ (sym all.opened ∙ opened) in (
-      inl (heard-all l k o b x legal (begun-before l k o b opened) stands e w rs opened it.ended),
-      subst (λ (b : Begun). whole_of b.request (messages rs) ≡ Some w) same all.whole,
-      it.code,
-    )
-came-heard l k o e w rs b x legal stands opened (inr u) =
-    let now = updates-since l k x o e w rs stands u in
-    let it = update-is l o e w rs b legal (begun-before l k o b opened) now in
-    let one = first-whole e now.sending now.message w rs now.whole in
-    let get = (and_parts (eqb b.request.method 1) (is_none b.request.format && (length b.request.body == 0)) it.1).0 in (
-      inr (subst (λ (rs : List Reply). AreNotified (entries l) o b.request (numbers rs) (messages rs)) (sym one) it.0),
-      first-response b.request e now.sending now.message w rs get now.whole,
-      now.code,
-    )
+pub notice-began : (l : List Noted) (o : ℕ) (b : Begun) → Legal l → (it : StartedFor l o b) → BegunBy l o b it
+notice-began l o b legal it =
+    let s = started l o b legal it in
+    let told : IsTold l o s.counts.watch =
+    record {
+      moment = b.since;
+      peer = it.peer;
+      bytes = it.bytes;
+      message = it.message;
+      sending = it.sending;
+      notice = it.notice;
+      stands = it.stands;
+      response = s.counts.response;
+      such = s.counts.such;
+      under = s.counts.under;
+    } in
+    let n : Notified l o s.counts.watch it.message = notified-by l o s.counts.watch legal told in
+    let opened : begun l it.ask ≡ Some n.exchange = subst (λ (i : ℕ). begun l i ≡ Some n.exchange) s.starts.ask n.opened in
+    let same : n.exchange ≡ s.starts.exchange = some-is _ _ (sym opened ∙ begun-before l o it.ask s.starts.exchange s.starts.opened) in
+    let request : n.exchange.request ≡ b.request = ap (λ (b : Begun). b.request) same ∙ s.starts.request in
+    let is : IsNotified (entries l) it.ask b.request o it.message =
+    subst (λ (q : CoapRequest). IsNotified (entries l) it.ask q o it.message) request
+    (subst (λ (i : ℕ). IsNotified (entries l) i n.exchange.request o it.message) s.starts.ask n.is) in
+    let there = entries-at l o _ is.response.heard.stands in
+    record {
+      notified = is;
+      moment = ap (λ (x : Noted). x.written.moment) (at-same l o _ _ there.1 it.stands);
+    }

@@ -15,8 +15,7 @@ use Rattle.history_laws.specs.WorkedWatches as O
 use Rattle.history_laws.proofs.CallerLemmas.{eqb-same, greatest-1-spelled, least-2-spelled, registers-spelled, served-holds, some-is, watch-get-spelled}
 use Rattle.history_claims.specs.Headline.{IsEntry, IsAsked, IsHeard, IsNotice, IsNotified, IsOlder}
 use Rattle.history_claims.specs.Worked.{Updated, Outdated}
-use Rattle.history_claims.proofs.Examples.{places, lies_in, heard-texts, moment-same, sense-same}
-use Rattle.history_claims.proofs.InWorked.{is_hearing}
+use Rattle.history_claims.proofs.Examples.{is_hearing, places, lies_in, heard-texts, moment-same, sense-same}
 use Rattle.history_claims.proofs.Repeats.{says-new}
 use Rattle.history_claims.proofs.Plain.{ServedHere, served-here}
 use Rattle.history_claims.proofs.Served.{served-in}

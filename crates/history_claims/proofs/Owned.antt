@@ -9,10 +9,10 @@ use Rattle.history_laws.specs.Readings.{Noted, Note, First, entries, at}
 use Rattle.history_laws.specs.Exchanges.{Begun, begun}
 use Rattle.history_laws.specs.Justified.{Legal}
 use Rattle.history_laws.specs.Laws.{IsFirst, IsSending, IsPart, WritesInOrder, block_sent}
-use Rattle.history_claims.specs.Headline.{IsAsked, IsFirstSending, IsSentFor, IsResponse, IsPending}
+use Rattle.history_claims.specs.Headline.{IsAsked, IsFirstSending, IsSentFor, IsResponse, IsOpen}
 use Rattle.history_claims.specs.Order.{IsSendingFor, IsSentAsSaid, CanBeSpared, AreSentFor}
 use Rattle.history_claims.proofs.AtHand.{spared-in}
-use Rattle.history_claims.proofs.Pending.{sent-pending}
+use Rattle.history_claims.proofs.Pending.{sent-open}
 use Rattle.history_claims.proofs.Replied.{replied}
 use Rattle.history_claims.proofs.Sending.{first-entry, first-of, sent-block, sent-in}
 use Rattle.history_laws.proofs.CallerLemmas.{asking-plain}
@@ -87,7 +87,7 @@ sent-as-said law l legal i t p m f =
     let b : Begun = it.exchange in
     record {
       request = b.request;
-      pending = subst (λ (o : ℕ). IsPending (entries l) i o b.request) (sym own) (sent-pending l t o i p m b legal first.1 it.opened);
+      pending = subst (λ (o : ℕ). IsOpen (entries l) i o b.request) (sym own) (sent-open l t o i p m b legal first.1 it.opened);
       part = it.block;
       sent_for = subst (λ (o : ℕ). IsSentFor (entries l) o b.request it.block i m) (sym own) it.sent_for;
       series = λ write.

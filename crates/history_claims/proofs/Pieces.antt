@@ -1,8 +1,8 @@
 -- Replies that came one after another, each to the message that was next.
-use Rattle.std.proofs.Common.{◌≡◌, ◌⊎◌, ℕ, zero, ◌<◌, true, cond, eqb, inl, inr, List, [], ◌∷◌, ◌++◌, length, Option, Some, None, refl, sym, ap, subst, ◌∙◌, arith, append_assoc}
+use Rattle.std.proofs.Common.{◌≡◌, ◌⊎◌, ℕ, zero, ◌<◌, Bool, true, cond, eqb, inl, inr, List, [], ◌∷◌, ◌++◌, length, Option, Some, None, refl, sym, ap, subst, ◌∙◌, arith, append_assoc}
 use Rattle.std.specs.Prelude.{fold}
 use Rattle.std.specs.List.{Contains}
-use Rattle.std.proofs.lemmas.List.Elements.{Contains-append_right, Contains-push}
+use Rattle.std.proofs.lemmas.List.Elements.{Contains-append_cases, Contains-append_right, Contains-push}
 use Rattle.coap_codec.specs.declared.block.Block.{Block}
 use Rattle.coap_codec.specs.Spelling.{Content}
 use Rattle.blockwise.specs.Downloads.{no_pieces}
@@ -12,10 +12,10 @@ use Rattle.journal_book.specs.Entries.{Written}
 use Rattle.history_laws.specs.Responses.{Response, whole_fetched, whole_given, whole_of}
 use Rattle.history_laws.specs.Readings.{Noted, entries, at, before}
 use Rattle.history_laws.specs.Progress.{Reply, numbers, messages, Whole, Progress, Fetches, Gives, Ends, step, progress, ended_by, block_after, next_message, Point, Fetched, Given, first_point, block_for, point_after}
-use Rattle.history_laws.specs.Exchanges.{Begun, begun, Turn, Nothing, Sent, Replied, Rejected, Expired, turn, waits_by, waits_for, replies_by, replies, end_of}
+use Rattle.history_laws.specs.Exchanges.{Begun, begun, Turn, Nothing, Sent, Replied, Rejected, Expired, turn, waits_by, waits_for, replies_by, replies, end_of, begins_with, heard_for}
 use Rattle.history_laws.specs.Justified.{Ends as IsEnd, Legal}
 use Rattle.history_laws.specs.Laws.{IsFirst, IsReplyTo, IsFetched, AreFetched}
-use Rattle.history_laws.proofs.CallerLemmas.{at-below, came-next, CameNext, ends-whole, fetched-in-order, goes-so, GoesSo, IsGoing, legal-before, none-some, progress-push, replies-fit, sent-for, some-is, split-push, turn-replied, turn-sent, asking-plain}
+use Rattle.history_laws.proofs.CallerLemmas.{at-before, at-below, begins-at, begun-by, begun-opening, came-next, CameNext, ends-whole, goes-so, GoesSo, IsGoing, legal-before, none-some, progress-push, replies-fit, sent-for, some-is, split-push, turn-replied, turn-sent, waits-first, asking-plain}
 use Rattle.history_claims.specs.Headline.{AreHeardFor}
 use Rattle.history_claims.specs.Causes.{IsReplyFor, IsNextReply, AreRepliesTo}
 use Rattle.history_claims.proofs.Alike.{IsLike, heard-like}
@@ -74,17 +74,17 @@ going-ended (Ends how) h = absurd h
 going-ended (Gives upload got) h = refl
 going-ended (Fetches k p got) h = refl
 
-pub still-going : (l : List Noted) (o : ℕ) (b : Begun) (rs : List Reply) → begun l o ≡ Some b → end_of l o ≡ None → replies l o ≡ rs
+pub still-going : (l : List Noted) (o : ℕ) (b : Begun) (rs : List Reply) → Legal l → begun l o ≡ Some b → end_of l o ≡ None → heard_for l o ≡ rs
     → ended_by true (progress b.request rs) ≡ None
-still-going l o b rs opened going all =
-    let it : GoesSo (Some b) (replies l o) = subst (λ (b : Option Begun). GoesSo b (replies l o)) opened (goes-so l o going) in
-    subst (λ (rs : List Reply). ended_by true (progress b.request rs) ≡ None) all (going-ended (progress b.request (replies l o)) it.0)
+still-going l o b rs legal opened going all =
+    let it : GoesSo (Some b) (heard_for l o) = subst (λ (b : Option Begun). GoesSo b (heard_for l o)) opened (goes-so l o legal going) in
+    subst (λ (rs : List Reply). ended_by true (progress b.request rs) ≡ None) all (going-ended (progress b.request (heard_for l o)) it.0)
 
 -- What came next came to a message that asks for the block that was next.
-asked-next : (l : List Noted) (o : ℕ) (q : CoapRequest) (rs : List Reply) (r : Reply) (block : Option Block) (f : Manner) (h : CameNext l o q rs r)
-    → next_message h.manner q (progress q rs) h.message.mid h.message.token ≡ Some (asking f q block h.message.mid h.message.token)
+asked-next : (l : List Noted) (o : ℕ) (q : CoapRequest) (hs rs : List Reply) (r : Reply) (block : Option Block) (f : Manner) (h : CameNext l o q hs rs r)
+    → next_message h.manner q (progress q (hs ++ rs)) h.message.mid h.message.token ≡ Some (asking f q block h.message.mid h.message.token)
     → IsFetched l o q block r
-asked-next l o q rs r block f h e =
+asked-next l o q hs rs r block f h e =
     let message : asking f q block h.message.mid h.message.token ≡ h.message = some-is _ _ (sym e ∙ h.next) in
     record {
       fits = h.fits;
@@ -179,15 +179,44 @@ reply-since h o s q block r after it =
       it.1,
     )
 
--- What a whole response is made of stands among the replies.
-pub made-placed : (l : List Noted) (o e : ℕ) (w : Response) (ws : List Reply) → IsEnd l o e (Whole w ws)
-    → (done : List Reply) × (more : List Reply) × (replies l o ≡ done ++ (ws ++ more))
-made-placed l o e w ws h =
-    let it = ends-whole l o e w ws h in
+-- What was heard for an exchange came to a message of it, or of the ask that it goes back to.
+pub heard-fits : (l : List Noted) (o : ℕ) (b : Begun) (r : Reply) → Legal l → begun l o ≡ Some b → Contains (heard_for l o) r → (k : ℕ) × IsReplyTo l k r
+heard-fits l o b r legal opened has = elim (Contains-append_cases (begins_with l o) (replies l o) r has) [
+  | inl first ↦ let by = begun-by l o b r legal opened first in (by.ask, by.fits)
+  | inr reply ↦ (o, replies-fit l o r legal reply)
+]
+
+-- A reply comes after what was heard before it.
+pub begins-till : (l : List Noted) (n o : ℕ) (b : Begun) (x : Noted) → at l n ≡ Some x → begun (before l n) o ≡ Some b → begins_with (before l n) o ≡ begins_with l o
+begins-till l n o b x here opened =
+    let opening = begun-opening (before l n) o b opened in
+    begins-at (before l n) o _ opening.2 ∙ sym (begins-at l o _ (at-before l n o _ opening.2))
+
+pub heard-placed : (l : List Noted) (n o i : ℕ) (m : Content) (place : Bool) (b : Begun) (x : Noted) → Legal l → at l n ≡ Some x → begun l o ≡ Some b
+    → turn (before l n) o x ≡ Replied i m place
+    → (h : List Reply) × (heard_for l o ≡ heard_for (before l n) o ++ record { number = n; sending = i; message = m } ∷ h)
+heard-placed l n o i m place b x legal here opened is =
+    let it = reply-placed l n o i m place x here is in
+    let r : Reply = record { number = n; sending = i; message = m } in
+    let early = legal-before l n legal in
+    let w = waits-first (before l n) o i (turn-replied (before l n) o x i m place is).waited in
+    let was = sent-for (before l n) w.0 o i w.1 w.2 early w.3 in
+    let begins = begins-till l n o was.exchange x here was.opened in (
+      it.0,
+      ap (λ (v : List Reply). begins_with l o ++ v) it.1
+          ∙ (sym (append_assoc (begins_with l o) (replies (before l n) o) (r ∷ it.0))
+          ∙ ap (λ (v : List Reply). (v ++ replies (before l n) o) ++ r ∷ it.0) (sym begins)),
+    )
+
+-- What a whole response is made of stands among what was heard for it.
+pub made-placed : (l : List Noted) (o e : ℕ) (w : Response) (ws : List Reply) → Legal l → IsEnd l o e (Whole w ws)
+    → (done : List Reply) × (more : List Reply) × (heard_for l o ≡ done ++ (ws ++ more))
+made-placed l o e w ws legal h =
+    let it = ends-whole l o e w ws legal h in
     let turned = it.turned in
     let r : Reply = record { number = e; sending = turned.sending; message = turned.message } in
-    let placed = reply-placed l e o turned.sending turned.message turned.place it.entry it.stands turned.is in
-    let till : List Reply = replies (before l e) o in (
+    let placed = heard-placed l e o turned.sending turned.message turned.place turned.exchange it.entry legal it.stands it.opened turned.is in
+    let till : List Reply = heard_for (before l e) o in (
       turned.made.before,
       placed.0,
       placed.1 ∙ (sym (append_assoc till (r ∷ []) placed.0)
@@ -196,42 +225,47 @@ made-placed l o e w ws h =
 
 -- the replies to an exchange, before an entry
 module _ (l : List Noted) (n o : ℕ) (b : Begun) (x : Noted) (legal : Legal l) (opened : begun l o ≡ Some b) (here : at l n ≡ Some x) where
-  next-reply : (s : ℕ) (rs : List Reply) (r : Reply) → s < r.sending → Contains (replies (before l n) o) r → CameNext (before l n) o b.request rs r
-      → (u : Progress) → progress b.request rs ≡ u → IsNextReply (entries l) s b.request u r
-  next-reply s rs r after has h (Fetches k p got) is =
+  next-reply : (s : ℕ) (hs rs : List Reply) (r : Reply) → s < r.sending → Contains (replies (before l n) o) r → CameNext (before l n) o b.request hs rs r
+      → (u : Progress) → progress b.request (hs ++ rs) ≡ u → IsNextReply (entries l) s b.request u r
+  next-reply s hs rs r after has h (Fetches k p got) is =
       reply-since (entries l) o s b.request (block_after p) r after
       (heard-in l n o r b x (block_after p) legal opened here has
-      (asked-next (before l n) o b.request rs r (block_after p) h.manner h (ap (λ (u : Progress). next_message h.manner b.request u h.message.mid h.message.token) is)))
-  next-reply s rs r after has h (Gives v got) is =
+      (asked-next (before l n) o b.request hs rs r (block_after p) h.manner h (ap (λ (u : Progress). next_message h.manner b.request u h.message.mid h.message.token) is)))
+  next-reply s hs rs r after has h (Gives v got) is =
       reply-since (entries l) o s b.request (next_block v) r after
       (heard-in l n o r b x (next_block v) legal opened here has
-      (asked-next (before l n) o b.request rs r (next_block v) Plainly h
+      (asked-next (before l n) o b.request hs rs r (next_block v) Plainly h
       (ap (λ (u : Progress). next_message h.manner b.request u h.message.mid h.message.token) is
       ∙ ap (λ (m : Content). Some m) (sym (asking-plain b.request (next_block v) h.message.mid h.message.token)))))
-  next-reply s rs r after has h (Ends how) is =
+  next-reply s hs rs r after has h (Ends how) is =
       absurd (none-some _ (sym (ap (λ (u : Progress). next_message h.manner b.request u h.message.mid h.message.token) is) ∙ h.next))
 
   placed-in : (done rest more : List Reply) (r : Reply) → replies (before l n) o ≡ done ++ (r ∷ (rest ++ more)) → Contains (replies (before l n) o) r
   placed-in done rest more r e =
       subst (λ (v : List Reply). Contains v r) (sym e) (Contains-append_right done (r ∷ (rest ++ more)) r (zero, omega arith, refl))
 
+  abbrev hs : List Reply
+  hs = begins_with (before l n) o
+
   replies-from : begun (before l n) o ≡ Some b → (s : ℕ) (done rest more : List Reply) → IsSince o done s → replies (before l n) o ≡ done ++ (rest ++ more)
-      → AreRepliesTo (entries l) s b.request (progress b.request done) rest
+      → AreRepliesTo (entries l) s b.request (progress b.request (hs ++ done)) rest
   replies-from early s done [] more since e = tt
   replies-from early s done (r ∷ rest) more since e =
       let came = came-next (before l n) o b done (rest ++ more) r (legal-before l n legal) early e in
-      let after = since-before (before l n) o s done (rest ++ more) r (legal-before l n legal) e since came.fits in (
-        next-reply s done r after (placed-in done rest more r e) came (progress b.request done) refl,
-        subst (λ (u : Progress). AreRepliesTo (entries l) r.number b.request u rest) (progress-push b.request done r)
+      let after = since-before (before l n) o s done (rest ++ more) r (legal-before l n legal) e since came.fits in
+      let on : progress b.request (hs ++ (done ++ r ∷ [])) ≡ step (progress b.request (hs ++ done)) r =
+      ap (progress b.request) (sym (append_assoc hs done (r ∷ []))) ∙ progress-push b.request (hs ++ done) r in (
+        next-reply s hs done r after (placed-in done rest more r e) came (progress b.request (hs ++ done)) refl,
+        subst (λ (u : Progress). AreRepliesTo (entries l) r.number b.request u rest) on
             (replies-from early r.number (done ++ r ∷ []) rest more (inr (r, Contains-push done r, refl)) (e ∙ sym (append_assoc done (r ∷ []) (rest ++ more)))),
       )
 
   pub replies-to : begun (before l n) o ≡ Some b → (rest more : List Reply) → replies (before l n) o ≡ rest ++ more
-      → AreRepliesTo (entries l) o b.request (progress b.request []) rest
+      → AreRepliesTo (entries l) o b.request (progress b.request (hs ++ [])) rest
   replies-to early rest more e = replies-from early o [] rest more (inl refl) e
 
   -- Those that were fetched in order were heard so.
-  heard-from : (s : ℕ) (p : Point) (done rest more : List Reply) → IsSince o done s → replies (before l n) o ≡ done ++ (rest ++ more)
+  pub heard-from : (s : ℕ) (p : Point) (done rest more : List Reply) → IsSince o done s → replies (before l n) o ≡ done ++ (rest ++ more)
       → AreFetched (before l n) o b.request p rest → AreHeardFor (entries l) s b.request p (numbers rest) (messages rest)
   heard-from s p done [] more since e h = tt
   heard-from s p done (r ∷ rest) more since e h =
@@ -241,10 +275,3 @@ module _ (l : List Noted) (n o : ℕ) (b : Begun) (x : Noted) (legal : Legal l) 
         heard-from r.number (point_after p r.message) (done ++ r ∷ []) rest more (inr (r, Contains-push done r, refl))
             (e ∙ sym (append_assoc done (r ∷ []) (rest ++ more))) h.1,
       )
-
-  pub heard-all : (e : ℕ) (w : Response) (rs : List Reply) → begun (before l n) o ≡ Some b → IsEnd (before l n) o e (Whole w rs)
-      → AreHeardFor (entries l) o b.request (first_point b.request) (numbers rs) (messages rs)
-  heard-all e w rs early h =
-      let placed = made-placed (before l n) o e w rs h in
-      heard-from o (first_point b.request) placed.0 rs placed.1 (inl refl) placed.2
-      (fetched-in-order (before l n) o e b w rs (legal-before l n legal) early h)

@@ -9,7 +9,7 @@ use Rattle.history_laws.proofs.CallerLemmas.{some-is}
 use Rattle.resp_cache.specs.Stored.{Stored, lifetime}
 use Rattle.history_laws.specs.Responses.{Response, whole_of}
 use Rattle.history_laws.specs.Progress.{first_point}
-use Rattle.history_claims.specs.Headline.{IsAsked, IsEntry, IsSameGet, IsWriteAnswer, AreHeardFor, IsHeardFirst, AreNotified, IsNewest}
+use Rattle.history_claims.specs.Headline.{IsAsked, IsEntry, IsSameGet, IsWriteAnswer, AreHeardFor, IsHeardFirst, AreHeardOn, IsNewest}
 use Rattle.history_claims.specs.Carried.{IsAskCopied, AreCarriedFor, IsCarriedFirst}
 use Rattle.history_claims.specs.Stored.{WasHeardHere, WasCarried, WasWhole, WasRenewed, never, again, IsServed}
 
@@ -24,7 +24,7 @@ pub record ServedHere (h : List Written) (t c k : ℕ) (js : List ℕ) : Type 0 
   pub other_asked : IsAsked h opening conn moment (Requests other)
   pub same : IsSameGet request other
   pub messages : List Content
-  pub heard : AreHeardFor h opening other (first_point other) js messages ⊎ AreNotified h opening other js messages
+  pub heard : AreHeardFor h opening other (first_point other) js messages ⊎ AreHeardOn h opening other js messages
   pub before : (j : ℕ) → Contains js j → j < k
   pub response : Response
   pub whole : whole_of other messages ≡ Some response

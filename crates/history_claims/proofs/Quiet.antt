@@ -8,16 +8,16 @@ use Rattle.ask_model.specs.Sharing.{asked_place, is_get, asks_same}
 use Rattle.ask_model.proofs.CallerLemmas.{asks-onward}
 use Rattle.history_laws.specs.Readings.{Noted, entries, at, before}
 use Rattle.history_laws.specs.Connections.{is_sealed}
-use Rattle.history_laws.specs.Exchanges.{Begun, begun, End, end_of}
+use Rattle.history_laws.specs.Exchanges.{Begun, begun, End, end_of, is_going}
 use Rattle.history_laws.specs.Joining.{writes_at}
 use Rattle.history_laws.specs.Justified.{Legal}
-use Rattle.history_laws.proofs.CallerLemmas.{at-below, begun-early, end-since, ends-first, length-before, some-is}
+use Rattle.history_laws.proofs.CallerLemmas.{AskedFor, at-below, begun-early, end-since, ends-first, length-before, some-is}
 use Rattle.history_claims.specs.Headline.{IsPending}
 use Rattle.history_claims.specs.Once.{IsUnwritten}
 use Rattle.history_claims.proofs.Entries.{grows}
 use Rattle.history_claims.proofs.Pending.{pending-is}
 use Rattle.history_claims.proofs.Unsent.{sealed-still}
-use Rattle.history_claims.proofs.Unshared.{asked-request, asks-itself, is-write}
+use Rattle.history_claims.proofs.Unshared.{write-asked, writes-method, asked-request, asks-itself, is-write}
 
 -- an entry stands at each number
 pub at-there : (l : List Noted) (n : ℕ) → n < length l → (x : Noted) × (at l n ≡ Some x)
@@ -37,9 +37,11 @@ unsealed-before l n unsealed = go (is_sealed (before l n)) refl
     go true e =
         absurd (false≢true (sym unsealed ∙ grows (λ (l : List Noted). is_sealed l ≡ true) (λ x l h. sealed-still x.written.deed (is_sealed l) h) l n e))
 
-pub asked-since : (l : List Noted) (s o : ℕ) (y : Noted) (b : Begun) (e : End) → Legal l → at l s ≡ Some y → is_sealed (before l s) ≡ false
-    → begun l o ≡ Some b → end_of l o ≡ Some e → s ≤ e.number → (o ≡ s → ⊥) → (s < o) ⊎ IsPending (entries l) s o b.request
-asked-since l s o y b e legal there unsealed opened ended late other =
+-- What ended since was opened since, or was open then.
+pub open-since : (l : List Noted) (s o : ℕ) (y : Noted) (b : Begun) (e : End) → Legal l → at l s ≡ Some y
+    → begun l o ≡ Some b → end_of l o ≡ Some e → s ≤ e.number → (o ≡ s → ⊥)
+    → (s < o) ⊎ ((is_going (before l s) o ≡ true) × (begun (before l s) o ≡ Some b))
+open-since l s o y b e legal there opened ended late other =
     elim (leb_tells o s) [
       | inl w ↦ elim (eqb_tells o s) [
         | inl u ↦ absurd (other u.1)
@@ -47,7 +49,7 @@ asked-since l s o y b e legal there unsealed opened ended late other =
             let le = w.1 in
             let not = u.1 in
             let lt : o < s = omega (arith, le, not) in
-            inr (pending-is l s o y legal there unsealed (going (end_of (before l s) o) refl) b (begun-early l s o b (at-below l s y there) opened lt)).0
+            inr (going (end_of (before l s) o) refl, begun-early l s o b (at-below l s y there) opened lt)
       ]
       | inr w ↦ inl w.1
     ]
@@ -59,6 +61,13 @@ asked-since l s o y b e legal there unsealed opened ended late other =
         let below = subst (λ (m : ℕ). f.number < m) (length-before l s y there) (at-below (before l s) f.number first.0 first.1) in
         let same : f.number ≡ e.number = ap (λ (e : End). e.number) (some-is f e (sym (end-since l s o f is) ∙ ended)) in
         absurd (omega (arith, below, same, late))
+
+pub asked-since : (l : List Noted) (s o : ℕ) (y : Noted) (b : Begun) (e : End) → Legal l → at l s ≡ Some y → is_sealed (before l s) ≡ false
+    → begun l o ≡ Some b → end_of l o ≡ Some e → s ≤ e.number → (o ≡ s → ⊥) → AskedFor l o b → (s < o) ⊎ IsPending (entries l) s o b.request
+asked-since l s o y b e legal there unsealed opened ended late other asked = elim (open-since l s o y b e legal there opened ended late other) [
+  | inl lt ↦ inl lt
+  | inr w ↦ inr (pending-is l s o y legal there unsealed w.0 b w.1 asked).0
+]
 
 -- a write to the place, which ended since
 module _ (l : List Noted) (s k : ℕ) (y : Noted) (q : CoapRequest) (legal : Legal l) (there : at l s ≡ Some y) (unsealed : is_sealed (before l s) ≡ false)
@@ -74,7 +83,7 @@ module _ (l : List Noted) (s k : ℕ) (y : Noted) (q : CoapRequest) (legal : Leg
         moment = write.moment;
         asked = write.asked;
         before = below;
-        since = subst (λ (r : CoapRequest). (s < w) ⊎ IsPending (entries l) s w r) same (asked-since l s w y v e legal there unsealed opened ended late other);
+        since = subst (λ (r : CoapRequest). (s < w) ⊎ IsPending (entries l) s w r) same (asked-since l s w y v e legal there unsealed opened ended late other (write-asked l w v legal opened (writes-method q v changes)));
       })
 
 -- To ask the same is mutual, and goes on.

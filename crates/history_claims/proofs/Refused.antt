@@ -16,8 +16,8 @@ use Rattle.history_laws.specs.Worked.{server, ask_for, empty_ack, empty_rst}
 use Rattle.history_laws.specs.WorkedMessages as M
 use Rattle.history_laws.specs.WorkedLate as L
 use Rattle.history_laws.proofs.CallerLemmas.{ack-spelled, content-spelled, eqb-same, get-spelled, none-some, other-spelled, put-spelled, rst-0-spelled, some-is}
-use Rattle.history_claims.specs.Headline.{IsEntry, IsFirstSending, IsHeard, MayRepeat, IsRepeat, again, IsResponse, IsUnanswered, IsHeardFor, AreHeardFor}
-use Rattle.history_claims.specs.Causes.{IsNextReply, AreRepliesTo}
+use Rattle.history_claims.specs.Headline.{IsEntry, IsFirstSending, IsHeard, MayRepeat, IsRepeat, again, IsResponse, IsUnanswered, IsHeardFor, IsNotified, AreHeardFor}
+use Rattle.history_claims.specs.Causes.{IsNextReply, AreRepliesTo, AreRepliesOn}
 use Rattle.history_claims.specs.Worked.{heard_late, Late, Second, Unheeded, Unrejected, Abandoned}
 use Rattle.history_claims.proofs.Examples.{first-alone, entry_of, is_first, places, lies_in, texts, heard-texts, fourth, moment-same, sense-same}
 use Rattle.history_claims.proofs.Pieces.{last-reply}
@@ -153,11 +153,17 @@ second-heard k q block m h =
         absurd (omega (arith, numbers))
 
 pub second : Second
-second h = go h.messages h.heard
+second h = elim (h.heard) [
+  | inl heard ↦ go h.messages heard
+  | inr on ↦
+      let own = (first-alone twice 0 h.request h.entry h.opening h.since 0 0 refl h.shared).0 in
+      let begins = on.0 in
+      absurd (omega (arith, own, begins))
+]
   where
-    go : (ms : List Content) → AreHeardFor twice h.opening h.request (first_point h.request) (12 ∷ []) ms → ⊥
+    go : (ms : List Content) → AreHeardFor twice h.entry h.request (first_point h.request) (12 ∷ []) ms → ⊥
     go [] heard = absurd heard
-    go (m ∷ ms) heard = second-heard h.opening h.request (block_for (first_point h.request)) m heard.0
+    go (m ∷ ms) heard = second-heard h.entry h.request (block_for (first_point h.request)) m heard.0
 
 -- the one response that was heard is that of entry 9
 half-response : (p : Peer) (i j : ℕ) (sent m : Content) → IsResponse half p i sent j m → m ≡ M.content_message
@@ -176,6 +182,27 @@ half-response p i j sent m r =
           spells_one m M.content_message heard.bytes heard.spelled (subst (Spells M.content_message) text content-spelled)
     ]
 
+half-nine : (p : Peer) (i j : ℕ) (sent m : Content) → IsResponse half p i sent j m → j ≡ 9
+half-nine p i j sent m r =
+    elim (one-of j 7 9 (places is_heard half (7 ∷ 9 ∷ []) 15 j r.moment _ refl refl r.heard.stands refl)) [
+      | inl w ↦
+          let heard = subst (λ (j : ℕ). IsHeard half p j r.moment m) w r.heard in
+          let text = heard-texts 2100 r.moment server p (empty_ack 0) heard.bytes heard.stands in
+          let is = spells_one m (empty Ack 0) heard.bytes heard.spelled (subst (Spells (empty Ack 0)) text ack-spelled) in
+          let code : m.code ≡ 0 = ap (λ (m : Content). m.code) is in
+          let response = r.response in
+          absurd (omega (arith, code, response))
+      | inr w ↦ w
+    ]
+
+half-notified : (o : ℕ) (q : CoapRequest) (j : ℕ) (m : Content) → IsNotified half o q j m → ⊥
+half-notified o q j m n =
+    let it = n.observed.heard in
+    let first = half-nine q.peer it.sending n.registered it.sent n.observed.reply it.response in
+    let second = half-nine q.peer it.sending j it.sent m n.response in
+    let later = n.later in
+    omega (arith, first, second, later)
+
 ended-whole : (r : Reply) → r.message ≡ M.content_message → (q : CoapRequest) → M.get_light ≡ q → (how : Ending) × (step (first_progress q) r ≡ Ends how)
 ended-whole r is q asks =
     subst (λ (q : CoapRequest). (how : Ending) × (step (first_progress q) r ≡ Ends how)) asks
@@ -188,7 +215,10 @@ unheeded h =
       | inl w ↦
           let it = get-sent half refl w.2.moment h.request.peer w.0 w.2.first in
           answered half refl refl refl half-heard h.request.peer w.0 15 it.0 it.1 (lit< tt) w.3
-      | inr (inl r) ↦ more-to-come r.others r.last r.went.heard r.went.going
+      | inr (inl r) ↦ elim (r.went.heard) [
+        | inl heard ↦ more-to-come r.others r.last heard r.went.going
+        | inr heard ↦ none-on h.opening h.request (r.others ++ r.last ∷ []) heard
+      ]
       | inr (inr w) ↦ let other = w.0 in absurd (omega (arith, other))
     ]
   where
@@ -205,6 +235,10 @@ unheeded h =
     none-after : (k : ℕ) (how : Ending) (others : List Reply) (last : Reply) → AreRepliesTo half k h.request (Ends how) (others ++ last ∷ []) → ⊥
     none-after k how [] last heard = heard.0
     none-after k how (r ∷ others) last heard = heard.0
+
+    none-on : (o : ℕ) (q : CoapRequest) (rs : List Reply) → AreRepliesOn half o q rs → ⊥
+    none-on o q [] heard = heard
+    none-on o q (r ∷ rs) heard = half-notified o heard.0.0 r.number r.message heard.0.2
 
     more-to-come : (others : List Reply) (last : Reply) → AreRepliesTo half h.opening h.request (first_progress h.request) (others ++ last ∷ [])
         → ended_by true (progress h.request (others ++ last ∷ [])) ≡ None → ⊥
@@ -254,5 +288,5 @@ pub late : Late
 late h =
     let young : 93500 < h.since + MAX_TRANSMIT_WAIT = h.in_time 5 93500 (lit< tt) (lit< tt) refl in
     let asked : 0 ≡ h.shared.moment = moment-same 0 h.shared.moment _ _ h.shared.asked.stands in
-    let alone = (first-alone (entries heard_late) 0 h.request h.opening h.since 0 0 refl h.shared).1 in
+    let alone = (first-alone (entries heard_late) 0 h.request h.entry h.opening h.since 0 0 refl h.shared).2 in
     absurd (omega (arith, young, asked, alone))

@@ -15,7 +15,7 @@ use Rattle.history_laws.specs.Exchanges.{Begun, begun, end_of, is_going, goes_to
 use Rattle.history_laws.specs.Justified.{MayBeFirst, Legal}
 use Rattle.history_laws.specs.Hearing.{IsReplyKind}
 use Rattle.history_laws.specs.Laws.{IsFirst}
-use Rattle.history_laws.proofs.CallerLemmas.{asked-for, at-before, at-below, at-same, at-still, first-waits, follows-at, legal-before, length-before, none-of, none-some, replies-fit, sent-for}
+use Rattle.history_laws.proofs.CallerLemmas.{at-before, at-below, at-same, at-still, begun-early, first-waits, follows-at, legal-before, length-before, none-of, none-some, replies-fit, sent-for}
 use Rattle.history_claims.specs.Headline.{IsHeard, IsResponse}
 use Rattle.history_claims.proofs.Repeats.{heard-entry}
 use Rattle.history_claims.proofs.Sending.{first-before}
@@ -90,9 +90,8 @@ module _ (l : List Noted) (legal : Legal l) (o : ℕ) (b : Begun) (opened : begu
           → ((k t : ℕ) (q : Peer) (n : Content) → IsFirst l t o k q n → i < k → k < j → WasReplied i p m k) → WasReplied i p m j
       by None e earlier = absurd (sent-last-none (before l j) s o i p m e there)
       by (Some k) e earlier =
-          let ask = asked-for l o b legal opened in
           let after = (sent-for l t o j q n legal g).after in
-          let last = sent-last-first (before l j) o k ask.conn b.since ask.ask ask.note (legal-before l j legal) (at-still l j o _ _ g.stands after ask.stands) e in
+          let last = sent-last-first (before l j) o k b (legal-before l j legal) (begun-early l j o b (at-below l j _ g.stands) opened after) e in
           let le = last-newest (before l j) s o i k p m e there in
           let below = subst (λ (n : ℕ). k < n) (length-before l j _ g.stands) (at-below (before l j) k _ last.3.stands) in
           elim (eqb_tells i k) [

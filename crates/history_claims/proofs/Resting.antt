@@ -1,22 +1,23 @@
 -- An answer that isn't the proxy's own rests on a whole response to its ask.
-use Rattle.std.proofs.Common.{◌≡◌, ◌⊎◌, ℕ, ◌+◌, ◌<◌, ◌≤◌, false, inl, inr, List, [], ◌∷◌, ◌++◌, Some, sym, ap, subst, ◌∙◌, arith}
+use Rattle.std.proofs.Common.{◌≡◌, ◌⊎◌, ℕ, ◌+◌, ◌<◌, ◌≤◌, false, inl, inr, List, [], ◌∷◌, ◌++◌, Some, refl, sym, ap, subst, ◌∙◌, arith}
 use Rattle.std.specs.List.{Contains}
 use Rattle.std.proofs.lemmas.List.Elements.{Contains-push}
 use Rattle.journal_book.specs.Entries.{Live, Answers, Hears, Written}
 use Rattle.history_laws.specs.Responses.{Response, whole_of}
 use Rattle.resp_cache.specs.Stored.{Stored}
-use Rattle.history_laws.specs.Exchanges.{Begun, begun, kept, replies}
+use Rattle.history_laws.specs.Exchanges.{Begun, begun, ask_behind, heard_for, kept}
 use Rattle.history_laws.specs.Justified.{Ends, HasGrounds, Legal, reads}
 use Rattle.history_laws.specs.Readings.{Noted, Note, Renews, Says, entries, at, before, noted}
 use Rattle.history_laws.specs.Progress.{Reply, numbers, messages, Whole, Renewed, TimedOut, Point, first_point}
 use Rattle.history_laws.specs.Storing.{renewed_list}
-use Rattle.history_laws.proofs.CallerLemmas.{at-below, begun-before, begun-early, contains-map, contains-none, ends-all, ends-renewed, first-or-later, has-renewing, kept-before, legal-before, length-before, none-kept, none-some, number-of, renews-for, replies-fit, some-is}
-use Rattle.history_claims.specs.Headline.{IsEntry, AreHeardFor, RestsOn}
+use Rattle.history_laws.proofs.CallerLemmas.{ask-own, asked-by, at-below, begun-before, begun-early, contains-map, contains-none, ends-all, ends-renewed, first-or-later, has-renewing, kept-before, legal-before, length-before, none-kept, none-some, number-of, renews-for, replies-fit, some-is}
+use Rattle.history_claims.specs.Headline.{IsEntry, AreHeardFor, AreHeardOn, BeginsAt, IsShared, RestsOn}
 use Rattle.history_claims.specs.Stored.{RestsOnRenewed, RestsOnReplies}
 use Rattle.history_claims.proofs.Entries.{entries-at}
 use Rattle.history_claims.proofs.Asking.{answers-ask, AnswersAsk}
 use Rattle.history_claims.proofs.Keeping.{kept-here, stored-through, valid-in, valid-like, was-stored}
-use Rattle.history_claims.proofs.Pieces.{sequence-like, point-like, whole-like, heard-all}
+use Rattle.history_claims.proofs.Pieces.{heard-fits, sequence-like, point-like, whole-like}
+use Rattle.history_claims.proofs.Heard.{heard-all, on-like}
 use Rattle.history_claims.proofs.Readers.{reads-at}
 use Rattle.history_claims.proofs.InTime.{answered-in-time}
 
@@ -30,13 +31,13 @@ pub only-one : (j n i : ℕ) → n < i → Contains (n ∷ []) j → j < i
 only-one j n i lt h =
     elim (first-or-later n [] j h) [ inl w ↦ subst (λ (j : ℕ). j < i) w lt | inr w ↦ absurd (contains-none j w) ]
 
--- Each of the replies to an exchange that a list has was heard before an entry.
-pub heard-before : (l : List Noted) (n o : ℕ) (x : Noted) (rs : List Reply) → Legal l → at l n ≡ Some x
-    → ((r : Reply) → Contains rs r → Contains (replies (before l n) o) r) → (j : ℕ) → Contains (numbers rs) j → j < n
-heard-before l n o x rs legal here listed j h =
+-- Each of what was heard for an exchange that a list has was heard before an entry.
+pub heard-before : (l : List Noted) (n o : ℕ) (x : Noted) (b : Begun) (rs : List Reply) → Legal l → at l n ≡ Some x → begun (before l n) o ≡ Some b
+    → ((r : Reply) → Contains rs r → Contains (heard_for (before l n) o) r) → (j : ℕ) → Contains (numbers rs) j → j < n
+heard-before l n o x b rs legal here opened listed j h =
     let it = number-of rs j h in
     let r : Reply = it.0 in
-    let fits = replies-fit (before l n) o r (legal-before l n legal) (listed r it.1) in
+    let fits = (heard-fits (before l n) o b r (legal-before l n legal) opened (listed r it.1)).1 in
     let below = at-below (before l n) r.number (noted fits.moment (Hears fits.peer fits.bytes) (Says r.message (Some r.sending) fits.notice)) fits.heard in
     subst (λ (j : ℕ). j < n) it.2 (subst (λ (i : ℕ). r.number < i) (length-before l n x here) below)
 
@@ -54,26 +55,32 @@ module _ (l : List Noted) (n t c k : ℕ) (js : List ℕ) (legal : Legal l) (ent
   rests-whole : (o e : ℕ) (w : Response) (rs : List Reply) → reads (before l n) k ≡ Some o → Ends (before l n) o e (Whole w rs) → js ≡ numbers rs
       → RestsOn (entries l) n c k js
   rests-whole o e w rs own ended list =
-      let m = ends-all (before l n) o e w rs ended in
+      let m = ends-all (before l n) o e w rs (legal-before l n legal) ended in
       let x = reads-at l n c k o it.ask _ legal there.1 it.asked own in
       let same : m.exchange ≡ x.exchange =
       some-is m.exchange x.exchange (sym (begun-before l n o _ m.opened) ∙ x.opened) in
       let opened : begun (before l n) o ≡ Some x.exchange = m.opened ∙ ap (λ (b : Begun). Some b) same in
       let whole : whole_of x.exchange.request (messages rs) ≡ Some w =
       subst (λ (b : Begun). whole_of b.request (messages rs) ≡ Some w) same m.whole in
-      let heard = subst (λ (p : Point). AreHeardFor (entries l) o x.request p (numbers rs) (messages rs)) (point-like x.exchange.request x.request x.like)
-      (sequence-like (entries l) o x.exchange.request x.request (first_point x.exchange.request) (numbers rs) (messages rs) x.like
-      (heard-all l n o x.exchange _ legal x.opened there.1 e w rs opened ended)) in
+      let heard : AreHeardFor (entries l) o x.request (first_point x.request) (numbers rs) (messages rs)
+      ⊎ (BeginsAt o (numbers rs) × AreHeardOn (entries l) (ask_behind l o) x.request (numbers rs) (messages rs)) =
+      elim (heard-all l n o x.exchange _ legal x.opened there.1 opened e w rs ended) [
+        | inl h ↦
+            inl (subst (λ (p : Point). AreHeardFor (entries l) o x.request p (numbers rs) (messages rs)) (point-like x.exchange.request x.request x.like)
+            (sequence-like (entries l) o x.exchange.request x.request (first_point x.exchange.request) (numbers rs) (messages rs) x.like h))
+        | inr h ↦ inr (h.0, on-like (entries l) (ask_behind l o) x.exchange.request x.request (numbers rs) (messages rs) x.like h.1)
+      ] in
       let later = x.later e (Whole w rs) ended in
       subst (λ (js : List ℕ). RestsOn (entries l) n c k js) (sym list)
       (record {
         request = x.request;
-        opening = o;
+        entry = o;
+        opening = ask_behind l o;
         since = x.exchange.since;
         shared = x.shared;
         messages = messages rs;
         heard = heard;
-        before = heard-before l n o _ rs legal there.1 m.listed;
+        before = heard-before l n o _ x.exchange rs legal there.1 opened m.listed;
         live = (
           m.last.number,
           subst (λ (i : ℕ). k < i) (sym m.number) later,
@@ -94,6 +101,7 @@ module _ (l : List Noted) (n t c k : ℕ) (js : List ℕ) (legal : Legal l) (ent
       let turned = (ends-renewed (before l n) o e s r ended).turned in
       let keeps : kept l o ≡ Some s = kept-before l n o s (kept-before (before l n) e o s turned.keeps) in
       let for_it = renews-for l o b s legal x.opened keeps in
+      let goes_back = ask-own l o b legal (asked-by l o for_it.conn for_it.ask (Renews b.request s) b legal for_it.stands refl) in
       let asks = x.same for_it.get in
       let old = kept-here (o + 1) l o _ b.request for_it.stored (omega arith) legal for_it.stands for_it.is in
       let own_was = was-stored l o for_it.conn for_it.ask b.request for_it.stored legal
@@ -110,7 +118,7 @@ module _ (l : List Noted) (n t c k : ℕ) (js : List ℕ) (legal : Legal l) (ent
         request = x.request;
         opening = o;
         since = b.since;
-        shared = x.shared;
+        shared = subst (λ (i : ℕ). IsShared (entries l) c k x.request o i b.since) goes_back x.shared;
         stored = for_it.stored;
         was = was.0;
         number = r.number;

@@ -17,7 +17,7 @@ use Rattle.resp_cache.specs.Stored.{Stored}
 use Rattle.history_laws.specs.Storing.{IsAsHeard, IsStored}
 use Rattle.history_laws.specs.Justified.{IsAsk, Legal, Stands}
 use Rattle.history_laws.specs.Laws.{IsFirst, IsAnswer, IsReplyTo}
-use Rattle.history_laws.specs.Grounds.{RestsOn, RestsOnKept, IsCarriedReply, replies_in}
+use Rattle.history_laws.specs.Grounds.{RestsOn, RestsOnKept, RestsOnNotice, IsCarriedReply, replies_in}
 use Rattle.history_laws.proofs.CallerLemmas.{at-same, begun-before, carried-before, carried-fit, comes-fit, comes-since, contains-none, firsts-tokens, heard-of, kept-listed, kept-served, legal-before, number-of, reader, renewed-here, renews-for, reply-before, rests-on-its-own, shared-is, some-is}
 use Rattle.history_claims.specs.Headline.{IsEntry}
 use Rattle.history_claims.specs.Apart.{AreSameGets}
@@ -79,6 +79,24 @@ rests-live l k n legal a =
       fits = a.fits;
     }
 
+-- or that of which it is a notification
+rests-notice : (l : List Noted) (k n : ℕ) → RestsOnNotice l k n → Rests l k n
+rests-notice l k n h = record {
+  conn = h.conn;
+  ask = h.ask;
+  request = h.request;
+  asked = h.asked;
+  sense = h.sense;
+  opening = h.begun_by.ask;
+  exchange = record { since = h.begun_by.since; request = h.exchange.request };
+  opened = h.begun_by.asked;
+  like = asks-like h.request h.exchange.request h.same;
+  way = inr (same-get h.request h.exchange.request h.same);
+  reply = h.reply;
+  number = h.number;
+  fits = h.begun_by.fits;
+}
+
 -- or one whose answer rests on the copy of a reply
 record RestsCopied (l : List Noted) (k n : ℕ) : Type 0 where
   conn : ℕ
@@ -139,14 +157,16 @@ heard-for l k x q s j legal here (inl is) has =
     let it = shared-is (before l k) q is.opening is.shared in
     let rs : List Reply = is.first ∷ is.more in
     let r = number-of rs j (subst (λ (js : List ℕ). Contains js j) is.list has) in
+    let came = comes-fit l is.opening is.ending s.response rs r.0 legal (comes-since l k x is.opening is.ending s.response rs here is.comes) r.1 in
+    let own = came.own it.exchange (begun-before l k is.opening it.exchange it.opened) in
     inl (record {
-      opening = is.opening;
-      exchange = it.exchange;
-      opened = begun-before l k is.opening it.exchange it.opened;
-      same = it.same;
+      opening = came.owner;
+      exchange = came.exchange;
+      opened = came.opened;
+      same = subst (λ (r : CoapRequest). asks_same q r ≡ true) (sym own) it.same;
       reply = r.0;
       number = r.2;
-      fits = comes-fit l is.opening is.ending s.response rs r.0 legal (comes-since l k x is.opening is.ending s.response rs here is.comes) r.1;
+      fits = came.fits;
     })
 heard-for l k x q s j legal here (inr is) has =
     let rs : List Reply = is.first ∷ is.more in
@@ -239,9 +259,10 @@ rests-older l k n legal h =
 rests : (l : List Noted) (i c k n : ℕ) (g : Grounds) → Legal l → IsAnswer l i c k g → Contains (replies_in g) n → Rests l k n ⊎ RestsCopied l k n
 rests l i c k n (Live js) legal a has = by (rests-on-its-own l i c k n js legal a has)
   where
-    by : RestsOn l k n ⊎ RestsOnKept l k n → Rests l k n ⊎ RestsCopied l k n
+    by : RestsOn l k n ⊎ (RestsOnNotice l k n ⊎ RestsOnKept l k n) → Rests l k n ⊎ RestsCopied l k n
     by (inl h) = inl (rests-live l k n legal h)
-    by (inr h) = rests-older l k n legal h
+    by (inr (inl h)) = inl (rests-notice l k n h)
+    by (inr (inr h)) = rests-older l k n legal h
 rests l i c k n (Kept js) legal a has =
     let it = kept-served l i a.moment c k a.note js legal a.stands in
     let s = it.2 in

@@ -2,6 +2,7 @@
 use Rattle.std.proofs.Common.{◌≡◌, ℕ, ◌+◌, ◌<◌, Bool, true, false, eqb, cond, inl, inr, List, [], ◌∷◌, length, Option, Some, None, refl, sym, ap, subst, ◌∙◌, arith, lit<}
 use Rattle.std.proofs.lemmas.Bool.{false≢true, or_cases}
 use Rattle.std.specs.List.{list_all, range_with_len}
+use Rattle.uri_map.specs.declared.peer.Peer.{Peer}
 use Rattle.coap_codec.specs.Spelling.{Content, Spells}
 use Rattle.coap_codec.proofs.Unique.{spells_one}
 use Rattle.coap_codec.specs.Recognition.{is_forwardable}
@@ -20,7 +21,7 @@ use Rattle.history_laws.specs.WorkedMessages as M
 use Rattle.history_laws.specs.WorkedEndings as E
 use Rattle.history_laws.specs.WorkedStore as K
 use Rattle.history_laws.proofs.CallerLemmas.{eqb-same, none-some, read_from_store-holds, some-is}
-use Rattle.history_claims.specs.Headline.{IsAsked, IsWriteAnswer, AreHeardFor, IsHeard, AreNotified}
+use Rattle.history_claims.specs.Headline.{IsAsked, IsWriteAnswer, AreHeardFor, IsHeard, AreHeardOn}
 use Rattle.history_claims.specs.Worked.{Served, Expired, Overwritten, OtherQuery}
 use Rattle.history_claims.proofs.Examples.{lies_so, places, heard-texts, moment-same, sense-same}
 use Rattle.history_claims.proofs.Plain.{HasNoCopies, ServedHere, served-here}
@@ -73,9 +74,9 @@ expired is = elim h.heard [ inl w ↦ go h.messages w h.whole | inr w ↦ told-s
     since : 700 ≡ h.since
     since = moment-same 700 h.since _ _ h.first.2
 
-    by-age : (m : Content) (t : ℕ) → IsHeard (entries K.read_expired) h.other.peer 3 t m → whole_of h.other (m ∷ []) ≡ Some h.response → ⊥
-    by-age m t r whole =
-        let text : E.non_bytes ≡ r.bytes = heard-texts 700 t server h.other.peer E.non_bytes r.bytes r.stands in
+    by-age : (p : Peer) (m : Content) (t : ℕ) → IsHeard (entries K.read_expired) p 3 t m → whole_of h.other (m ∷ []) ≡ Some h.response → ⊥
+    by-age p m t r whole =
+        let text : E.non_bytes ≡ r.bytes = heard-texts 700 t server p E.non_bytes r.bytes r.stands in
         let is : m ≡ E.non_message = spells_one m E.non_message r.bytes r.spelled (subst (Spells E.non_message) text non-spelled) in
         let age : (response_of E.non_message).max_age ≡ h.response.max_age =
         subst (λ (m : Content). (response_of m).max_age ≡ h.response.max_age) is (whole-age h.other m h.response whole) in
@@ -88,12 +89,12 @@ expired is = elim h.heard [ inl w ↦ go h.messages w h.whole | inr w ↦ told-s
     go : (ms : List Content) → AreHeardFor (entries K.read_expired) h.opening h.other (first_point h.other) (3 ∷ []) ms → whole_of h.other ms ≡ Some h.response → ⊥
     go [] heard whole = absurd heard
     go (m ∷ n ∷ ms) heard whole = absurd heard.1
-    go (m ∷ []) heard whole = by-age m heard.0.response.moment heard.0.response.heard whole
+    go (m ∷ []) heard whole = by-age h.other.peer m heard.0.response.moment heard.0.response.heard whole
 
-    told-so : (ms : List Content) → AreNotified (entries K.read_expired) h.opening h.other (3 ∷ []) ms → whole_of h.other ms ≡ Some h.response → ⊥
+    told-so : (ms : List Content) → AreHeardOn (entries K.read_expired) h.opening h.other (3 ∷ []) ms → whole_of h.other ms ≡ Some h.response → ⊥
     told-so [] heard whole = absurd heard
-    told-so (m ∷ n ∷ ms) heard whole = absurd heard
-    told-so (m ∷ []) heard whole = by-age m heard.response.moment heard.response.heard whole
+    told-so (m ∷ n ∷ ms) heard whole = absurd heard.1
+    told-so (m ∷ []) heard whole = by-age heard.0.0.peer m heard.0.2.response.moment heard.0.2.response.heard whole
 
 -- the PUT of entry 4, answered in entry 17
 busy-not : (js : List ℕ) (k : ℕ) → Live js ≡ Fault C.Busy k → ⊥
@@ -137,13 +138,13 @@ overwritten is = elim h.heard [ inl w ↦ go h.messages w | inr w ↦ told-so h.
         let came = heard.0.response.after in
         absurd (omega (arith, opened, sent, came))
 
-    told-so : (ms : List Content) → AreNotified (entries K.read_outdated) h.opening h.other (9 ∷ []) ms → ⊥
+    told-so : (ms : List Content) → AreHeardOn (entries K.read_outdated) h.opening h.other (9 ∷ []) ms → ⊥
     told-so [] heard = absurd heard
-    told-so (m ∷ n ∷ ms) heard = absurd heard
+    told-so (m ∷ n ∷ ms) heard = absurd heard.1
     told-so (m ∷ []) heard =
         let opened = later in
-        let sent = heard.observed.heard.sent_for.after in
-        let came = heard.response.after in
+        let sent = heard.0.2.observed.heard.sent_for.after in
+        let came = heard.0.2.response.after in
         absurd (omega (arith, opened, sent, came))
 
 -- the one ask before it

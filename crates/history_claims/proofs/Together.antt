@@ -15,7 +15,8 @@ use Rattle.history_laws.specs.WorkedMessages as M
 use Rattle.history_laws.specs.WorkedReaders as R
 use Rattle.history_laws.specs.WorkedSpoiled as S
 use Rattle.history_laws.proofs.CallerLemmas.{both_answered-holds, eqb-same, some-is}
-use Rattle.history_claims.specs.Headline.{IsEntry, IsAsked, IsPending, IsSameGet, IsWrite, IsWriteAnswer, AreHeardFor}
+use Rattle.history_claims.specs.Headline.{IsEntry, IsAsked, IsPending, IsSameGet, IsWrite, IsWriteAnswer, AreHeardFor, AreHeardOn}
+use Rattle.history_claims.specs.Causes.{AreUnshared}
 use Rattle.history_claims.specs.Worked.{Joined, told_before, OutOfDate, HeardBefore, lamp_given_up, Unlike, asked_by_two, CountedTwice, Unjoined}
 use Rattle.history_claims.proofs.Examples.{is_first, places, lies_in, lies_so, entry_of, moment-same, sense-same}
 use Rattle.history_claims.proofs.Resting.{rests-heard, only-one}
@@ -66,25 +67,49 @@ sent-early j e =
     ]
 
 pub out-of-date : OutOfDate
-out-of-date h = go h.messages h.heard
+out-of-date h = elim (h.heard) [
+  | inl heard ↦ go h.messages heard
+  | inr on ↦ on-notice h.messages on.1
+]
   where
     asks : h.request ≡ M.get_light
     asks = sym (requests-same M.get_light h.request (sense-same 2300 h.shared.moment 2 2 (ask_for M.get_light) _ h.shared.asked.stands))
 
-    late : 10 < h.opening
+    answer : IsWriteAnswer (entries told_before) h.request 10
+    answer = subst (λ (q : CoapRequest). IsWriteAnswer (entries told_before) q 10) (sym asks) written
+
+    late : (10 < h.entry) × (10 < h.opening)
     late =
         elim (h.shared.shares) [
-          | inl own ↦ let same = own.0 in omega (arith, same)
-          | inr j ↦ j.0.fresh 10 (subst (λ (q : CoapRequest). IsWriteAnswer (entries told_before) q 10) (sym asks) written) (lit< tt)
+          | inl own ↦ let entry = own.0 in let same = own.1 in (omega (arith, entry), omega (arith, same))
+          | inr (inl j) ↦
+              let fresh = j.1.fresh 10 answer (lit< tt) in
+              let entry = j.0 in
+              (omega (arith, fresh, entry), fresh)
+          | inr (inr to) ↦
+              let fresh = to.fresh 10 answer (lit< tt) in
+              let sent = to.fetching.notified.observed.heard.sent_for.after in
+              let came = to.fetching.notified.response.after in
+              (omega (arith, fresh, sent, came), fresh)
         ]
 
-    go : (ms : List Content) → AreHeardFor (entries told_before) h.opening h.request (first_point h.request) (13 ∷ []) ms → ⊥
+    on-notice : (ms : List Content) → AreHeardOn (entries told_before) h.opening h.request (13 ∷ []) ms → ⊥
+    on-notice [] heard = absurd heard
+    on-notice (m ∷ ms) heard =
+        let it = heard.0.2.observed.heard in
+        let s = it.sent_for in
+        let early = sent-early it.sending (places is_first (entries told_before) (2 ∷ 8 ∷ []) 15 it.sending _ _ refl refl s.first.stands refl) in
+        let after = s.after in
+        let opened = late.1 in
+        absurd (omega (arith, early, after, opened))
+
+    go : (ms : List Content) → AreHeardFor (entries told_before) h.entry h.request (first_point h.request) (13 ∷ []) ms → ⊥
     go [] heard = absurd heard
     go (m ∷ ms) heard =
         let s = heard.0.sent_for in
         let early = sent-early heard.0.sending (places is_first (entries told_before) (2 ∷ 8 ∷ []) 15 heard.0.sending _ _ refl refl s.first.stands refl) in
         let after = s.after in
-        let opened = late in
+        let opened = late.0 in
         absurd (omega (arith, early, after, opened))
 
 -- what each asks for is told by the length of the path's segment
@@ -133,32 +158,35 @@ unlike h =
       | inl old ↦ elim (h.shared.shares) [
         | inl own ↦
             let asked : 600 ≡ h.shared.moment = moment-same 600 h.shared.moment _ _ h.shared.asked.stands in
-            let since = own.1 in
+            let since = own.2 in
             absurd (omega (arith, old, asked, since))
-        | inr j ↦ absurd (other j.0.request j.0.same j.0.pending)
+        | inr (inl j) ↦ absurd (other j.1.request j.1.same j.1.pending.moment j.1.pending.conn j.1.pending.asked j.1.pending.before)
+        | inr (inr to) ↦
+            let it = to.fetching.notified.observed in
+            let sent = it.heard.sent_for.after in
+            let came = to.fetching.notified.response.after in
+            let before = to.fetching.before in
+            absurd (other to.request to.alike it.moment it.conn it.asked (omega (arith, sent, came, before)))
       ]
       | inr up ↦
           let f = up.2.first in
           absurd (asks-sends 600 up.2.moment 2 (ask_for S.get_lamp) h.request.peer f.bytes f.timeout f.stands)
     ]
   where
-    other : (r : CoapRequest) → IsSameGet h.request r → IsPending (entries lamp_given_up) 6 h.opening r → ⊥
-    other r same p =
+    other : (r : CoapRequest) → IsSameGet h.request r → (t c : ℕ) → IsAsked (entries lamp_given_up) h.opening c t (Requests r) → h.opening < 6 → ⊥
+    other r same t c asked before =
         let is = requests-same S.get_lamp h.request (sense-same 600 h.shared.moment 2 2 (ask_for S.get_lamp) _ h.shared.asked.stands) in
         let four : segment h.request ≡ 4 = subst (λ (q : CoapRequest). segment q ≡ 4) is refl in
-        let five = asks-light h.opening p.moment p.conn r p.asked p.before in
+        let five = asks-light h.opening t c r asked before in
         let lengths = same-segment h.request r same in
         absurd (omega (arith, four, five, lengths))
 
 -- no write was asked
 pub counted-twice : CountedTwice
 counted-twice h =
-    let it = h 0 1 0 600 M.get_light (by-get 1 0 0 refl) (by-get 4 600 1 refl) refl in
+    let it = h refl in
     none it.0 it.1
   where
-    by-get : (n t c : ℕ) → IsEntry (entries asked_by_two) n t (Asks c (ask_for M.get_light)) → IsAsked (entries asked_by_two) n c t (Requests M.get_light)
-    by-get n t c stands = record { came = (ask_for M.get_light).came; rules = (ask_for M.get_light).rules; stands = stands }
-
     here : (w n s d : ℕ) (write : IsWrite (entries asked_by_two) M.get_light w) → w ≡ n
         → IsEntry (entries asked_by_two) n s (Asks d (ask_for M.get_light)) → ⊥
     here w n s d write same stands =
@@ -196,7 +224,8 @@ nowhere g n t d none stands is = false≢true (places g (entries asked_by_two) [
 pub unjoined : Unjoined
 unjoined h =
     counted-twice
-    (h.alone 1 (subst (λ (q : CoapRequest). IsPending (entries asked_by_two) 4 1 q) asks first) (λ m s lt shut. nowhere is_shut m s _ refl shut refl))
+    (subst (λ (q : CoapRequest). AreUnshared (entries asked_by_two) 1 4 q q) (sym asks)
+    (h.alone 1 (subst (λ (q : CoapRequest). IsPending (entries asked_by_two) 4 1 q) asks first) (λ m s lt shut. nowhere is_shut m s _ refl shut refl)))
   where
     asks : M.get_light ≡ h.request
     asks = requests-same M.get_light h.request (sense-same 600 h.moment 1 1 (ask_for M.get_light) _ h.asked.stands)

@@ -1,5 +1,5 @@
 -- What was told for a GET is stored for it, as long as none comes after it and no write ends.
-use Rattle.std.proofs.Common.{◌≡◌, ◌⊎◌, ℕ, zero, ◌+◌, ◌<◌, ◌≤◌, true, false, not, eqb, leb, inl, inr, List, ◌∷◌, length, Option, Some, refl, sym, ap, subst, ◌∙◌, arith, suc}
+use Rattle.std.proofs.Common.{◌≡◌, ◌⊎◌, ℕ, zero, ◌+◌, ◌<◌, ◌≤◌, true, false, not, eqb, leb, inl, inr, List, ◌∷◌, length, Option, Some, None, refl, sym, ap, subst, ◌∙◌, arith, suc}
 use Rattle.std.specs.Prelude.{◌==◌, is_none}
 use Rattle.std.specs.List.{Contains}
 use Rattle.std.proofs.lemmas.Bool.Decides.{Decides-ltb, eqb_tells, leb_tells}
@@ -19,12 +19,12 @@ use Rattle.history_laws.specs.Responses.{Response, whole_of}
 use Rattle.history_laws.specs.Readings.{Noted, Note, Says, entries, at, before, noted}
 use Rattle.history_laws.specs.Connections.{is_open}
 use Rattle.history_laws.specs.Progress.{Reply, Ending, numbers, messages, Whole, Renewed}
-use Rattle.history_laws.specs.Exchanges.{Begun, begun, End, end_of}
+use Rattle.history_laws.specs.Exchanges.{Begun, begun, End, end_of, ask_behind}
 use Rattle.history_laws.specs.Joining.{outrun, is_joinable}
 use Rattle.history_laws.specs.Storing.{EndsSo, IsRenewal, IsUse, ComesSo, renewed_list}
 use Rattle.history_laws.specs.Justified.{Ends, reads_in, reads, pending, HasGrounds, Legal, MayCome}
-use Rattle.history_laws.proofs.CallerLemmas.{asked-for, at-before, at-below, at-same, at-still, before-twice, begun-before, begun-below, begun-early, confirmed-as-asked, end-before, end-since, ends-all, EndsAll, ends-first, follows-at, legal-before, length-before, not-true, open-below, outran, Outran, reader, Reader, replies-fit, shared-is, Shared, some-is, write-earlier, counts-since, CountsFor, outdated-by, outdated-keeps, update-counts}
-use Rattle.history_claims.specs.Headline.{IsHeardFirst}
+use Rattle.history_laws.proofs.CallerLemmas.{at-before, at-below, at-same, at-still, before-twice, behind-since, begun-before, begun-below, begun-early, confirmed-as-asked, end-before, end-since, ends-all, EndsAll, ends-first, follows-at, legal-before, length-before, not-true, open-below, opened-for, outran, Outran, reader, Reader, shared-is, Shared, some-is, write-earlier, counts-since, CountsFor, outdated-by, outdated-keeps, update-counts}
+use Rattle.history_claims.specs.Headline.{IsHeardFirst, IsNotified}
 use Rattle.history_claims.specs.Once.{AreHeard, IsUnwritten, WasTold, IsUnnotified}
 use Rattle.history_claims.proofs.Alike.{asks-like, same-get}
 use Rattle.history_claims.proofs.Alone.{requests-same}
@@ -33,10 +33,10 @@ use Rattle.history_claims.proofs.Entries.{entries-at, grows}
 use Rattle.history_claims.proofs.Keeping.{tellable-not, whole-tells}
 use Rattle.history_claims.proofs.Hands.{in-hand, no-input, not-at-ask}
 use Rattle.history_claims.proofs.Pending.{senses}
-use Rattle.history_claims.proofs.Pieces.{whole-like}
+use Rattle.history_claims.proofs.Pieces.{heard-fits, whole-like}
 use Rattle.history_claims.proofs.Quiet.{asks-a-get, asks-back, asks-through, at-there, none-ended}
 use Rattle.history_claims.proofs.Readers.{Reads, reads-at}
-use Rattle.history_claims.proofs.Unshared.{asked-request}
+use Rattle.history_claims.proofs.Unshared.{asked-request, not-fetched}
 use Rattle.history_claims.proofs.Written.{unsealed}
 use Rattle.history_claims.proofs.Notified.{notified-news}
 use Rattle.history_laws.specs.Observing.{outdated}
@@ -148,11 +148,12 @@ module _ (l : List Noted) (legal : Legal l) (q : CoapRequest) (o n : ℕ) (js : 
   opened-first = let le = along.not_later in let lt = asked-first in omega (arith, le, lt)
 
   all : EndsAll (before l n) x e w rs
-  all = ends-all (before l n) x e w rs grounds.5
+  all = ends-all (before l n) x e w rs (legal-before l n legal) grounds.5
 
   said : was.messages ≡ messages rs
   said =
-      same-messages l n x was.request.peer rs was.messages legal all.listed
+      same-messages l n was.request.peer rs was.messages legal
+      (λ r has. heard-fits (before l n) x all.exchange r (legal-before l n legal) all.opened (all.listed r has))
       (subst (λ (js : List ℕ). AreHeard (entries l) was.request.peer js was.messages) grounds.6 was.heard)
 
   response-is : w ≡ was.response
@@ -168,7 +169,7 @@ module _ (l : List Noted) (legal : Legal l) (q : CoapRequest) (o n : ℕ) (js : 
 
   -- what is stored
   abbrev pub stored : Stored
-  stored = record { response = w; opening = x; heard = was.since; list = numbers rs }
+  stored = record { response = w; opening = ask_behind l x; heard = was.since; list = numbers rs }
 
   pub listed-so : stored.list ≡ js
   listed-so = sym grounds.6
@@ -311,13 +312,21 @@ module _ (l : List Noted) (legal : Legal l) (q : CoapRequest) (o n : ℕ) (js : 
           let deep = told-in in
           let up = at-below l n (noted was.told_at (Answers was.conn o (Live js)) deep.0) deep.1 in
           let next = end-before l (suc e) x last (omega (arith, lt, up)) ended (omega arith) in
-          let made = ends-all (before l (suc e)) x e w rs next in
+          let made = ends-all (before l (suc e)) x e w rs (legal-before l (suc e) legal) next in
           let has : Contains rs start.first = subst (λ (rs : List Reply). Contains rs start.first) (sym start.all) (zero, omega arith, refl) in
-          let fits = replies-fit (before l (suc e)) x start.first (legal-before l (suc e) legal) (made.listed start.first has) in
+          let fits = (heard-fits (before l (suc e)) x made.exchange start.first (legal-before l (suc e) legal) made.opened (made.listed start.first has)).1 in
           let size = at-below (before l (suc e)) start.first.number _ fits.heard in
           let y = at-there l (suc e) (omega (arith, lt, up)) in
           let len = length-before l (suc e) y.0 y.1 in
           omega (arith, size, len)
+
+      -- None was heard since, of the same.
+      pub untold-since : (a f : ℕ) (r : CoapRequest) (c : Content) → e < f → f < k → IsNotified (entries l) a r f c → asks_same q r ≡ true → ⊥
+      untold-since a f r c after less it alike =
+          let le = first-sooner in
+          let none_since : IsUnnotified (entries l) (numbers (start.first ∷ start.more)) k q =
+          subst (λ (ns : List ℕ). IsUnnotified (entries l) ns k q) (grounds.6 ∙ ap numbers start.all) untold in
+          none_since a f r c (omega (arith, le, after)) less it alike
 
       shared-then : Shared (before l m) q x
       shared-then = record { exchange = exchange; opened = opened-then; same = same; fresh = unoutran-then }
@@ -325,7 +334,7 @@ module _ (l : List Noted) (legal : Legal l) (q : CoapRequest) (o n : ℕ) (js : 
       -- It is stored, where nothing that came later ended with what may answer the GET.
       pub stored-then : ((y : ℕ) (b : Begun) → e < y → y < m → begun l y ≡ Some b → asks_same q b.request ≡ true → ⊥) → IsLatest (before l m) q stored
       stored-then none_opened =
-          subst (λ (rs : List Reply). IsLatest (before l m) q (record { response = w; opening = x; heard = was.since; list = numbers rs })) (sym start.all) (
+          subst (λ (rs : List Reply). IsLatest (before l m) q (record { response = w; opening = ask_behind l x; heard = was.since; list = numbers rs })) (sym start.all) (
             record {
               opening = x;
               ending = e;
@@ -338,7 +347,7 @@ module _ (l : List Noted) (legal : Legal l) (q : CoapRequest) (o n : ℕ) (js : 
               entry = heard.0;
               heard_in = heard.1;
               heard = heard.2;
-              origin = refl;
+              origin = sym (behind-since l m x exchange opened-then);
               list = refl;
             },
             none-renewed,
@@ -348,7 +357,7 @@ module _ (l : List Noted) (legal : Legal l) (q : CoapRequest) (o n : ℕ) (js : 
           heard =
               let it = entries-at l start.first.number _ start.stands in
               let has : Contains rs start.first = subst (λ (rs : List Reply). Contains rs start.first) (sym start.all) (zero, omega arith, refl) in
-              let fits = replies-fit (before l n) x start.first (legal-before l n legal) (all.listed start.first has) in
+              let fits = (heard-fits (before l n) x all.exchange start.first (legal-before l n legal) all.opened (all.listed start.first has)).1 in
               let lt = subst (λ (m : ℕ). start.first.number < m) its.1 (at-below (before l n) start.first.number _ fits.heard) in
               let y = at-there l m below in
               (noted was.since (Hears start.peer start.bytes) it.0, at-still l m start.first.number y.0 _ y.1 (omega (arith, lt, low)) it.1, refl)
@@ -367,10 +376,19 @@ module _ (l : List Noted) (legal : Legal l) (q : CoapRequest) (o n : ℕ) (js : 
               by : ((leb y e ≡ true) × (y ≤ e)) ⊎ ((leb y e ≡ false) × (e < y)) → last ≡ record { number = f; how = how }
               by (inl u) =
                   elim (eqb_tells y e) [
-                    | inl v ↦
-                        let ask = asked-for l y shared.exchange legal opened in
-                        absurd (not-at-ask l x e shared.exchange.since ask.conn ask.ask ask.note (Whole w rs) ended
-                        (subst (λ (i : ℕ). at l i ≡ Some (noted shared.exchange.since (Asks ask.conn ask.ask) ask.note)) v.1 ask.stands))
+                    | inl v ↦ elim (opened-for l y shared.exchange legal opened) [
+                      | inl ask ↦
+                          absurd (not-at-ask l x e shared.exchange.since ask.conn ask.ask ask.note (Whole w rs) ended
+                          (subst (λ (i : ℕ). at l i ≡ Some (noted shared.exchange.since (Asks ask.conn ask.ask) ask.note)) v.1 ask.stands))
+                      | inr notice ↦
+                          let before_it = ends-first l x e (Whole w rs) ended in
+                          let lt = opened-first in
+                          let opened_x = begun-early l e x exchange (at-below l e before_it.0 before_it.1) read-by.opened lt in
+                          absurd (not-fetched l y shared.exchange legal notice x exchange
+                          (subst (λ (i : ℕ). begun (before l i) x ≡ Some exchange) (sym v.1) opened_x)
+                          (subst (λ (i : ℕ). end_of (before l i) x ≡ None) (sym v.1) before_it.2)
+                          (asks-through shared.exchange.request q exchange.request (asks-back q shared.exchange.request shared.same) same))
+                    ]
                     | inr v ↦
                         let sooner = u.1 in
                         let not = v.1 in
@@ -416,7 +434,7 @@ module _ (l : List Noted) (legal : Legal l) (q : CoapRequest) (o n : ℕ) (js : 
       lasts : (lifetime w.max_age == 0) ≡ false
       lasts =
           let has : Contains rs start.first = subst (λ (rs : List Reply). Contains rs start.first) (sym start.all) (zero, omega arith, refl) in
-          let fits = replies-fit (before l n) x start.first (legal-before l n legal) (all.listed start.first has) in
+          let fits = (heard-fits (before l n) x all.exchange start.first (legal-before l n legal) all.opened (all.listed start.first has)).1 in
           let lt = subst (λ (m : ℕ). start.first.number < m) its.1 (at-below (before l n) start.first.number _ fits.heard) in
           let stands = entries-at l start.first.number _ start.stands in
           let le = moments-rise l start.first.number k _ z legal stands.1 here (omega (arith, lt, low, high)) in

@@ -16,7 +16,7 @@ use Rattle.journal_book.specs.Entries as D
 use Rattle.history_laws.specs.Readings.{Noted, Note, First, Says, Bygone, Notice, entries, at, before, noted}
 use Rattle.history_laws.specs.Progress.{Reply, Reset, TimedOut}
 use Rattle.history_laws.specs.Transmissions.{FirstSending, firsts_by, firsts, sent_last}
-use Rattle.history_laws.specs.Exchanges.{Begun, begun, openings, Turn, Nothing, Sent, Replied, Rejected, Expired, answered_by, heard_turn, turn, waits_by, waits_for, replies_by, replies, kept, end_here, end_of, awaited}
+use Rattle.history_laws.specs.Exchanges.{Begun, begun, openings, Turn, Nothing, Sent, Replied, Rejected, Expired, answered_by, heard_turn, turn, waits_by, waits_for, replies_by, replies, kept, end_here, end_of, awaited, heard_for}
 use Rattle.history_laws.specs.Hearing.{IsReplyKind, is_under, is_as, open_at, answers_by, answers, expected}
 use Rattle.history_laws.specs.Justified.{MaySay, Follows, Legal}
 use Rattle.history_laws.specs.Laws.{IsFirst, IsReplyTo, IsFetched}
@@ -243,7 +243,7 @@ abbrev pub IsLatest : Option ℕ → List Reply → ℕ → Type 0
 IsLatest w rs j =
     (w ≡ Some j) ⊎ ((others : List Reply) × (last : Reply) × (rs ≡ others ++ last ∷ []) × (last.sending ≡ j) × (w ≡ None))
 
-latest-step : (x : Noted) (l : List Noted) (o j : ℕ) (u : Turn) → turn l o x ≡ u → end_here (begun l o) (kept l o) (length l) (replies l o) u ≡ None
+latest-step : (x : Noted) (l : List Noted) (o j : ℕ) (u : Turn) → turn l o x ≡ u → end_here (begun l o) (kept l o) (length l) (heard_for l o) u ≡ None
     → ((i : ℕ) → u ≡ Sent i → ⊥) → IsLatest (waits_for l o) (replies l o) j → IsLatest (waits_by u (waits_for l o)) (replies_by (length l) u (replies l o)) j
 latest-step x l o j Nothing is going unsent h = h
 latest-step x l o j (Sent i) is going unsent h = absurd (unsent i refl)

@@ -17,7 +17,7 @@ use Rattle.history_laws.specs.Joining.{outrun}
 use Rattle.history_laws.specs.Justified.{IsAsk, IsRefused, Caused, HasGrounds, AskNote, reads_by, reads_in, reads, pending, Follows, MayCome, Legal}
 use Rattle.history_laws.specs.Carrying.{carried}
 use Rattle.history_laws.specs.Grounds.{IsWriteEnd}
-use Rattle.history_laws.proofs.CallerLemmas.{asked-for, copied-current, at-before, at-below, at-same, at-still, before-twice, end-since, ends-first, follows-at, joins-is, legal-before, none-some, opening-begun, unoutrun-earlier}
+use Rattle.history_laws.proofs.CallerLemmas.{copied-current, at-before, at-below, at-same, at-still, before-twice, end-since, ends-first, follows-at, joins-is, legal-before, none-some, opening-begun, unoutrun-earlier}
 use Rattle.history_claims.specs.Headline.{IsWriteAnswer}
 use Rattle.history_claims.proofs.Entries.{entries-at, grows}
 use Rattle.history_claims.proofs.Asking.{AnswersAsk, answers-ask}
@@ -25,6 +25,10 @@ use Rattle.history_claims.proofs.Unsent.{Over, sealed-still}
 use Rattle.history_claims.proofs.Hands.{ends-after, not-at-ask, no-input}
 use Rattle.history_claims.proofs.Pending.{senses, asks-something, over-grounds}
 use Rattle.history_claims.proofs.Alike.{get-method, same-get, stored-get}
+
+-- what stands there is an ask
+abbrev pub IsAskedAt : List Noted → ℕ → Type 0
+IsAskedAt l o = (t : ℕ) × (d : ℕ) × (b : Ask) × (note : Note) × (at l o ≡ Some (noted t (Asks d b) note))
 
 serves-plain : (js : List ℕ) → Serves js ≡ Plain → ⊥
 serves-plain js e = cc
@@ -118,7 +122,7 @@ module _ (l : List Noted) (k conn : ℕ) (a : Ask) (q : CoapRequest) (legal : Le
   opens = subst (λ (note : Note). at l w.ask ≡ Some (noted w.write.moment (Asks w.write.conn write) note)) begins there.1
 
   over : Over w.ask (before l n)
-  over = over-grounds l n w.ask w.write.moment w.write.conn write (Begins w.write.request) w.write.request refl opens refl w.moment w.grounds its.0.grounds
+  over = over-grounds l n w.ask w.write.moment w.write.conn write (Begins w.write.request) w.write.request refl refl opens refl w.moment w.grounds its.0.grounds
 
   twice : before (before l k) n ≡ before l n
   twice = before-twice l k n _ ask.stands lt
@@ -160,11 +164,8 @@ module _ (l : List Noted) (k conn : ℕ) (a : Ask) (q : CoapRequest) (legal : Le
         | inr sealed ↦ not-sealed sealed
       ]
 
-  -- before which no write had outrun the exchange of o
-  module _ (o : ℕ) (exchange : Begun) (opened : begun l o ≡ Some exchange) (fresh : outrun (before l k) (asked_place q) o ≡ false) where
-    opening : (d : ℕ) × (b : Ask) × (note : Note) × (at l o ≡ Some (noted exchange.since (Asks d b) note))
-    opening = let it = asked-for l o exchange legal opened in (it.conn, it.ask, it.note, it.stands)
-
+  -- before which no write had outrun that of the ask o
+  module _ (o : ℕ) (opening : IsAskedAt l o) (fresh : outrun (before l k) (asked_place q) o ≡ false) where
     -- it ended before the exchange was opened
     ended-before : (x : End) → end_of (before l n) w.ask ≡ Some x → x.number < o
     ended-before x ended =
@@ -175,8 +176,8 @@ module _ (l : List Noted) (k conn : ℕ) (a : Ask) (q : CoapRequest) (legal : Le
         (ended-write x ended) (omega (arith, soon, lt)) in
         elim (eqb_tells x.number o) [
           | inl u ↦
-              absurd (not-at-ask l w.ask x.number exchange.since opening.0 opening.1 opening.2 x.how all
-              (subst (λ (i : ℕ). at l i ≡ Some (noted exchange.since (Asks opening.0 opening.1) opening.2)) (sym u.1) opening.3))
+              absurd (not-at-ask l w.ask x.number opening.0 opening.1 opening.2 opening.3 x.how all
+              (subst (λ (i : ℕ). at l i ≡ Some (noted opening.0 (Asks opening.1 opening.2) opening.3)) (sym u.1) opening.4))
           | inr u ↦ let not = u.1 in omega (arith, le, not)
         ]
 
@@ -186,8 +187,8 @@ module _ (l : List Noted) (k conn : ℕ) (a : Ask) (q : CoapRequest) (legal : Le
         elim (leb_tells o n) [
           | inl u ↦ elim (eqb_tells o n) [
             | inl v ↦
-                absurd (no-answer exchange.since w.moment opening.0 w.write.conn w.ask opening.1 w.grounds _ answer.0
-                (at-same l n _ _ (subst (λ (i : ℕ). at l i ≡ Some (noted exchange.since (Asks opening.0 opening.1) opening.2)) v.1 opening.3) answer.1))
+                absurd (no-answer opening.0 w.moment opening.1 w.write.conn w.ask opening.2 w.grounds _ answer.0
+                (at-same l n _ _ (subst (λ (i : ℕ). at l i ≡ Some (noted opening.0 (Asks opening.1 opening.2) opening.3)) v.1 opening.4) answer.1))
             | inr v ↦ let le = u.1 in let not = v.1 in absurd (came-between x ended sooner (omega (arith, le, not)))
           ]
           | inr u ↦ u.1
@@ -211,13 +212,13 @@ module _ (l : List Noted) (k conn : ℕ) (a : Ask) (q : CoapRequest) (legal : Le
         came-between : (x : End) → end_of (before l n) w.ask ≡ Some x → x.number < o → o < n → ⊥
         came-between x ended sooner soon =
             let early = legal-before l n legal in
-            let last = at-still l n o _ _ answer.1 soon opening.3 in
+            let last = at-still l n o _ _ answer.1 soon opening.4 in
             let follows = follows-at l n _ legal answer.1 in
             let own : reads (before l n) w.ask ≡ Some w.ask =
             subst (λ (x : Option Noted). reads_in w.ask x ≡ Some w.ask) (sym (at-still l n w.ask _ _ answer.1 asked-before opens)) refl in
             let after = ends-after (before l n) w.ask x.number x.how early ended in
             no-input (before l n) w.write.conn w.ask w.ask x.number x.how its.0.ask early its.0.asked own ended after (still-open follows) (still-waits follows)
-            o _ sooner last (comes (before (before l n) o) exchange.since opening.0 opening.1 opening.2 (follows-at (before l n) o _ early last))
+            o _ sooner last (comes (before (before l n) o) opening.0 opening.1 opening.2 opening.3 (follows-at (before l n) o _ early last))
 
     pub fresh-at : n < o
     fresh-at =

@@ -1,5 +1,5 @@
--- What keeps requests, replies and answers apart in every journal that stands, and copies before all
--- else: said of its entries alone.
+-- What keeps requests, replies and answers apart in every journal that stands, and copies before
+-- all else: said of its entries alone.
 use Rattle.std.specs.Prelude.{◌≡◌, ◌⊎◌, ℕ, ◌+◌, ◌<◌, ◌≤◌, List, [], ◌∷◌, ◌++◌, length, take, ◌==◌, if◌then◌else◌}
 use Rattle.std.specs.List.{Contains}
 use Rattle.limits.specs.declared.TheConstants.{MESSAGE_ID_LIFETIME}

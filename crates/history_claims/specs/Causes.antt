@@ -10,20 +10,21 @@ use Rattle.uri_map.specs.declared.peer.Peer.{Peer}
 use Rattle.ask_model.specs.declared.cause.Cause.{Cause}
 use Rattle.ask_model.specs.declared.cause.Cause.TheVariants as C
 use Rattle.ask_model.specs.Requests.{CoapRequest, Requests, Refuses}
-use Rattle.ask_model.specs.Sharing.{is_get}
+use Rattle.ask_model.specs.Sharing.{asks_same}
 use Rattle.journal_book.specs.Entries.{Grounds, Fault, Sends, Hears, Passes, Answers, Shuts, Written}
 use Rattle.history_laws.specs.Confirmations.{empty}
 use Rattle.history_laws.specs.Progress.{Reply, NotUnderstood, Progress, Fetches, Gives, Ends, first_progress, step, progress, ended_by, block_after}
 use Rattle.history_laws.specs.Justified.{Stands}
-use Rattle.history_claims.specs.Headline.{IsEntry, IsAsked, IsFirstSending, WasFirstSent, IsSentFor, IsHeard, IsUnanswered, IsHeardFor, IsPending, IsWrite, IsShared}
+use Rattle.history_claims.specs.Headline.{IsEntry, IsAsked, IsFirstSending, WasFirstSent, IsSentFor, IsHeard, IsUnanswered, IsHeardFor, IsPending, IsOpen, IsNotified, IsSameGet, IsWrite, IsShared}
 
--- After the entry s nothing was sent for the ask k, nor for the ask o that it joined, if it did:
--- what asks the same, or is for a block of it, was sent for another ask, which was pending then.
+-- After the entry s nothing was sent for the ask k, nor for what it joined, if it did, which was
+-- begun in the entry n: what asks the same, or is for a block of it, was sent for what was begun in
+-- another one, and was open then.
 abbrev pub IsUnsent : List Written → ℕ → ℕ → ℕ → CoapRequest → Type 0
-IsUnsent h s k o q =
-    (i : ℕ) (m : Content) (block : Option Block) → s < i → IsSentFor h o q block i m
+IsUnsent h s k n q =
+    (i : ℕ) (m : Content) (block : Option Block) → s < i → IsSentFor h n q block i m
     → (a : ℕ) × (r : CoapRequest) × (other : Option Block)
-    × (a ≢ k) × (a ≢ o) × IsPending h i a r × IsSentFor h a r other i m
+    × (a ≢ k) × (a ≢ n) × IsOpen h i a r × IsSentFor h a r other i m
 
 -- The reply is the one to what was to be asked for the request at this point (`next_message`).
 abbrev pub IsReplyFor
@@ -43,10 +44,21 @@ AreRepliesTo h k q point [] = ⊤
 AreRepliesTo h k q point (r ∷ rs) =
     IsNextReply h k q point r × AreRepliesTo h r.number q (step point r) rs
 
+-- So are these, of which the first may be a notification of what is observed for the ask o, which
+-- is for the same.
+abbrev pub AreRepliesOn : List Written → ℕ → CoapRequest → List Reply → Type 0
+AreRepliesOn h o q [] = ⊥
+AreRepliesOn h o q (r ∷ rs) =
+    ((s : CoapRequest) × IsSameGet q s × IsNotified h o s r.number r.message)
+    × AreRepliesTo h r.number q (step (first_progress q) r) rs
+
+abbrev pub AreRepliesFor : List Written → ℕ → CoapRequest → List Reply → Type 0
+AreRepliesFor h o q rs = AreRepliesTo h o q (first_progress q) rs ⊎ AreRepliesOn h o q rs
+
 -- These are the replies for the ask o so far, and there is more to ask for.
 pub record WentOn
     (h : List Written) (o : ℕ) (q : CoapRequest) (others : List Reply) (last : Reply) : Type 0 where
-  pub heard : AreRepliesTo h o q (first_progress q) (others ++ last ∷ [])
+  pub heard : AreRepliesFor h o q (others ++ last ∷ [])
   pub going : ended_by true (progress q (others ++ last ∷ [])) ≡ None
 
 -- The bytes that were sent to the endpoint in the entry i, at the moment t, were sent again in
@@ -102,21 +114,21 @@ pub record AreMany (least : ℕ) (IsOne : ℕ → Type 0) : Type 0 where
   pub apart : AreApart ones
   pub each : (n : ℕ) → Contains ones n → IsOne n
 
--- If these asks are one GET, asked twice, a write to the resource came between, so that the later
--- didn't join the earlier: it was asked before the later, and wasn't answered before the earlier.
-abbrev pub AreUnshared : List Written → ℕ → ℕ → Type 0
-AreUnshared h a b =
-    (c d s t : ℕ) (q : CoapRequest) → IsAsked h a c s (Requests q) → IsAsked h b d t (Requests q)
-    → is_get q ≡ true
-    → (w : ℕ) × IsWrite h q w × (w < b)
+-- If q, which was begun in the entry a, and r, begun in the entry b, are one GET, a write to the
+-- resource came between, so that the later didn't join the earlier: it was asked before the later,
+-- and wasn't answered before the earlier.
+abbrev pub AreUnshared : List Written → ℕ → ℕ → CoapRequest → CoapRequest → Type 0
+AreUnshared h a b q r =
+    asks_same r q ≡ true
+    → (w : ℕ) × IsWrite h r w × (w < b)
     × ((n u e : ℕ) (g : Grounds) → n < a → IsEntry h n u (Answers e w g) → ⊥)
 
--- So many asks for such requests are pending before the ask k, of which none joined another.
+-- So many such requests are open before the ask k, of which none joined another.
 pub record AreManyPending
     (h : List Written) (k least : ℕ) (IsSuch : CoapRequest → Type 0) : Type 0 where
-  pub asks : AreMany least (λ (o : ℕ). (q : CoapRequest) × IsSuch q × IsPending h k o q)
-  pub unshared : (a b : ℕ) → Contains asks.ones a → Contains asks.ones b → a < b
-      → AreUnshared h a b
+  pub asks : AreMany least (λ (n : ℕ). (q : CoapRequest) × IsSuch q × IsOpen h k n q)
+  pub unshared : (a b : ℕ) (first : Contains asks.ones a) (second : Contains asks.ones b) → a < b
+      → AreUnshared h a b (asks.each a first).0 (asks.each b second).0
 
 -- Before the ask k, a message was first sent to the endpoint in the entry i, whose ID may not be
 -- used again at this moment (RFC 7252 section 4.4).
@@ -142,7 +154,7 @@ pub record IsTurnedAway (h : List Written) (c k : ℕ) : Type 0 where
   pub request : CoapRequest
   pub asked : IsAsked h k c moment (Requests request)
   pub alone : (o : ℕ) (p : IsPending h k o request)
-      → ((m s : ℕ) → m < k → IsEntry h m s (Shuts p.conn) → ⊥) → AreUnshared h o k
+      → ((m s : ℕ) → m < k → IsEntry h m s (Shuts p.conn) → ⊥) → AreUnshared h o k request request
   pub crowded : IsCrowded h k moment request.peer
   pub unsent : IsUnsent h k k k request
 
@@ -159,7 +171,8 @@ pub record IsCutOff (h : List Written) (a c k : ℕ) : Type 0 where
   pub request : CoapRequest
   pub opening : ℕ
   pub since : ℕ
-  pub shared : IsShared h c k request opening since
+  pub entry : ℕ
+  pub shared : IsShared h c k request entry opening since
   pub others : List Reply
   pub last : Reply
   pub went : WentOn h opening request others last
@@ -169,17 +182,17 @@ pub record IsCutOff (h : List Written) (a c k : ℕ) : Type 0 where
   pub bytes : List ℕ
   pub heard : IsEntry h last.number moment (Hears request.peer bytes)
   pub full : IsFull h last.number moment request.peer
-  pub unsent : IsUnsent h last.number k opening request
+  pub unsent : IsUnsent h last.number k entry request
 
 -- The latest message for the ask is named: a reply came to it before the answer, after which there
 -- was more to ask for, and nothing was sent for that.
-pub record IsRepliedTo (h : List Written) (a k o : ℕ) (q : CoapRequest) (n : ℕ) : Type 0 where
+pub record IsRepliedTo (h : List Written) (a k e o : ℕ) (q : CoapRequest) (n : ℕ) : Type 0 where
   pub others : List Reply
   pub last : Reply
   pub names : last.sending ≡ n
   pub went : WentOn h o q others last
   pub before : last.number < a
-  pub unsent : IsUnsent h last.number k o q
+  pub unsent : IsUnsent h last.number k e q
 
 -- The message for the ask is named, to which no reply came before the answer; or the latest one; or
 -- the ask, where nothing was sent. What it shares was asked 93 seconds before or more
@@ -188,13 +201,14 @@ pub record IsTimedOut (h : List Written) (a t c k n : ℕ) : Type 0 where
   pub request : CoapRequest
   pub opening : ℕ
   pub since : ℕ
-  pub shared : IsShared h c k request opening since
+  pub entry : ℕ
+  pub shared : IsShared h c k request entry opening since
   pub names : ((m : Content) × (block : Option Block)
-      × IsSentFor h opening request block n m × IsUnanswered h request.peer n m a)
-      ⊎ (IsRepliedTo h a k opening request n ⊎ ((n ≡ k) × IsUnsent h opening k opening request))
+      × IsSentFor h entry request block n m × IsUnanswered h request.peer n m a)
+      ⊎ (IsRepliedTo h a k entry opening request n ⊎ ((n ≡ k) × IsUnsent h entry k entry request))
   pub over : (since + MAX_TRANSMIT_WAIT ≤ t)
       ⊎ ((m : Content) × (block : Option Block)
-      × IsSentFor h opening request block n m × IsGivenUp h k t request.peer n m)
+      × IsSentFor h entry request block n m × IsGivenUp h k t request.peer n m)
 
 -- The entry heard after the ask, from the endpoint, an empty RST with the ID of a message for it,
 -- before anything else ended its sending.
@@ -202,12 +216,13 @@ pub record IsReset (h : List Written) (c k n : ℕ) : Type 0 where
   pub request : CoapRequest
   pub opening : ℕ
   pub since : ℕ
-  pub shared : IsShared h c k request opening since
+  pub entry : ℕ
+  pub shared : IsShared h c k request entry opening since
   pub live : k < n
   pub sending : ℕ
   pub sent : Content
   pub block : Option Block
-  pub sent_for : IsSentFor h opening request block sending sent
+  pub sent_for : IsSentFor h entry request block sending sent
   pub after : sending < n
   pub unsettled : IsUnsettled h request.peer sending sent n
   pub reset : ℕ
@@ -219,12 +234,13 @@ pub record IsNotUnderstood (h : List Written) (c k n : ℕ) : Type 0 where
   pub request : CoapRequest
   pub opening : ℕ
   pub since : ℕ
-  pub shared : IsShared h c k request opening since
+  pub entry : ℕ
+  pub shared : IsShared h c k request entry opening since
   pub live : k < n
   pub others : List Reply
   pub last : Reply
   pub number : last.number ≡ n
-  pub heard : AreRepliesTo h opening request (first_progress request) (others ++ last ∷ [])
+  pub heard : AreRepliesFor h opening request (others ++ last ∷ [])
   pub fails : progress request (others ++ last ∷ []) ≡ Ends NotUnderstood
 
 -- The ask means this refusal.

@@ -1,7 +1,8 @@
--- What an answer rests on: said of a journal's entries alone, which lie oldest first and go by their
--- number from 0. A journal may begin with copies of an older one's entries: an answer that was kept
--- may rest on such, and tokens, message IDs and repeats are told by them too.
+-- What an answer rests on: said of a journal's entries alone, which lie oldest first and go by
+-- their number from 0. A journal may begin with copies of an older one's entries: an answer that
+-- was kept may rest on such, and tokens, message IDs and repeats are told by them too.
 use Rattle.std.specs.Prelude.{◌≡◌, ◌≢◌, ◌⊎◌, ℕ, ◌+◌, ◌<◌, ◌≤◌, List, [], ◌∷◌, slice_get, Option, Some, ⊤, None, true, false}
+use Rattle.blockwise.specs.Reading.{block_in}
 use Rattle.std.specs.List.{Contains}
 use Rattle.limits.specs.declared.TheConstants.{EXCHANGE_LIFETIME, MAX_TRANSMIT_WAIT}
 use Rattle.coap_codec.specs.declared.message.MsgType.{MsgType}
@@ -192,6 +193,47 @@ pub record IsWriteAnswer (h : List Written) (q : CoapRequest) (n : ℕ) : Type 0
   pub answers : IsEntry h n moment (Answers write.conn ask grounds)
   pub had_room : grounds ≢ Fault C.Busy ask
 
+-- The resource of q is observed for the ask o (RFC 7641 section 3.1): it may be by the rules of
+-- that, its first message asked to be told of changes, and the entry n heard the reply.
+pub record IsObserved (h : List Written) (o : ℕ) (q : CoapRequest) (n : ℕ) : Type 0 where
+  pub conn : ℕ
+  pub moment : ℕ
+  pub asked : IsAsked h o conn moment (Requests q)
+  pub may : may_observe asked.rules q ≡ true
+  pub reply : Content
+  pub heard : IsHeardFor h o q None n reply
+  pub observes : heard.sent_for.asks.0 ≡ Observing
+
+-- The entry j heard a notification of it (RFC 7641 section 4.2): after that reply, one more
+-- response to that message, in a CON or NON that is no repeat.
+pub record IsNotified (h : List Written) (o : ℕ) (q : CoapRequest) (j : ℕ)
+    (m : Content) : Type 0 where
+  pub registered : ℕ
+  pub observed : IsObserved h o q registered
+  pub later : registered < j
+  pub response : IsResponse h q.peer observed.heard.sending observed.heard.sent j m
+  pub kind : MayRepeat m.kind
+  pub new : IsNew h q.peer j
+
+-- Before the entry k, such a notification had come in the entry n, with the first piece of a
+-- representation: after it there is more to ask for (RFC 7959 section 2.6). No tick found that 93
+-- seconds old: so long it counts, though nobody may wait for it.
+pub record IsFetching (h : List Written) (k n o : ℕ) (q : CoapRequest) (since : ℕ) : Type 0 where
+  pub before : n < k
+  pub message : Content
+  pub notified : IsNotified h o q n message
+  pub moment : notified.response.moment ≡ since
+  pub block : Block
+  pub piece : block_in 23 message ≡ Some block
+  pub more : block.more ≡ true
+  pub in_time : IsInTime h since n k
+
+-- What is asked for since the entry n, for q: by that ask, or by what a notification began there,
+-- for the ask o by which the resource is observed.
+abbrev pub IsOpen : List Written → ℕ → ℕ → CoapRequest → Type 0
+IsOpen h k n q =
+    IsPending h k n q ⊎ ((o : ℕ) × (since : ℕ) × IsFetching h k n o q since)
+
 -- The ask k for q may join the ask o, which is pending: both are for the same, and no write to the
 -- resource was answered between them.
 pub record IsJoined (h : List Written) (k : ℕ) (q : CoapRequest) (o : ℕ) : Type 0 where
@@ -200,13 +242,24 @@ pub record IsJoined (h : List Written) (k : ℕ) (q : CoapRequest) (o : ℕ) : T
   pub same : IsSameGet q request
   pub fresh : (n : ℕ) → IsWriteAnswer h q n → n < k → n < o
 
--- In the entry k the connection asked for q, and what is sent for the ask o, of the moment since,
--- is sent for that too: it is that ask, or one that it may join.
-pub record IsShared (h : List Written) (c k : ℕ) (q : CoapRequest) (o since : ℕ) : Type 0 where
+-- Or it may join what a notification began in the entry n, of what is observed for the ask o: that
+-- is for the same, and no write to the resource was answered since that ask.
+pub record IsJoinedTo
+    (h : List Written) (k n : ℕ) (q : CoapRequest) (o since : ℕ) : Type 0 where
+  pub request : CoapRequest
+  pub fetching : IsFetching h k n o request since
+  pub alike : IsSameGet q request
+  pub fresh : (w : ℕ) → IsWriteAnswer h q w → w < k → w < o
+
+-- In the entry k the connection asked for q, and what is sent for the ask o, since the entry n and
+-- its moment, is sent for that too: it is that ask, or one that it may join, or what is observed
+-- for that ask, and it may join what is fetched of that.
+pub record IsShared (h : List Written) (c k : ℕ) (q : CoapRequest) (n o since : ℕ) : Type 0 where
   pub moment : ℕ
   pub asked : IsAsked h k c moment (Requests q)
-  pub shares : ((o ≡ k) × (since ≡ moment))
-      ⊎ ((j : IsJoined h k q o) × (since ≡ j.pending.moment))
+  pub shares : ((n ≡ k) × (o ≡ k) × (since ≡ moment))
+      ⊎ (((n ≡ o) × (j : IsJoined h k q o) × (since ≡ j.pending.moment))
+      ⊎ IsJoinedTo h k n q o since)
 
 -- The entries with these numbers heard these replies, one by one, from this point on: each to a
 -- message that was sent after the one before was heard, and is for the block after those before.
@@ -217,54 +270,44 @@ AreHeardFor h k q point (j ∷ js) (m ∷ ms) =
     IsHeardFor h k q (block_for point) j m × AreHeardFor h j q (point_after point m) js ms
 AreHeardFor h k q point _ _ = ⊥
 
+-- Or the first is a notification of what is observed for the ask o, which is for the same, and the
+-- others were heard so.
+abbrev pub AreHeardOn : List Written → ℕ → CoapRequest → List ℕ → List Content → Type 0
+AreHeardOn h o q (j ∷ js) (m ∷ ms) =
+    ((r : CoapRequest) × IsSameGet q r × IsNotified h o r j m)
+    × AreHeardFor h j q (point_after (first_point q) m) js ms
+AreHeardOn h o q js ms = ⊥
+
 -- These replies begin with one that was heard at this moment.
 abbrev pub IsHeardFirst : List Written → ℕ → List ℕ → Type 0
 IsHeardFirst h t [] = ⊥
 IsHeardFirst h t (j ∷ js) = (p : Peer) × (bytes : List ℕ) × IsEntry h j t (Hears p bytes)
 
+-- The first of these is n.
+abbrev pub BeginsAt : ℕ → List ℕ → Type 0
+BeginsAt n [] = ⊥
+BeginsAt n (j ∷ js) = n ≡ j
+
 -- The answer in the entry n, to the ask k of its connection, rests on one whole response: on these
--- entries, which heard it, piece by piece, for that ask or for one that it joined, before the
--- answer and before the latter was 93 seconds old. One of them was heard after the ask.
+-- entries, which heard it, piece by piece, for that ask or for what it joined, before the answer
+-- and before the latter was 93 seconds old. One of them was heard after the ask.
 pub record RestsOn (h : List Written) (n c k : ℕ) (js : List ℕ) : Type 0 where
   pub request : CoapRequest
+  pub entry : ℕ
   pub opening : ℕ
   pub since : ℕ
-  pub shared : IsShared h c k request opening since
+  pub shared : IsShared h c k request entry opening since
   pub messages : List Content
-  pub heard : AreHeardFor h opening request (first_point request) js messages
+  pub heard : AreHeardFor h entry request (first_point request) js messages
+      ⊎ (BeginsAt entry js × AreHeardOn h opening request js messages)
   pub before : (j : ℕ) → Contains js j → j < n
   pub live : (j : ℕ) × (k < j) × Contains js j
   pub in_time : IsInTime h since k n
   pub response : Response
   pub whole : whole_of request messages ≡ Some response
 
--- The resource of q is observed for the ask o (RFC 7641 section 3.1): it may be by the rules of that,
--- its first message asked to be told of changes, and the entry n heard the reply.
-pub record IsObserved (h : List Written) (o : ℕ) (q : CoapRequest) (n : ℕ) : Type 0 where
-  pub conn : ℕ
-  pub moment : ℕ
-  pub asked : IsAsked h o conn moment (Requests q)
-  pub may : may_observe asked.rules q ≡ true
-  pub reply : Content
-  pub heard : IsHeardFor h o q None n reply
-  pub observes : heard.sent_for.asks.0 ≡ Observing
-
--- The entry j heard a notification of it (RFC 7641 section 4.2): after that reply, one more response
--- to that message, in a CON or NON that is no repeat.
-pub record IsNotified (h : List Written) (o : ℕ) (q : CoapRequest) (j : ℕ) (m : Content) : Type 0 where
-  pub registered : ℕ
-  pub observed : IsObserved h o q registered
-  pub later : registered < j
-  pub response : IsResponse h q.peer observed.heard.sending observed.heard.sent j m
-  pub kind : MayRepeat m.kind
-  pub new : IsNew h q.peer j
-
--- This one entry did, and this is what it heard.
-abbrev pub AreNotified : List Written → ℕ → CoapRequest → List ℕ → List Content → Type 0
-AreNotified h o q (j ∷ []) (m ∷ []) = IsNotified h o q j m
-AreNotified h o q js ms = ⊥
-
--- The proxy didn't reject what the entry j heard (RFC 7252 section 4.2): that would be the entry after it.
+-- The proxy didn't reject what the entry j heard (RFC 7252 section 4.2): that would be the entry
+-- after it.
 abbrev pub IsUnrejected : List Written → Peer → ℕ → Content → Type 0
 IsUnrejected h p j m =
     (t : ℕ) (bytes : List ℕ) → IsEntry h (j + 1) t (Sends p bytes None)
@@ -298,7 +341,8 @@ pub record IsOlder
   pub response : IsResponse h q.peer n.observed.heard.sending n.observed.heard.sent other reply
   pub number : ℕ
   pub numbered : version m ≡ Some number
-  pub older : newer (number_or_zero (version reply)) response.moment number n.response.moment ≡ false
+  pub older : newer
+      (number_or_zero (version reply)) response.moment number n.response.moment ≡ false
 
 -- Of what q reads nothing newer was heard since the first of these entries, and before the entry n:
 -- each notification since is one of what some ask observes, and if it is of that, it is older.

@@ -14,7 +14,7 @@ use Rattle.resp_cache.specs.Stored.{lifetime}
 use Rattle.history_laws.specs.Responses.{Response, whole_of}
 use Rattle.history_laws.specs.Justified.{Stands}
 use Rattle.history_laws.specs.Laws.{IsDone}
-use Rattle.history_claims.specs.Headline.{IsEntry, IsAsked, IsHeard, IsHeardFirst, IsPending, IsWrite, IsNotified}
+use Rattle.history_claims.specs.Headline.{IsEntry, IsAsked, IsHeard, IsHeardFirst, IsPending, IsFetching, IsWrite, IsNotified}
 use Rattle.history_claims.specs.Causes.{IsUnsent, IsCutOff}
 
 -- Before the entry n, this was asked in the entry a: after the entry s, or it was pending then.
@@ -29,18 +29,19 @@ pub record WasAsked (h : List Written) (s n a : ℕ) (q : CoapRequest) : Type 0 
 abbrev pub IsUnwritten : List Written → ℕ → ℕ → CoapRequest → Type 0
 IsUnwritten h s n q = (w : ℕ) (it : IsWrite h q w) → WasAsked h s n w it.request → ⊥
 
--- And fewer than 256 keys beside that of q: as many as are stored (RFC 7252 section 5.6), or told of
--- by a notification after the entry s.
+-- And fewer than 256 keys beside that of q: as many as are stored (RFC 7252 section 5.6), or told
+-- of by a notification after the entry s, or by one of which the rest was asked for then.
 pub record AreFew (h : List Written) (s n : ℕ) (q : CoapRequest) : Type 0 where
   pub others : List CacheKey
   pub few : length others < MAX_STORED
   pub all : (a : ℕ) (r : CoapRequest) → WasAsked h s n a r → is_get r ≡ true
       → (asked_key r ≡ asked_key q) ⊎ Contains others (asked_key r)
-  pub told : (o j : ℕ) (r : CoapRequest) (m : Content) → s < j → j < n → IsNotified h o r j m
+  pub told : (o j : ℕ) (r : CoapRequest) (m : Content) → IsNotified h o r j m → j < n
+      → (s < j) ⊎ ((t : ℕ) × IsFetching h s j o r t)
       → (asked_key r ≡ asked_key q) ⊎ Contains others (asked_key r)
 
--- Since the first of these entries, and before the entry n, no notification was heard of what the same
--- GET reads (RFC 7641 section 3.2).
+-- Since the first of these entries, and before the entry n, no notification was heard of what the
+-- same GET reads (RFC 7641 section 3.2).
 abbrev pub IsUnnotified : List Written → List ℕ → ℕ → CoapRequest → Type 0
 IsUnnotified h [] n q = ⊤
 IsUnnotified h (s ∷ js) n q =
@@ -79,8 +80,8 @@ pub data IsHeld (h : List Written) (q : CoapRequest) (n : ℕ) : ℕ → Type 0 
       → asks_same q r ≡ true → IsHeld h q n o → o < k → AreFew h o k q → IsHeld h q n k
 
 -- At this moment the ask k for q can be answered by what was heard in these entries: that was told
--- before, is fresh (RFC 7252 section 5.6.1) and stays stored; no notification of it was heard since,
--- and no write to the resource was asked for, or pending, since.
+-- before, is fresh (RFC 7252 section 5.6.1) and stays stored; no notification of it was heard
+-- since, and no write to the resource was asked for, or pending, since.
 pub record IsAtHand (h : List Written) (k t : ℕ) (q : CoapRequest) (js : List ℕ) : Type 0 where
   pub ask : ℕ
   pub answer : ℕ

@@ -13,7 +13,7 @@ use Rattle.journal_book.specs.Entries.{Grounds, Sends, Hears, Passes, Answers, W
 use Rattle.history_laws.specs.Confirmations.{empty}
 use Rattle.history_laws.specs.Justified.{Stands}
 use Rattle.history_laws.specs.Grounds.{replies_in}
-use Rattle.history_claims.specs.Headline.{IsEntry, IsAsked, IsFirstSending, WasFirstSent, IsSentFor, IsHeard, IsResponse, IsPending, IsWriteAnswer}
+use Rattle.history_claims.specs.Headline.{IsEntry, IsAsked, IsFirstSending, WasFirstSent, IsSentFor, IsHeard, IsResponse, IsOpen, IsWriteAnswer}
 use Rattle.history_claims.specs.Causes.{AreCopies}
 use Rattle.history_claims.specs.Once.{IsAtHand, CanWaitFor}
 
@@ -33,13 +33,14 @@ IsInSeries h owner block q i =
     × (offset_in (block j) + length (carried_by q.method (block j) q.body)
     ≡ offset_in (block i)))
 
--- The entry i first sent the message for an ask that was pending then: for what it asks for, or a
--- block of that. What is sent for a write is that write, or its body in blocks, each one once.
+-- The entry i first sent the message for what was begun in another one and was open then: for what
+-- that asks for, or a block of it. What is sent for a write is that write, or its body in blocks,
+-- each one once.
 pub record IsSentAsSaid
     (h : List Written) (owner : ℕ → ℕ) (block : ℕ → Option Block) (i : ℕ) (m : Content)
     : Type 0 where
   pub request : CoapRequest
-  pub pending : IsPending h i (owner i) request
+  pub pending : IsOpen h i (owner i) request
   pub part : Option Block
   pub sent_for : IsSentFor h (owner i) request part i m
   pub series : request.method ≢ 1
@@ -130,7 +131,8 @@ AnswersLater h n p j =
     × IsFirstSending h i t p sent × IsResponse h p i sent j m
 
 pub record AreInOrder (h : List Written) : Type 0 where
-  -- each message goes out for an ask that is pending; those for a write are that, once, as one
+  -- each message goes out for an ask that is pending, or for a notification of which more is to be
+  -- asked for; those for a write are that, once, as one
   -- message or in blocks without a gap
   pub sent : AreSentFor h
   -- and nothing goes out but such messages, their copies, and confirmations

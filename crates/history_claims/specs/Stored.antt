@@ -10,18 +10,18 @@ use Rattle.resp_cache.specs.Stored.{Stored, lifetime}
 use Rattle.history_laws.specs.Responses.{Response, whole_of, renewed_response}
 use Rattle.history_laws.specs.Progress.{first_point}
 use Rattle.history_laws.specs.Justified.{Stands}
-use Rattle.history_claims.specs.Headline.{IsEntry, IsAsked, IsHeardFor, IsInTime, IsSameGet, IsWriteAnswer, IsShared, AreHeardFor, IsHeardFirst, RestsOn, AreNotified, IsNewest}
+use Rattle.history_claims.specs.Headline.{IsEntry, IsAsked, IsHeardFor, IsInTime, IsSameGet, IsWriteAnswer, IsShared, AreHeardFor, IsHeardFirst, RestsOn, AreHeardOn, IsNewest}
 use Rattle.history_claims.specs.Carried.{IsAskCopied, AreCarriedFor, IsCarriedFirst}
 
--- The ask o asked for q, and these entries heard these messages for that, or one heard it as a
--- notification of what that observes: the first at this moment.
+-- The ask o asked for q, and these entries heard these messages for that, of which the first may be
+-- a notification of what that observes: it was heard at this moment.
 pub record WasHeardHere
     (h : List Written) (o : ℕ) (q : CoapRequest) (js : List ℕ) (ms : List Content) (since : ℕ)
     : Type 0 where
   pub conn : ℕ
   pub moment : ℕ
   pub asked : IsAsked h o conn moment (Requests q)
-  pub heard : AreHeardFor h o q (first_point q) js ms ⊎ AreNotified h o q js ms
+  pub heard : AreHeardFor h o q (first_point q) js ms ⊎ AreHeardOn h o q js ms
   pub first : IsHeardFirst h since js
 
 -- Or the journal begins with copies of such an ask, and of entries that heard these for it.
@@ -100,7 +100,7 @@ pub record RestsOnRenewed (h : List Written) (n c k : ℕ) (js : List ℕ) : Typ
   pub request : CoapRequest
   pub opening : ℕ
   pub since : ℕ
-  pub shared : IsShared h c k request opening since
+  pub shared : IsShared h c k request opening opening since
   pub stored : Stored
   pub was : WasStored h opening request stored
   pub number : ℕ

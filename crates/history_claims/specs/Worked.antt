@@ -25,11 +25,13 @@ use Rattle.history_claims.specs.Causes.{AreUnshared, IsTurnedAway, IsCausedBy}
 
 -- The GET's answer rests on the response of entry 9, and the PUT's on that of entry 16.
 abbrev pub Answered : Type 0
-Answered = RestsOn (entries M.all_answered) 11 0 1 (9 ∷ []) × RestsOn (entries M.all_answered) 17 1 4 (16 ∷ [])
+Answered = RestsOn (entries M.all_answered) 11 0 1 (9 ∷ [])
+    × RestsOn (entries M.all_answered) 17 1 4 (16 ∷ [])
 
 -- After 93 seconds the GET's message is named, and the PUT itself, since it was never sent.
 abbrev pub TimedOut : Type 0
-TimedOut = IsCausedBy (entries M.given_up) 7 93500 0 1 C.Timeout 2 × IsCausedBy (entries M.given_up) 8 93500 1 4 C.Timeout 4
+TimedOut = IsCausedBy (entries M.given_up) 7 93500 0 1 C.Timeout 2
+    × IsCausedBy (entries M.given_up) 8 93500 1 4 C.Timeout 4
 
 -- A Reset message is named, and a message that was sent five times.
 abbrev pub Rejected : Type 0
@@ -52,7 +54,8 @@ Early = IsCausedBy (entries S.timed_out_early) 14 61999 0 1 C.Timeout 2 → ⊥
 
 -- Not so: an answer on a response that came after a tick had found the GET 93 seconds old.
 abbrev pub heard_late : List Noted
-heard_late = noted 94000 (Hears server M.content_bytes) (Says M.content_message None unobserved) ∷ M.given_up
+heard_late =
+    noted 94000 (Hears server M.content_bytes) (Says M.content_message None unobserved) ∷ M.given_up
 
 abbrev pub Late : Type 0
 Late = RestsOn (entries heard_late) 10 0 1 (9 ∷ []) → ⊥
@@ -88,7 +91,8 @@ Unrejected = IsCausedBy (entries L.rejected_after) 10 2200 0 1 C.Reset 9 → ⊥
 
 -- The response of entry 7 answers a GET and one that joined it.
 abbrev pub Joined : Type 0
-Joined = RestsOn (entries R.both_answered) 8 0 1 (7 ∷ []) × RestsOn (entries R.both_answered) 9 2 6 (7 ∷ [])
+Joined = RestsOn (entries R.both_answered) 8 0 1 (7 ∷ [])
+    × RestsOn (entries R.both_answered) 9 2 6 (7 ∷ [])
 
 -- Not so: a GET that joined one from before the answer to a PUT.
 abbrev pub told_before : List Noted
@@ -139,7 +143,7 @@ asked_by_two =
     ∷ []
 
 abbrev pub CountedTwice : Type 0
-CountedTwice = AreUnshared (entries asked_by_two) 1 4 → ⊥
+CountedTwice = AreUnshared (entries asked_by_two) 1 4 M.get_light M.get_light → ⊥
 
 -- Not so: the second turned away.
 abbrev pub Unjoined : Type 0
@@ -173,8 +177,8 @@ asked_early =
 abbrev pub AskedEarly : Type 0
 AskedEarly = RestsOn (entries asked_early) 6 0 1 (4 ∷ 5 ∷ []) → ⊥
 
--- The PUT's answer rests on the answers to both pieces of its body; or on the first alone, where that
--- refuses it.
+-- The PUT's answer rests on the answers to both pieces of its body; or on the first alone, where
+-- that refuses it.
 abbrev pub Uploaded : Type 0
 Uploaded = RestsOn (entries U.uploaded) 6 0 1 (3 ∷ 5 ∷ [])
 
@@ -203,7 +207,8 @@ Repeated = IsRepeat (entries W.answered_anew) server 3
 
 -- Not so: a message for the GET under the token of a copy.
 abbrev pub sent_again : List Noted
-sent_again = noted 100000 (Sends server M.get_bytes (Some 2000)) (First 6 M.get_message) ∷ W.asking_anew
+sent_again =
+    noted 100000 (Sends server M.get_bytes (Some 2000)) (First 6 M.get_message) ∷ W.asking_anew
 
 abbrev pub SentAgain : Type 0
 SentAgain =

@@ -1,4 +1,5 @@
-//! What holds of the entries of every journal that stands, as contracts of functions that do nothing.
+//! What holds of the entries of every journal that stands, as contracts of functions that do
+//! nothing.
 
 ghost use Rattle.history_claims.specs.Stored.{RestsOnReplies, RestsOnStored};
 ghost use Rattle.history_claims.specs.Causes.{NamesCause};
@@ -14,8 +15,8 @@ ghost use Rattle.history_claims.specs.Apart.{
 };
 
 /// An answer that isn't the proxy's own rests on one whole response, heard under tokens that were
-/// issued for what its ask means, and for the blocks of that one after another (RFC 7252 section 5.3.2,
-/// RFC 7959 section 2.4).
+/// issued for what its ask means, and for the blocks of that one after another (RFC 7252 section
+/// 5.3.2, RFC 7959 section 2.4).
 pub fn rests_on_replies()
     ensures { RestsOnReplies }
 {}
@@ -31,9 +32,9 @@ pub fn names_cause()
     ensures { NamesCause }
 {}
 
-/// Tokens, message IDs and replies serve once: a token one message, an ID one of those to an endpoint
-/// in 494 seconds, a reply the answers, live or kept, to one ask or to GETs for the same (RFC 7252
-/// sections 4.4, 5.3.1, 5.6).
+/// Tokens, message IDs and replies serve once: a token one message, an ID one of those to an
+/// endpoint in 494 seconds, a reply the answers, live or kept, to one ask or to GETs for the same
+/// (RFC 7252 sections 4.4, 5.3.1, 5.6).
 pub fn served_once()
     ensures tokens { TokensOnce }
     ensures ids { IdsOnce }

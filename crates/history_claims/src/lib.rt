@@ -1,4 +1,5 @@
-//! What an HTTP answer rests on, said of the entries of a journal alone, without any reading of them.
+//! What an HTTP answer rests on, said of the entries of a journal alone, without any reading of
+//! them.
 #![tactic(auto)]
 
 mod laws;

@@ -68,9 +68,9 @@ pub fn not_so()
     ensures late { Late }
 {}
 
-/// What comes too late excuses nothing: a second response, a deadline after the reply, a Reset message
-/// after an ACK, an ask whose client has been gone for 93 seconds. Nor does an equal ask that was
-/// answered before.
+/// What comes too late excuses nothing: a second response, a deadline after the reply, a Reset
+/// message after an ACK, an ask whose client has been gone for 93 seconds. Nor does an equal ask
+/// that was answered before.
 pub fn not_excused()
     ensures second { Second }
     ensures unheeded { Unheeded }
@@ -79,9 +79,9 @@ pub fn not_excused()
     ensures abandoned { Abandoned }
 {}
 
-/// A response that answers two. And what joining excuses nowhere: a response from before a write was
-/// answered, or from before the ask, a deadline of what asks for something else, a crowd of readers of
-/// one exchange, and that one is turned away who may join.
+/// A response that answers two. And what joining excuses nowhere: a response from before a write
+/// was answered, or from before the ask, a deadline of what asks for something else, a crowd of
+/// readers of one exchange, and that one is turned away who may join.
 pub fn worked_readers()
     ensures joined { Joined }
     ensures out_of_date { OutOfDate }
@@ -92,8 +92,8 @@ pub fn worked_readers()
 {}
 
 /// A response in two pieces, and a second piece that isn't understood. And responses that are none,
-/// whose second piece came to a message that asks for another block, or that was sent before the first
-/// came.
+/// whose second piece came to a message that asks for another block, or that was sent before the
+/// first came.
 pub fn worked_pieces()
     ensures fetched { Fetched }
     ensures astray { Astray }
@@ -101,8 +101,9 @@ pub fn worked_pieces()
     ensures gap { Gap }
 {}
 
-/// An answer to a body in two pieces, which rests on the answers to both; one that refuses the first; and
-/// one to the last piece that isn't understood. And a response that is none without the first answer.
+/// An answer to a body in two pieces, which rests on the answers to both; one that refuses the
+/// first; and one to the last piece that isn't understood. And a response that is none without the
+/// first answer.
 pub fn worked_uploads()
     ensures uploaded { Uploaded }
     ensures turned_down { TurnedDown }
@@ -110,16 +111,16 @@ pub fn worked_uploads()
     ensures endless { Endless }
 {}
 
-/// After copies of an older journal's entries: a response to what is asked anew, and what repeats one of
-/// before. And a token of before, which nothing may bear any more.
+/// After copies of an older journal's entries: a response to what is asked anew, and what repeats
+/// one of before. And a token of before, which nothing may bear any more.
 pub fn worked_copies()
     ensures answered { AnsweredAnew }
     ensures repeated { Repeated }
     ensures sent_again { SentAgain }
 {}
 
-/// A response that is kept for an equal GET. And what it is kept for in vain: a GET when it is fresh no
-/// more, one after a write, and one for something else.
+/// A response that is kept for an equal GET. And what it is kept for in vain: a GET when it is
+/// fresh no more, one after a write, and one for something else.
 pub fn worked_store()
     ensures served { Served }
     ensures expired { Expired }
@@ -127,8 +128,8 @@ pub fn worked_store()
     ensures query { OtherQuery }
 {}
 
-/// A response with which a journal begins, and which is kept for an equal GET. And what it is kept for
-/// in vain, as above.
+/// A response with which a journal begins, and which is kept for an equal GET. And what it is kept
+/// for in vain, as above.
 pub fn worked_carried()
     ensures served { ServedCarried }
     ensures late { CarriedLate }
@@ -136,7 +137,8 @@ pub fn worked_carried()
     ensures overwritten { CarriedOutrun }
 {}
 
-/// A notification that is kept for an equal GET (RFC 7641 section 3.2), and one that a newer one outdates.
+/// A notification that is kept for an equal GET (RFC 7641 section 3.2), and one that a newer one
+/// outdates.
 pub fn worked_watches()
     ensures updated { Updated }
     ensures outdated { Outdated }
