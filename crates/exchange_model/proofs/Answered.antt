@@ -1,5 +1,6 @@
 -- Which of the open exchanges a message answers, and what that leaves of the others.
 use Rattle.std.proofs.Common.{◌≡◌, ℕ, Bool, true, false, not, cond, List, [], ◌∷◌, length, Option, Some, None, refl, sym, ap, subst, ◌∙◌, arith}
+use Rattle.ask_model.specs.Requests.{CoapRequest}
 use Rattle.std.specs.Prelude.{find, is_some, is_none, ◌&&◌}
 use Rattle.std.specs.List.{AllByRecursion, Contains, list_any}
 use Rattle.std.proofs.lemmas.Bool.{false≢true, not-true}
@@ -10,7 +11,7 @@ use Rattle.message_layer.specs.Hearing.{verdict_of}
 use Rattle.message_layer.specs.declared.verdict.Verdict.{Verdict}
 use Rattle.history_laws.specs.Numbering.{token_number}
 use Rattle.history_laws.specs.Readings.{Noted}
-use Rattle.history_laws.specs.Exchanges.{turn, openings, is_going, is_issued_at, issued, issued_by, waits_for, end_of, rank}
+use Rattle.history_laws.specs.Exchanges.{turn, openings, is_going, is_issued_at, issued, issued_by, waits_for, end_of, rank, opened_by, opens_by}
 use Rattle.history_laws.specs.Hearing.{repeated, can_be_remembered, answers, notice_of}
 use Rattle.history_laws.proofs.CallerLemmas.{all-of, contains-mapped, eqb-itself, going-before, issued-same, NoReply, none-some, open-exactly, sent-for, waits-first}
 use Rattle.history_links.specs.Agrees.{Start}
@@ -19,7 +20,8 @@ use Rattle.history_links.proofs.CallerLemmas.{ends_by, hit, is_to, judge, Judged
 use Rattle.exchange_model.specs.declared.kept.Exchange.{Exchange}
 use Rattle.exchange_model.specs.State.{State, link_of}
 use Rattle.exchange_model.specs.Reads.{ExchangeIn, opening_of}
-use Rattle.exchange_model.specs.Steps.{is_under, is_other, answered_in}
+use Rattle.exchange_model.specs.Steps.{is_under}
+use Rattle.exchange_model.specs.Matters.{is_other, answered_in}
 use Rattle.exchange_model.specs.Laws.{MayHear}
 use Rattle.exchange_model.proofs.Hearing.{end-kept, hit-kept, is_apart}
 use Rattle.exchange_model.proofs.Opened.{cancel, OpenIn, one-rank}
@@ -74,8 +76,12 @@ module _ (l : List Noted) (t : ℕ) (p : Peer) (d : List ℕ) (m : Content) (S :
           contains-mapped opening_of S.exchanges o
           (subst (λ (os : List ℕ). Contains os o) h.before.reads.keys ((open-exactly l o).1 (ap is_some opened, going)))
 
+  -- It opens none.
+  pub openings-same : opens_by entry.note ≡ None → openings (entry ∷ l) ≡ openings l
+  openings-same unopened = ap (λ (q : Option CoapRequest). opened_by (length l) q (openings l)) unopened
+
   -- By it no exchange goes on where each that it answers is over.
-  module _ (over : (e : Exchange) → Contains S.exchanges e → hits e.opening ≡ true → is_going (entry ∷ l) e.opening ≡ false) where
+  module _ (unopened : opens_by entry.note ≡ None) (over : (e : Exchange) → Contains S.exchanges e → hits e.opening ≡ true → is_going (entry ∷ l) e.opening ≡ false) where
     pub quiet : (o : ℕ) → is_going (entry ∷ l) o ≡ true → NoReply (turn l o entry)
     quiet o goes = by (hits o) refl
       where
@@ -87,10 +93,10 @@ module _ (l : List Noted) (t : ℕ) (p : Peer) (d : List ℕ) (m : Content) (S :
             absurd (false≢true (sym gone ∙ subst (λ (k : ℕ). is_going (entry ∷ l) k ≡ true) (sym e.2) goes))
 
     pub issued-still : issued (entry ∷ l) ≡ issued l
-    issued-still = issued-same entry l refl quiet
+    issued-still = issued-same entry l (openings-same unopened) quiet
 
     pub none-goes-on : NoneGoesOn l entry
-    none-goes-on = by (list_any (is_issued_at (entry ∷ l) (length l)) (openings l)) issued-still
+    none-goes-on = by (list_any (is_issued_at (entry ∷ l) (length l)) (openings (entry ∷ l))) issued-still
       where
         by : (b : Bool) → issued_by b (issued l) ≡ issued l → b ≡ false
         by false e = refl

@@ -245,6 +245,7 @@ told-apart l t p b m i notice legal follows a = by notice.observation refl
     by Registers e = new (registering l t m i (is.observation ∙ e))
     by Updates e = changed
     by Outdates e = changed
+    by (R.Starts ask request) e = changed
     by Cancels e = changed
 
 apart-by : (l : List Noted) (t : ℕ) (d : Deed) (note : Note) → Legal l → Follows l t d note → Apart (watches l) → Apart (watches_by l t d note (watches l))

@@ -11,7 +11,7 @@ use Rattle.journal_book.specs.Entries.{Mark, Past, Done, done_of, Deed, Asks, Se
 use Rattle.journal_book.specs.Entries as D
 use Rattle.history_laws.specs.Readings.{Noted, Note, First, Says, Bygone, Recalls}
 use Rattle.history_laws.specs.Transmissions.{FirstSending}
-use Rattle.history_laws.specs.Exchanges.{Begun, begun_by}
+use Rattle.history_laws.specs.Exchanges.{Begun, begun_by, ask_behind}
 use Rattle.history_laws.specs.Hearing.{IsReplyKind}
 use Rattle.history_laws.specs.Carrying.{asked_for, carried, carried_by, replied_by}
 use Rattle.history_laws.proofs.CallerLemmas.{carried-keeps, eqb-itself, none-some, some-is}
@@ -49,6 +49,12 @@ asked-keeps x l o b e =
       | inr w ↦ rw (w.0) (not-here (asks_by (done_of x.written.deed)) x.written.moment (asked_at l o) ∙ e)
     ]
 
+pub behind-more : (x : Noted) (l : List Noted) (o : ℕ) → o < length l → ask_behind (x ∷ l) o ≡ ask_behind l o
+behind-more x l o lt = elim (eqb_tells (length l) o) [
+  | inl w ↦ let same = w.1 in absurd (omega (arith, same, lt))
+  | inr w ↦ rw (w.0) refl
+]
+
 module _ (gs : List ℕ) where
   -- an ask for a GET, for which no other of these asks
   pub record BackedAsk (l : List Noted) (a : Ask) : Type 0 where
@@ -57,11 +63,14 @@ module _ (gs : List ℕ) where
     pub get : is_get request ≡ true
     pub once : (o : ℕ) (b : Begun) → has gs o ≡ true → asked_at l o ≡ Some b → asks_same request b.request ≡ false
 
-  -- a first sending for such an ask
+  -- a first sending for such an ask: of the exchange that goes back to it
   pub record BackedSending (l : List Noted) (p : Peer) (o : ℕ) (m : Content) : Type 0 where
+    pub opened : o < length l
+    pub ask : ℕ
+    pub back : ask_behind l o ≡ ask
     pub exchange : Begun
-    pub asked : asked_at l o ≡ Some exchange
-    pub listed : has gs o ≡ true
+    pub asked : asked_at l ask ≡ Some exchange
+    pub listed : has gs ask ≡ true
     pub peer : p ≡ exchange.request.peer
     pub manner : Manner
     pub block : Option Block
@@ -90,12 +99,19 @@ module _ (gs : List ℕ) where
   AreBacked (x ∷ older) =
       AreBacked older × (has gs (length older) ≡ true → BackedEntry older x.written.deed x.note)
 
-  module _ (f : ℕ → ℕ) (t : ℕ) where
-    -- Of each that is copied f tells where the copy stands.
+  module _ (f home : ℕ → ℕ) (t : ℕ) where
+    -- Of each that is copied f tells where the copy stands; and of an exchange home tells where that of the ask does that it
+    -- goes back to.
+    abbrev pub IsHome : List Noted → Deed → Note → Type 0
+    IsHome l (Sends p b w) (First o m) = home o ≡ f (ask_behind l o)
+    IsHome l (Carries k mark (D.Sent p b w)) (First o m) = home o ≡ f (ask_behind l o)
+    IsHome l d note = Unit {0}
+
     abbrev pub ArePlaced : List Noted → Type 0
     ArePlaced [] = Unit {0}
     ArePlaced (x ∷ older) =
-        ArePlaced older × (has gs (length older) ≡ true → f (length older) ≡ length (copied f gs t older))
+        ArePlaced older
+        × (has gs (length older) ≡ true → (f (length older) ≡ length (copied home gs t older)) × IsHome older x.written.deed x.note)
 
     -- Copies are as there may be.
 
@@ -108,7 +124,7 @@ module _ (gs : List ℕ) where
         by (Hearing p b m a) true = tt
         by k false = tt
 
-    backed-sound : (l : List Noted) (d : Deed) (note : Note) → BackedEntry l d note → IsSound (backing_copy f d note)
+    backed-sound : (l : List Noted) (d : Deed) (note : Note) → BackedEntry l d note → IsSound (backing_copy home d note)
     backed-sound l (Asks c a) note h = tt
     backed-sound l (Carries k mark (D.Asked c a)) note h = tt
     backed-sound l (Sends p b w) (First o m) h = tt
@@ -117,18 +133,18 @@ module _ (gs : List ℕ) where
     backed-sound l (Carries k mark (D.Heard p b)) (Recalls m a) h = tt
     backed-sound l d note h = absurd h
 
-    pub are-sound : (l : List Noted) → AreBacked l → AreSound f gs t l
+    pub are-sound : (l : List Noted) → AreBacked l → AreSound home gs t l
     are-sound [] h = tt
     are-sound (x ∷ older) h = (are-sound older h.0, by (has gs (length older)) h.1)
       where
-        by : (b : Bool) → (b ≡ true → BackedEntry older x.written.deed x.note) → IsSound (copy_by b f t x.written.moment x.written.deed x.note)
+        by : (b : Bool) → (b ≡ true → BackedEntry older x.written.deed x.note) → IsSound (copy_by b home t x.written.moment x.written.deed x.note)
         by true h = backed-sound older x.written.deed x.note (h refl)
         by false h = past-sound x.written.moment (kept_as x.written.deed x.note)
 
     -- Where the copy of an ask stands that ask is carried,
 
     ask-copy : (d : Deed) (note : Note) (q : CoapRequest) → asks_by (done_of d) ≡ Some q
-        → (c : ℕ) × (a : Ask) × (backing_copy f d note ≡ Some (Bare (D.Asked c a))) × (asked_for a.sense ≡ Some q)
+        → (c : ℕ) × (a : Ask) × (backing_copy home d note ≡ Some (Bare (D.Asked c a))) × (asked_for a.sense ≡ Some q)
     ask-copy (Asks c a) note q e = (c, a, refl, e)
     ask-copy (Carries k mark (D.Asked c a)) note q e = (c, a, refl, e)
     ask-copy (Carries k mark (D.Sent p b w)) note q e = absurd (none-some q e)
@@ -147,12 +163,12 @@ module _ (gs : List ℕ) where
     carried-more n s None l o b e = e
     carried-more n s (Some c) l o b e = carried-keeps (copy_as n s c) l o b e
 
-    pub carried-copied : (l : List Noted) (o : ℕ) (b : Begun) → ArePlaced l → has gs o ≡ true → asked_at l o ≡ Some b → carried (copied f gs t l) (f o) ≡ Some b
+    pub carried-copied : (l : List Noted) (o : ℕ) (b : Begun) → ArePlaced l → has gs o ≡ true → asked_at l o ≡ Some b → carried (copied home gs t l) (f o) ≡ Some b
     carried-copied [] o b placed listed e = cc
     carried-copied (x ∷ older) o b placed listed e =
         elim (eqb_tells (length older) o) [
           | inr w ↦
-              carried-more (length older) x.written.moment (copy_in f gs t (length older) x) (copied f gs t older) (f o) b
+              carried-more (length older) x.written.moment (copy_in home gs t (length older) x) (copied home gs t older) (f o) b
               (carried-copied older o b placed.0 listed (sym (not-here (asks_by (done_of x.written.deed)) x.written.moment (asked_at older o)) ∙ (rw (w.0) at e)))
           | inl w ↦ by (asks_by (done_of x.written.deed)) refl w.1 (rw (w.0) at e)
         ]
@@ -164,16 +180,16 @@ module _ (gs : List ℕ) where
         s = x.written.moment
 
         by : (v : Option CoapRequest) → asks_by (done_of x.written.deed) ≡ v → n ≡ o → begun_by v true s (asked_at older o) ≡ Some b
-            → carried (copied f gs t (x ∷ older)) (f o) ≡ Some b
+            → carried (copied home gs t (x ∷ older)) (f o) ≡ Some b
         by None is same e = absurd (let below = asked-below older o b e in omega (arith, below, same))
         by (Some q) is same e =
             let it = ask-copy x.written.deed x.note q is in
             let mine : has gs n ≡ true = ap (has gs) same ∙ listed in
-            let copy : copy_in f gs t n x ≡ Some (Bare (D.Asked it.0 it.1)) =
-            ap (λ (b : Bool). copy_by b f t s x.written.deed x.note) mine ∙ it.2 in
-            let place : length (copied f gs t older) ≡ f o = sym (placed.1 mine) ∙ ap f same in
-            subst (λ (k : ℕ). carried (copied f gs t (x ∷ older)) k ≡ Some b) place
-            (carried-here n s (copy_in f gs t n x) it.0 it.1 q (copied f gs t older) copy it.3 ∙ e)
+            let copy : copy_in home gs t n x ≡ Some (Bare (D.Asked it.0 it.1)) =
+            ap (λ (b : Bool). copy_by b home t s x.written.deed x.note) mine ∙ it.2 in
+            let place : length (copied home gs t older) ≡ f o = sym (placed.1 mine).0 ∙ ap f same in
+            subst (λ (k : ℕ). carried (copied home gs t (x ∷ older)) k ≡ Some b) place
+            (carried-here n s (copy_in home gs t n x) it.0 it.1 q (copied home gs t older) copy it.3 ∙ e)
 
     -- and none is carried else.
 
@@ -200,7 +216,7 @@ module _ (gs : List ℕ) where
     same-ask : (d c : ℕ) (e a : Ask) → Some (Bare (D.Asked d e)) ≡ Some (Bare (D.Asked c a)) → e ≡ a
     same-ask d c e a is = cc
 
-    backing-ask : (d : Deed) (note : Note) (c : ℕ) (a : Ask) → backing_copy f d note ≡ Some (Bare (D.Asked c a)) → asks_by (done_of d) ≡ asked_for a.sense
+    backing-ask : (d : Deed) (note : Note) (c : ℕ) (a : Ask) → backing_copy home d note ≡ Some (Bare (D.Asked c a)) → asks_by (done_of d) ≡ asked_for a.sense
     backing-ask (Asks d e) note c a is = ap (λ (v : Ask). asked_for v.sense) (same-ask d c e a is)
     backing-ask (Sends p b w) (First o m) c a is = absurd cc
     backing-ask (Sends p b w) note c a is = absurd cc
@@ -214,7 +230,7 @@ module _ (gs : List ℕ) where
     backing-ask (Carries k mark (D.Asked d e)) note c a is = ap (λ (v : Ask). asked_for v.sense) (same-ask d c e a is)
     backing-ask d note c a is = absurd cc
 
-    copied-ask : (b : Bool) (s : ℕ) (d : Deed) (note : Note) (c : ℕ) (a : Ask) → copy_by b f t s d note ≡ Some (Bare (D.Asked c a))
+    copied-ask : (b : Bool) (s : ℕ) (d : Deed) (note : Note) (c : ℕ) (a : Ask) → copy_by b home t s d note ≡ Some (Bare (D.Asked c a))
         → (b ≡ true) × (asks_by (done_of d) ≡ asked_for a.sense)
     copied-ask true s d note c a is = (refl, backing-ask d note c a is)
     copied-ask false s d note c a is = absurd (past-ask s (kept_as d note) c a is)
@@ -267,10 +283,10 @@ module _ (gs : List ℕ) where
               place = w.1;
             })
 
-    pub carried-back : (l : List Noted) (k : ℕ) (b : Begun) → ArePlaced l → carried (copied f gs t l) k ≡ Some b → IsCopiedAsk l k b
+    pub carried-back : (l : List Noted) (k : ℕ) (b : Begun) → ArePlaced l → carried (copied home gs t l) k ≡ Some b → IsCopiedAsk l k b
     carried-back [] k b placed e = cc
     carried-back (x ∷ older) k b placed e =
-        elim (carried-cases n s (copy_in f gs t n x) (copied f gs t older) k b e) [
+        elim (carried-cases n s (copy_in home gs t n x) (copied home gs t older) k b e) [
           | inl w ↦ older-ask x older k b (carried-back older k b placed.0 w)
           | inr w ↦
               let it = copied-ask (has gs n) s x.written.deed x.note w.conn w.ask w.is in
@@ -280,7 +296,7 @@ module _ (gs : List ℕ) where
                 listed = it.0;
                 asked =
                     rw (eqb-itself n) (ap (λ (v : Option CoapRequest). begun_by v true s (asked_at older n)) (it.1 ∙ w.sense) ∙ begun);
-                place = placed.1 it.0 ∙ w.place;
+                place = (placed.1 it.0).0 ∙ w.place;
               }
         ]
       where

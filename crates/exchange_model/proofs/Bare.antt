@@ -10,7 +10,7 @@ use Rattle.blockwise.specs.declared.upload.Answered.{Answered}
 use Rattle.blockwise.specs.declared.upload.Answered.TheVariants as A
 use Rattle.history_laws.specs.Responses.{response_of, is_tellable}
 use Rattle.history_laws.specs.Progress.{Reply, numbers, messages, Ending, Whole, Renewed, NotUnderstood, Reset, TimedOut, Turned, Progress, Fetches, Gives, Ends, answered_so, anew, fetched_by, fetched_whole, step}
-use Rattle.exchange_model.specs.Steps.{got_by}
+use Rattle.exchange_model.specs.Hearing.{got_by}
 use Rattle.history_laws.specs.Observing.{as_first, first_reply}
 use Rattle.resp_cache.specs.Stored.{Stored}
 

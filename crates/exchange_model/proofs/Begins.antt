@@ -24,14 +24,14 @@ use Rattle.ask_model.specs.Observing.{may_observe}
 use Rattle.ask_model.specs.Sharing.{asked_key, asked_place, is_get}
 use Rattle.journal_book.specs.Entries.{Asks, Written}
 use Rattle.history_laws.specs.Numbering.{token_number}
-use Rattle.history_laws.specs.Readings.{Noted, Begins, before, noted, Note, Renews}
+use Rattle.history_laws.specs.Readings.{Noted, Begins, noted, Note, Renews}
 use Rattle.history_laws.specs.Transmissions.{FirstSending, firsts, first_at, bears_token}
 use Rattle.history_laws.specs.Exchanges.{Begun, openings, is_going, is_waiting, waiting, kept_by}
-use Rattle.history_laws.specs.Observing.{asked_last, is_for, most_watches, observes, wants_by, watches, Watch, asked_by, asked_last_by, counting, manner_by, tag_of, would_observe, outdated}
+use Rattle.history_laws.specs.Observing.{asked_last, is_for, most_watches, wants_by, watches, Watch, asked_by, asked_last_by, counting, manner_by, tag_of, would_observe, outdated}
 use Rattle.history_laws.specs.Hearing.{went_under, has_room}
 use Rattle.history_laws.specs.Justified.{Follows, AskNote, Legal, MissNote, UnservedNote}
 use Rattle.history_laws.specs.Exchanges as H
-use Rattle.history_laws.proofs.CallerLemmas.{all-more, all-push, at-new, begun-below, contains-none, none-outran, entries-length, eqb-itself, filter-push, first-or-later, not-yet, opened-issued, opened-rank, rank-below, replies-none, unbegun, waiting-all, waiting-goes, all-of, find-some, none-some, some-is}
+use Rattle.history_laws.proofs.CallerLemmas.{all-more, all-push, at-new, begins-at, begun-below, behind-at, contains-none, none-outran, entries-length, eqb-itself, filter-push, first-or-later, not-yet, opened-issued, opened-rank, rank-below, replies-none, unbegun, waiting-all, waiting-goes, all-of, find-some, none-some, some-is}
 use Rattle.history_links.specs.Agrees.{Start, WaitIn, IsWaitingFor, Agrees, awaits}
 use Rattle.history_links.specs.Steps.{Forgets, IsOpening, first_manner}
 use Rattle.history_links.proofs.CallerLemmas.{ask-elsewhere, awaited-same, queued-agrees, begun-here, kept-here, opens-for, wants-here}
@@ -39,7 +39,8 @@ use Rattle.exchange_model.specs.declared.kept.Exchange.{Exchange}
 use Rattle.exchange_model.specs.State.{PeerLink, State, link_of, with_link}
 use Rattle.exchange_model.specs.Watching.{is_one_of, is_renewed_by, tokens_of, wants}
 use Rattle.exchange_model.specs.Reads.{ExchangeIn, got_in, held_of, IsNewest, WaitsUnder, opening_of, Reads, PairIn, StalesIn, kept_in, kept_yet, reader_at, readers_by, readers_of}
-use Rattle.exchange_model.specs.Steps.{as_pieces, exchange_for, numbers_of, unwatched, asks_so, if_tagged, kept_for, opening_note, stale_for, stale_in}
+use Rattle.exchange_model.specs.Steps.{as_pieces, exchange_for, unwatched, asks_so, if_tagged, kept_for, opening_note, stale_for}
+use Rattle.exchange_model.specs.Matters.{numbers_of, stale_in}
 use Rattle.history_laws.specs.Progress.{Reply, numbers}
 use Rattle.exchange_model.specs.Laws.{BeginsLeads}
 use Rattle.exchange_model.proofs.Pieces.{got-new, first-progress, none-of-new, pieces-quiet, unsent-new}
@@ -217,6 +218,15 @@ watched-note : (t : ℕ) (s : Sense) (q : CoapRequest) (v : Option Stored) (ws :
 watched-note t s q None ws e = ap (λ (z : Sense). asked_by t z (Begins q) ws) e
 watched-note t s q (Some u) ws e = ap (λ (z : Sense). asked_by t z (Renews q u) ws) e
 
+-- It begins with nothing, and goes back to itself.
+nothing-note : (n : ℕ) (q : CoapRequest) (v : Option Stored) → H.begins_by n (opening_note q v) ≡ []
+nothing-note n q None = refl
+nothing-note n q (Some s) = refl
+
+own-note : (n : ℕ) (q : CoapRequest) (v : Option Stored) → H.ask_by n (opening_note q v) ≡ n
+own-note n q None = refl
+own-note n q (Some s) = refl
+
 silent-note : (l : List Noted) (q : CoapRequest) (v : Option Stored) → counting l (opening_note q v) ≡ None
 silent-note l q None = refl
 silent-note l q (Some s) = refl
@@ -274,6 +284,8 @@ begins-leads l t c a q token text word S b may who sense misses alone room short
     let begun-new : H.begun n (length l) ≡ Some (record { since = t; request = q }) = begun-here l t c a q note open_it.opens in
     let begins : is_some (H.begun n (length l)) ≡ true = ap is_some begun-new in
     let unreplied = (replies-none l (length l) r.legal (not-yet l)).1 in
+    let unheard : H.heard_for n (length l) ≡ [] =
+    ap (λ (bs : List Reply). bs ++ H.replies n (length l)) (begins-at n (length l) x (at-new x l) ∙ nothing-note (length l) q old_one) ∙ unreplied in
     let kept-new : kept_in n (length l) ≡ old_one = ap (λ (rs : List Reply). kept_yet (H.kept n (length l)) rs) unreplied ∙ (kept-here l t c a note ∙ kept-note q old_one) in
     record {
       follows = follows;
@@ -309,23 +321,19 @@ begins-leads l t c a q token text word S b may who sense misses alone room short
               sent = fresh;
               short = short;
               digests = refl;
-              progress = first-progress n (length l) t q begun-new unreplied;
+              progress = first-progress n (length l) t q begun-new unheard;
               current = ap not (sym (none-outran n (asked_place q) (length l) (omega arith)));
               newest = λ get. subst (λ (rs : List Reply). IsNewest n (asked_key q) rs true)
-                  (sym (got-new n (length l) t q begun-new unreplied)) tt;
+                  (sym (got-new n (length l) t q begun-new unheard)) tt;
               newest_kept = λ s k.
                   let it = asks-about l t a q s S r (sym kept-new ∙ k) in
                   outdated-quiet x l (asked_key q) (first_in s.list) quiet_it
                   ∙ (ap (λ (v : Stored). outdated l (asked_key q) (first_in v.list)) it.pieces ∙ pieces-newest l q it.stored r.legal it.is);
-              conn = c;
-              ask = a;
-              note = note;
-              opens = opens_as;
-              stands = at-new x l;
+              behind = behind-at n (length l) x (at-new x l) ∙ own-note (length l) q old_one ∙ sym here;
             }));
         pieces_are = (let old = pieces-quiet x l S.exchanges S.pieces (OpenIn b.reads.start l) (λ y h. (_, h.0.opening)) (λ y h. refl) (open-ones l S r) r.pieces_are in record {
           fetched = all-push (λ (y : Exchange). numbers (got_in n y.opening) ≡ numbers_of y.opening S.pieces) S.exchanges e old.fetched
-              (subst (λ (k : ℕ). numbers (got_in n k) ≡ numbers_of k S.pieces) (sym here) (ap numbers (got-new n (length l) t q begun-new unreplied) ∙ sym (none-of-new (length l) S.pieces r.pieces_are.below)));
+              (subst (λ (k : ℕ). numbers (got_in n k) ≡ numbers_of k S.pieces) (sym here) (ap numbers (got-new n (length l) t q begun-new unheard) ∙ sym (none-of-new (length l) S.pieces r.pieces_are.below)));
           below = old.below;
         });
         stales_are = subst (λ (k : ℕ). StalesIn n (S.exchanges ++ e ∷ []) (S.stales ++ stale_for k old_one)) (sym here) (record {

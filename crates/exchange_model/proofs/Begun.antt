@@ -23,7 +23,8 @@ use Rattle.observe_share.specs.declared.registration.Registration.{Registration}
 use Rattle.exchange_model.specs.declared.kept.Exchange.{Exchange}
 use Rattle.exchange_model.specs.declared.kept.Reader.{Reader}
 use Rattle.exchange_model.specs.State.{PeerLink, State, link_of, with_link}
-use Rattle.exchange_model.specs.Steps.{Numbers, exchange_for, begins, entered, given_out, is_under, unwatched, went_out}
+use Rattle.exchange_model.specs.Steps.{exchange_for, begins, entered, given_out, is_under, unwatched, went_out}
+use Rattle.exchange_model.specs.Hearing.{Numbers}
 use Rattle.exchange_model.specs.Reads.{Reads}
 use Rattle.exchange_model.specs.Watching.{is_one_of, is_renewed_by, tokens_of, touched}
 use Rattle.exchange_model.proofs.Apart.{under-of}

@@ -152,9 +152,9 @@ alike-get q r e =
 abbrev pub IsShortFor : List Noted → ℕ → Type 0
 IsShortFor l o = (b : Begun) → begun_in l o ≡ Some b → eqb b.request.method 1 ≡ false → length b.request.body ≤ 65536
 
-pub ends-few : (l : List Noted) (o e : ℕ) (w : Response) (rs : List Reply) → IsShortFor l o → Ends l o e (Whole w rs) → length (numbers rs) ≤ 4097
-ends-few l o e w rs short h =
-    let it = ends-all l o e w rs h in
+pub ends-few : (l : List Noted) (o e : ℕ) (w : Response) (rs : List Reply) → Legal l → IsShortFor l o → Ends l o e (Whole w rs) → length (numbers rs) ≤ 4097
+ends-few l o e w rs legal short h =
+    let it = ends-all l o e w rs legal h in
     let few = whole-few it.exchange.request (messages rs) w (short it.exchange it.opened) it.whole in
     let one = length-map rs (λ (r : Reply). r.message) in
     let two = length-map rs (λ (r : Reply). r.number) in
@@ -165,21 +165,25 @@ abbrev pub TellsFew : Ending → Type 0
 TellsFew (Renewed s u) = length s.list ≤ 4097
 TellsFew how = Unit {0}
 
+-- and few are whole
+abbrev pub WholeOfFew : Ending → Type 0
+WholeOfFew (Whole w rs) = length (numbers rs) ≤ 4097
+WholeOfFew how = Unit {0}
+
 -- so of what an exchange ended with
-pub ends-brief : (l : List Noted) (o n : ℕ) (how : Ending) (sending : Option ℕ) (r : Reader) → IsShortFor l o → TellsFew how → Ends l o n how
-    → grounds_size (grounds_for how n sending r) ≤ 16392
-ends-brief l o n (Whole w rs) sending r short tells h = let few = ends-few l o n w rs short h in omega (arith, few)
-ends-brief l o n (Renewed s u) sending r short tells h =
+pub ends-brief : (n : ℕ) (how : Ending) (sending : Option ℕ) (r : Reader) → WholeOfFew how → TellsFew how → grounds_size (grounds_for how n sending r) ≤ 16392
+ends-brief n (Whole w rs) sending r few tells = omega (arith, few)
+ends-brief n (Renewed s u) sending r few tells =
     let more = length-append s.list (u.number ∷ []) in
     omega (arith, tells, more)
-ends-brief l o n NotUnderstood sending r short tells h = omega arith
-ends-brief l o n Reset sending r short tells h = omega arith
-ends-brief l o n TimedOut sending r short tells h = omega arith
-ends-brief l o n Turned sending r short tells h = omega arith
+ends-brief n NotUnderstood sending r few tells = omega arith
+ends-brief n Reset sending r few tells = omega arith
+ends-brief n TimedOut sending r few tells = omega arith
+ends-brief n Turned sending r few tells = omega arith
 
 -- and of what is stored
-brought-few : (l : List Noted) (q : CoapRequest) (s : Stored) → IsBrought l q s → length s.list ≤ 4097
-brought-few l q s a =
+brought-few : (l : List Noted) (q : CoapRequest) (s : Stored) → Legal l → IsBrought l q s → length s.list ≤ 4097
+brought-few l q s legal a =
     let few = by a.comes in
     let same = ap (λ (js : List ℕ). length js) a.list in
     omega (arith, few, same)
@@ -191,14 +195,14 @@ brought-few l q s a =
 
     -- a notification is one message
     by : ComesSo l a.opening a.ending s.response (a.first ∷ a.more) → length (numbers (a.first ∷ a.more)) ≤ 4097
-    by (inl so) = ends-few l a.opening a.ending s.response (a.first ∷ a.more) get so.ended
+    by (inl so) = ends-few l a.opening a.ending s.response (a.first ∷ a.more) legal get so.ended
     by (inr told) =
         let one = ap (λ (rs : List Reply). length (numbers rs)) (first-whole a.ending told.sending told.message s.response (a.first ∷ a.more) told.whole) in
         omega (arith, one)
 
-heard-few : (l : List Noted) (q : CoapRequest) (s : Stored) → IsAsHeard l q s → length s.list ≤ 4097
-heard-few l q s (inl a) = brought-few l q s a
-heard-few l q s (inr a) =
+heard-few : (l : List Noted) (q : CoapRequest) (s : Stored) → Legal l → IsAsHeard l q s → length s.list ≤ 4097
+heard-few l q s legal (inl a) = brought-few l q s legal a
+heard-few l q s legal (inr a) =
     let rs : List Reply = a.first ∷ a.more in
     let get : eqb a.carries.exchange.request.method 1 ≡ true = alike-get q a.carries.exchange.request a.same in
     let few = whole-few a.carries.exchange.request (messages rs) s.response (λ write. absurd (false≢true (sym write ∙ get))) a.carries.whole in
@@ -226,7 +230,7 @@ renewed-pieces-are l q e legal a =
 pub pieces-few : (fuel : ℕ) (l : List Noted) (q : CoapRequest) (s : Stored) → length l < fuel → Legal l → IsStored l q s → length (pieces_in l s.list) ≤ 4097
 pieces-few zero l q s lt legal is = absurd (omega (arith, lt))
 pieces-few (suc fuel) l q s lt legal (inl it) =
-    let few = heard-few l q s (heard-of l q s it) in
+    let few = heard-few l q s legal (heard-of l q s it) in
     let less = fewer (λ (j : ℕ). not (is_valid_in (at l j))) s.list in
     omega (arith, few, less)
 pieces-few (suc fuel) l q s lt legal (inr it) =
@@ -248,7 +252,7 @@ kept-few l o b s legal it =
     omega (arith, few, same)
 
 pub stored-few : (l : List Noted) (q : CoapRequest) (s : Stored) → Legal l → IsStored l q s → length s.list ≤ 4098
-stored-few l q s legal (inl it) = let few = heard-few l q s (heard-of l q s it) in omega (arith, few)
+stored-few l q s legal (inl it) = let few = heard-few l q s legal (heard-of l q s it) in omega (arith, few)
 stored-few l q s legal (inr it) =
     let f = renewal-for l q it.ending legal it.renewal in
     let few = kept-few l it.renewal.opening f.exchange it.renewal.kept legal f.renews in

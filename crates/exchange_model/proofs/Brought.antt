@@ -16,7 +16,7 @@ use Rattle.ask_model.proofs.CallerLemmas.{same-key}
 use Rattle.history_laws.specs.Readings.{Noted, at}
 use Rattle.history_laws.specs.Responses.{Response, renewed_response}
 use Rattle.history_laws.specs.Progress.{Reply, numbers, Renewed}
-use Rattle.history_laws.specs.Exchanges.{Begun, begun, end_of}
+use Rattle.history_laws.specs.Exchanges.{Begun, begun, end_of, ask_behind}
 use Rattle.history_laws.specs.Joining.{asks_the_same, outrun, is_joinable}
 use Rattle.history_laws.specs.Observing.{outdated}
 use Rattle.history_laws.specs.Storing.{ComesSo, IsStored, IsUse, IsCrowdedOut, IsRenewal, first_in, renewed_list}
@@ -171,7 +171,7 @@ module _ (x : Noted) (l : List Noted) (S : State) (r : Reads l S) (legal : Legal
 module _ (x : Noted) (l : List Noted) (legal : Legal (x ∷ l)) (quiet : NotServing x.written.deed x.note)
     (q : CoapRequest) (o : ℕ) (w : Response) (first : Reply) (more : List Reply) (b : Brings x l q o w first more) where
   abbrev pub came : Stored
-  came = record { response = w; opening = o; heard = b.entry.written.moment; list = numbers (first ∷ more) }
+  came = record { response = w; opening = ask_behind (x ∷ l) o; heard = b.entry.written.moment; list = numbers (first ∷ more) }
 
   -- Another GET that it may answer has its key.
   same-request : (k : CoapRequest) (p : ℕ) (v : Response) (ts : List Reply) → ComesSo (x ∷ l) p (length l) v ts → is_joinable (x ∷ l) k p ≡ true → asked_key k ≡ asked_key q

@@ -29,6 +29,6 @@ pub use Rattle.exchange_model.proofs.TickEnters.{stays-drained, ticks-enter}
 pub use Rattle.exchange_model.proofs.Ticking.{ticks-do}
 pub use Rattle.exchange_model.proofs.TurnedRoom.{rotates-drained, rotates-in-room}
 pub use Rattle.exchange_model.proofs.OverTold.{EndsConfirmed, EndsWhole, over-heard, over-renewed}
-pub use Rattle.exchange_model.proofs.Works.{all-asked-for, all-digested, comes-get, restarts-few, work-of}
+pub use Rattle.exchange_model.proofs.Works.{all-asked-for, all-digested, all-watched-for, comes-get, restarts-few, work-of}
 pub use Rattle.exchange_model.proofs.Opened.{OpenIn, open-ones}
 pub use Rattle.exchange_model.proofs.Handed.{asks-get, fetched-count, reset-notes}

@@ -26,7 +26,9 @@ use Rattle.journal_book.specs.Entries.{Kept, Fault}
 use Rattle.history_laws.specs.Progress.{Progress}
 use Rattle.history_laws.specs.Readings.{Noted}
 use Rattle.exchange_model.specs.Watching.{is_one_of}
-use Rattle.exchange_model.specs.Steps.{gone_by, Numbers, Matter, Nothing, Tells, Goes, Over, more_by, link_with, matter_of, recalls, joins, opens, asks, begins, hears, hears_nothing, unwatched}
+use Rattle.exchange_model.specs.Steps.{recalls, joins, opens, asks, begins, hears_nothing, unwatched}
+use Rattle.exchange_model.specs.Matters.{Matter, Nothing, Tells, Goes, Over, matter_of, Starts}
+use Rattle.exchange_model.specs.Hearing.{gone_by, Numbers, more_by, link_with, hears}
 use Rattle.exchange_model.specs.Calls.{served_in, serves, asked_for, joined, asked_with, next, refused, has_place, asked_by, asked, given_back, takes_new, takes_by, repeats, resets, reads_so, goes_with, goes_as, goes_by, heard}
 use Rattle.exchange_model.specs.declared.kept.Conn.{Conn}
 use Rattle.exchange_model.specs.declared.kept.Exchange.{Exchange}
@@ -155,14 +157,15 @@ answered-adds t p d mid r S h short =
     (both-add 1 2112 1 68 S (hears_nothing t p d S) _ one
     (given-adds t p mid r (hears_nothing t p d S) h))
 
--- The message that an exchange goes on with is short.
+-- The message that an exchange goes on or begins with is short.
 abbrev pub IsShortBy : Matter → Numbers → Type 0
-IsShortBy x n = (e : Exchange) (progress : Progress) → x ≡ Goes e progress → length n.text ≤ 2024
+IsShortBy x n = (e : Exchange) (progress : Progress) → goes_with x ≡ Some (e, progress) → length n.text ≤ 2024
 
 short-more : (t : ℕ) (x : Matter) (n : Numbers) (s : LinkState) → IsShortBy x n → IsShort s → IsShort (link_with t (more_by n x) s)
 short-more t Nothing n s h short = short
 short-more t (Tells r stored) n s h short = short
 short-more t (Over e how) n s h short = short
+short-more t (Starts r e progress) n s h short = short-queued t s n.token n.text n.word short (h e progress refl)
 short-more t (Goes e progress) n s h short = short-queued t s n.token n.text n.word short (h e progress refl)
 
 new-adds : (t : ℕ) (p : Peer) (d : List ℕ) (m : Content) (v : Verdict) (n : Numbers) (S : State) → Tidy S.links
@@ -204,7 +207,7 @@ heard-adds t p d n S h served little brief = by (is_some (link_of S.links p).las
     brings m is again e progress at =
         little (ap (λ (r : Result Content CodecFault). is_some (goes_as t p r S)) is
         ∙ (ap (λ (b : Bool). is_some (cond b None (goes_with (matter_of t p m (verdict_of t s m) S)))) again
-        ∙ ap (λ (x : Matter). is_some (goes_with x)) at))
+        ∙ ap is_some at))
 
     by : (b : Bool) → is_some s.last_mid ≡ b → (c : Bool) → leb (length d) 2048 ≡ c
         → Adds 3 4268 S (cond (b && c) (reads_so t p d n (message_at d) S) S)

@@ -12,11 +12,11 @@ use Rattle.journal_book.specs.Entries.{Hears, Sends}
 use Rattle.history_laws.specs.Readings.{First, Noted, Notice, Says, at, before, noted}
 use Rattle.history_laws.specs.Responses.{Response}
 use Rattle.history_laws.specs.Progress.{Reply, Whole}
-use Rattle.history_laws.specs.Exchanges.{Begun, End, begun, end_here, end_of, kept, replies, turn}
+use Rattle.history_laws.specs.Exchanges.{Begun, End, begun, end_here, end_of, kept, replies, turn, heard_for, Replied}
 use Rattle.history_laws.specs.Observing.{counting, outdated, outdates, watch_under}
 use Rattle.history_laws.specs.Storing.{ComesSo, EndsSo, UpdatesSo}
 use Rattle.history_laws.specs.Justified.{Legal}
-use Rattle.history_laws.proofs.CallerLemmas.{at-below, at-new, at-old, before-keeps, before-new, begun-before, comes-since, end-below, end-old, ended-begun, ends-all, find-some, legal-before, never-both, none-some, one-update, outdated-keeps, replies-fit, some-is, unended, watch-fits}
+use Rattle.history_laws.proofs.CallerLemmas.{at-below, at-new, at-old, before-keeps, before-new, begun-before, comes-since, end-below, end-old, ended-begun, find-some, legal-before, never-both, none-some, one-update, outdated-keeps, replies-fit, some-is, unended, watch-fits, ends-whole, turn-replied, waits-first}
 
 -- What was heard in it stands before the end of the history.
 pub comes-below : (l : List Noted) (o e : ℕ) (w : Response) (rs : List Reply) → ComesSo l o e w rs → e < length l
@@ -28,7 +28,7 @@ comes-keeps x l o e w rs h =
     comes-since (x ∷ l) (length l) x o e w rs (at-new x l) (subst (λ (k : List Noted). ComesSo k o e w rs) (sym (before-new x l)) h)
 
 pub comes-back : (x : Noted) (l : List Noted) (o e : ℕ) (w : Response) (rs : List Reply) → ComesSo (x ∷ l) o e w rs → e ≢ length l → ComesSo l o e w rs
-comes-back x l o e w rs (inl h) other = elim (end-old (end_here (begun l o) (kept l o) (length l) (replies l o) (turn l o x)) (length l) (end_of l o) _ h.ended) [
+comes-back x l o e w rs (inl h) other = elim (end-old (end_here (begun l o) (kept l o) (length l) (heard_for l o) (turn l o x)) (length l) (end_of l o) _ h.ended) [
   | inl old ↦ inl (record { ended = old; code = h.code })
   | inr new ↦ absurd (other (sym new.1))
 ]
@@ -140,12 +140,31 @@ opened-by-one l o p r v legal has had number =
         firsts-of : First o m ≡ First k n → o ≡ k
         firsts-of h = cc
 
+-- An entry is a reply to one exchange.
+pub one-turn : (l : List Noted) (o p : ℕ) (x : Noted) (i j : ℕ) (m n : Content) (a b : Bool) → turn l o x ≡ Replied i m a → turn l p x ≡ Replied j n b → o ≡ p
+one-turn l o p x i j m n a b one other =
+    let f = turn-replied l o x i m a one in
+    let g = turn-replied l p x j n b other in
+    let sending : i ≡ j = said m n i j f.notice g.notice (ap (λ (x : Noted). x.note) (sym f.entry ∙ g.entry)) in
+    let first = waits-first l o i f.waited in
+    let second = waits-first l p j g.waited in
+    sent (some-is _ _ (sym first.3.stands ∙ (ap (at l) sending ∙ second.3.stands)))
+  where
+    said : (m n : Content) (i j : ℕ) (f g : Notice) → Says m (Some i) f ≡ Says n (Some j) g → i ≡ j
+    said m n i j f g h = cc
+
+    sent : {s t : ℕ} {q r : Peer} {c d : List ℕ} {w z : Option ℕ} {m n : Content} → noted s (Sends q c w) (First o m) ≡ noted t (Sends r d z) (First p n) → o ≡ p
+    sent {m = m} {n = n} e = firsts-of m n (ap (λ (x : Noted). x.note) e)
+      where
+        firsts-of : (m n : Content) → First o m ≡ First p n → o ≡ p
+        firsts-of m n h = cc
+
 one-end : (l : List Noted) (o p e : ℕ) (w v : Response) (rs ts : List Reply) → Legal l → EndsSo l o e w rs → EndsSo l p e v ts → Same o p w v rs ts
 one-end l o p e w v rs ts legal a b =
-    let one = ends-all l o e w rs a.ended in
-    let other = ends-all l p e v ts b.ended in
-    let opening = opened-by-one l o p one.last other.last legal (one.listed one.last (is-last-of one.others one.last rs one.all))
-    (other.listed other.last (is-last-of other.others other.last ts other.all)) (one.number ∙ sym other.number) in
+    let one = ends-whole l o e w rs legal a.ended in
+    let other = ends-whole l p e v ts legal b.ended in
+    let opening = one-turn (before l e) o p one.entry one.turned.sending other.turned.sending one.turned.message other.turned.message one.turned.place other.turned.place
+    one.turned.is (subst (λ (x : Noted). turn (before l e) p x ≡ Replied other.turned.sending other.turned.message other.turned.place) (some-is _ _ (sym other.stands ∙ one.stands)) other.turned.is) in
     let how = whole-same (ap (λ (z : End). z.how) (some-is _ _ (sym a.ended ∙ (ap (end_of l) opening ∙ b.ended)))) in
     record { opening = opening; response = how.0; replies = how.1 }
   where

@@ -52,7 +52,8 @@ stored-tells l S reads q s (inl it) j has = by (heard-of l q s it)
     by (inl a) =
         let found = number-of (a.first ∷ a.more) j (subst (λ (js : List ℕ). Contains js j) a.list has) in
         subst (IsTelling l S) found.2
-        (heard-tells l S reads a.opening found.0 (comes-fit l a.opening a.ending s.response (a.first ∷ a.more) found.0 reads.legal a.comes found.1))
+        (let fit = comes-fit l a.opening a.ending s.response (a.first ∷ a.more) found.0 reads.legal a.comes found.1 in
+        heard-tells l S reads fit.owner found.0 fit.fits)
     by (inr a) =
         let found = number-of (a.first ∷ a.more) j (subst (λ (js : List ℕ). Contains js j) a.list has) in
         subst (IsTelling l S) found.2

@@ -20,7 +20,8 @@ use Rattle.message_layer.specs.declared.verdict.Verdict.{Verdict}
 use Rattle.history_laws.specs.Hearing.{is_such}
 use Rattle.exchange_model.specs.declared.kept.Exchange.{Exchange}
 use Rattle.exchange_model.specs.State.{State, link_of}
-use Rattle.exchange_model.specs.Steps.{Numbers, hears_nothing, is_gone, is_under, is_unwatched, expires, timed_out}
+use Rattle.exchange_model.specs.Steps.{hears_nothing, is_under}
+use Rattle.exchange_model.specs.Hearing.{Numbers, is_gone, is_unwatched, expires, timed_out}
 use Rattle.exchange_model.specs.Calls.{given_back, takes_by, repeats, reads_so}
 use Rattle.exchange_model.specs.Watching.{is_one_of, tokens_of}
 use Rattle.exchange_model.specs.Entering.{token_of, DroppedStays, GoneTokens}

@@ -11,7 +11,7 @@ use Rattle.observe_share.specs.Watches.{is_idle}
 use Rattle.history_links.specs.Steps.{is_over}
 use Rattle.exchange_model.specs.declared.kept.Exchange.{Exchange}
 use Rattle.exchange_model.specs.State.{PeerLink, link_of}
-use Rattle.exchange_model.specs.Steps.{is_past, is_in_vain, expires}
+use Rattle.exchange_model.specs.Hearing.{is_past, is_in_vain, expires}
 use Rattle.exchange_model.specs.Calls.{is_due, link_due}
 use Rattle.exchange_model.specs.Due.{earlier, earliest, timer, deadline, has_come, idle_from, NextDue}
 use Rattle.exchange_model.proofs.Ticking.{undue-link}

@@ -13,7 +13,7 @@ use Rattle.message_layer.specs.Hearing.{is_outstanding_under}
 use Rattle.message_layer.specs.declared.state.Outstanding.{Outstanding}
 use Rattle.history_laws.specs.Readings.{Noted}
 use Rattle.history_laws.specs.Transmissions.{bears_token, FirstSending, firsts, first_at, Transmission, transmission, given_up, if_outstanding, outstanding}
-use Rattle.history_laws.specs.Exchanges.{begun, is_late, expires as ends_at, waits_for, Turn, Sent, Replied, Rejected, Expired, Nothing, turn, waits_by, replies, end_here, end_by, end_of, open_exchanges, kept as kept_of}
+use Rattle.history_laws.specs.Exchanges.{begun, is_late, expires as ends_at, waits_for, Turn, Sent, Replied, Rejected, Expired, Nothing, turn, waits_by, end_here, end_by, end_of, open_exchanges, kept as kept_of, heard_for}
 use Rattle.history_laws.specs.Justified.{Follows, Legal}
 use Rattle.history_laws.specs.Laws.{IsFirst}
 use Rattle.history_laws.proofs.CallerLemmas.{all-more, all-of, any-of, find-some, watch-fits, WatchFits, contains-mapped, contains-none, first-is, first-or-later, first-waits, may-be, none-is, open-exactly, outstanding-last, sent-for, some-is, turn-sent, waiting-goes, waits-first, way-first}
@@ -23,7 +23,8 @@ use Rattle.history_links.proofs.CallerLemmas.{is-outstanding, one-token, out-fir
 use Rattle.exchange_model.specs.declared.kept.Exchange.{Exchange}
 use Rattle.exchange_model.specs.State.{PeerLink, State, link_of}
 use Rattle.exchange_model.specs.Reads.{IsSentUnder, ExchangeIn, opening_of, Reads, awaited_by}
-use Rattle.exchange_model.specs.Steps.{is_under, is_past, expires, is_gone, is_unwatched}
+use Rattle.exchange_model.specs.Steps.{is_under}
+use Rattle.exchange_model.specs.Hearing.{is_past, expires, is_gone, is_unwatched}
 use Rattle.exchange_model.specs.Watching.{is_one_of, tokens_of}
 use Rattle.exchange_model.proofs.Apart.{unawaited-by, under-of}
 use Rattle.exchange_model.proofs.Watches.{gone-stands, IsStanding, or-no}
@@ -103,7 +104,7 @@ expires-alike l t links e legal agrees a = by e.awaits e.sending a.named a.sent 
 -- What awaits a reply goes on.
 
 going-step : (x : Noted) (l : List Noted) (o i : ℕ) → Follows l x.written.moment x.written.deed x.note → (waits_for l o ≡ Some i → end_of l o ≡ None)
-    → (u : Turn) → turn l o x ≡ u → waits_by u (waits_for l o) ≡ Some i → end_by (end_here (begun l o) (kept_of l o) (length l) (replies l o) u) (length l) (end_of l o) ≡ None
+    → (u : Turn) → turn l o x ≡ u → waits_by u (waits_for l o) ≡ Some i → end_by (end_here (begun l o) (kept_of l o) (length l) (heard_for l o) u) (length l) (end_of l o) ≡ None
 going-step x l o i follows ih (Sent j) w e =
     let s = turn-sent l o x j w in
     waiting-goes l s.peer o

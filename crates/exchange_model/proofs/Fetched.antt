@@ -15,7 +15,8 @@ use Rattle.history_laws.specs.Progress.{Reply, numbers, Progress, Fetches, Gives
 use Rattle.history_laws.proofs.CallerLemmas.{eqb-itself, eqb-same, IsGoing}
 use Rattle.exchange_model.specs.declared.kept.Exchange.{Exchange}
 use Rattle.exchange_model.specs.declared.kept.Piece.{Piece}
-use Rattle.exchange_model.specs.Steps.{got_by, is_of_other, numbers_of}
+use Rattle.exchange_model.specs.Matters.{numbers_of}
+use Rattle.exchange_model.specs.Hearing.{got_by, is_of_other}
 
 -- Letting go those of an exchange leaves those of the others.
 pub numbers-others : (e : Exchange) (o : ℕ) → eqb o e.opening ≡ false → (xs : List Piece) → numbers_of o (filter (is_of_other e) xs) ≡ numbers_of o xs

@@ -23,14 +23,15 @@ use Rattle.history_laws.specs.Transmissions.{FirstSending, bears_token, sent_las
 use Rattle.history_laws.specs.Exchanges.{Begun, begun, goes_to, openings, is_going, is_waiting, waits_for, rank, replies}
 use Rattle.history_laws.specs.Joining.{outrun}
 use Rattle.history_laws.specs.Justified.{Legal}
-use Rattle.history_laws.proofs.CallerLemmas.{all-more, outrun-same, and-left, at-keeps, begun-keeps, contains-later, entries-length, eqb-itself, issued-same, rank-below, rank-keeps, replies-stay, waiting-goes}
+use Rattle.history_laws.proofs.CallerLemmas.{all-more, outrun-same, and-left, begun-keeps, contains-later, entries-length, eqb-itself, issued-same, rank-below, rank-keeps, replies-stay, waiting-goes, heard-stays}
 use Rattle.history_links.specs.Agrees.{Start, IsWaitingFor, Agrees}
 use Rattle.history_links.proofs.CallerLemmas.{ends-sent, next-follows, observes-keep, send-elsewhere, sent, sent-quiet, waits-sent}
 use Rattle.exchange_model.specs.declared.kept.Exchange.{Exchange}
 use Rattle.exchange_model.specs.State.{link_of}
 use Rattle.exchange_model.specs.Reads.{ExchangeIn, got_in, IsNewest, PiecesIn, WaitsUnder, opening_of}
-use Rattle.exchange_model.proofs.Pieces.{got-stays, pieces-quiet}
-use Rattle.exchange_model.specs.Steps.{given_out, is_under, numbers_of, progress_with, went_out}
+use Rattle.exchange_model.proofs.Pieces.{got-stays, pieces-quiet, behind-stays}
+use Rattle.exchange_model.specs.Steps.{given_out, is_under, went_out}
+use Rattle.exchange_model.specs.Matters.{numbers_of, progress_with}
 use Rattle.exchange_model.specs.declared.kept.Piece.{Piece}
 use Rattle.exchange_model.specs.Laws.{FirstLeads}
 use Rattle.exchange_model.proofs.Begins.{waits-with}
@@ -94,14 +95,10 @@ mine {start = start} l t p bytes timeout o m w legal waits a token e h goes_on u
           (newest-quiet x l (asked_key h.request) (got_in l e.opening) e.newest refl (h.newest get));
       newest_kept = λ s k. outdated-quiet x l (asked_key h.request) (first_in s.list) refl
           ∙ h.newest_kept s (sym (kept-stays x l e.opening _ h.opening quiet) ∙ k);
-      progress = ap (progress h.request) quiet ∙ (h.progress ∙ ap (progress_with e.work) (sym (got-stays x l e.opening _ h.opening quiet)));
+      progress = ap (progress h.request) (heard-stays x l e.opening _ h.opening quiet) ∙ (h.progress ∙ ap (progress_with e.work) (sym (got-stays x l e.opening _ h.opening quiet)));
       short = h.short;
       digests = h.digests;
-      conn = h.conn;
-      ask = h.ask;
-      note = h.note;
-      opens = h.opens;
-      stands = at-keeps x l e.opening _ h.stands;
+      behind = behind-stays x l e.opening _ h.opening ∙ h.behind;
     }
 mine {start = start} l t p bytes timeout o m w legal waits a token e h goes_on under false is =
     let x = sent t p bytes timeout o m in

@@ -15,7 +15,7 @@ use Rattle.history_laws.specs.Responses.{Response, is_tellable}
 use Rattle.history_laws.specs.Progress.{Reply, Ending, Whole, NotUnderstood, Progress, Fetches, Gives, Ends, answered_so, fetched_by, fetched_whole, step}
 use Rattle.history_laws.specs.Observing.{counting, outdated, outdates}
 use Rattle.exchange_model.specs.Reads.{IsNewest}
-use Rattle.exchange_model.specs.Steps.{got_by, newest_by}
+use Rattle.exchange_model.specs.Hearing.{got_by, newest_by}
 use Rattle.exchange_model.proofs.Fetched.{IsMore}
 use Rattle.exchange_model.proofs.Watches.{outdated-quiet}
 

@@ -25,7 +25,9 @@ use Rattle.exchange_model.specs.declared.kept.Exchange.{Exchange}
 use Rattle.exchange_model.specs.State.{State, link_of}
 use Rattle.exchange_model.specs.Watching.{counts_to, is_one_of, is_written_by, registers, token_of, tokens_of}
 use Rattle.exchange_model.specs.Reads.{held_of, Reads}
-use Rattle.exchange_model.specs.Steps.{Matter, Nothing, Tells, Goes, Over, answered_in, asked_in, comes_to, found_in, gone_by, has_next_place, is_under, matter_by, matter_of, replied, tells_of, told_alone, unless_registered, unless_updated, reply_at, stale_in, unless_valid}
+use Rattle.exchange_model.specs.Steps.{is_under, reply_at}
+use Rattle.exchange_model.specs.Matters.{Matter, Nothing, Tells, Goes, Over, answered_in, asked_in, comes_to, has_next_place, matter_by, matter_of, replied, tells_of, told_alone, stale_in, unless_valid, Starts, may_start, starting, told_so}
+use Rattle.exchange_model.specs.Hearing.{gone_by, unless_registered, unless_updated}
 use Rattle.exchange_model.proofs.Apart.{under-of}
 use Rattle.exchange_model.proofs.Borne.{ended-borne}
 use Rattle.exchange_model.proofs.Hearing.{borne-bears}
@@ -36,6 +38,7 @@ use Rattle.resp_cache.specs.Stored.{Stored}
 abbrev IsOf : State → Option Exchange → Matter → Type 0
 IsOf S found Nothing = ⊤
 IsOf S found (Tells r stored) = Contains S.watches r
+IsOf S found (Starts r e progress) = Contains S.watches r
 IsOf S found (Goes e progress) = found ≡ Some e
 IsOf S found (Over e how) = found ≡ Some e
 
@@ -55,26 +58,39 @@ of-valid m S e (Some s) place u = by (confirms s.response.etag m)
     by true = refl
     by false = of-replied S place e u
 
-of-told : (t : ℕ) (m : Content) (S : State) (v : Option Registration) → find (W.is_under m.token) S.watches ≡ v → IsOf S None (tells_of t m S v)
-of-told t m S None is = tt
-of-told t m S (Some r) is = by (counts_to t m r)
+of-told : (t : ℕ) (p : Peer) (m : Content) (S : State) (v : Option Registration) → find (W.is_under m.token) S.watches ≡ v → IsOf S None (tells_of t p m S v)
+of-told t p m S None is = tt
+of-told t p m S (Some r) is = by (counts_to t m r)
   where
-    by : (b : Bool) → IsOf S None (cond b (Tells r (found_in t S (notice_in m) r.opening (as_first (length S.entries) 0 m))) Nothing)
-    by true = (find-some (W.is_under m.token) S.watches r is).0
+    has : Contains S.watches r
+    has = (find-some (W.is_under m.token) S.watches r is).0
+
+    begins : (u : Progress) (b : Bool) → IsOf S None (cond b (Starts r (starting t p r u S) u) (Tells r None))
+    begins u true = has
+    begins u false = has
+
+    told : (n : Notice) (u : Progress) → IsOf S None (told_so t p S r n u)
+    told (Other v) u = has
+    told (Update v) (Ends how) = has
+    told (Update v) (Fetches k pieces got) = begins (Fetches k pieces got) (may_start t p r S)
+    told (Update v) (Gives w got) = begins (Gives w got) (may_start t p r S)
+
+    by : (b : Bool) → IsOf S None (cond b (told_so t p S r (notice_in m) (as_first (length S.entries) 0 m)) Nothing)
+    by true = told (notice_in m) (as_first (length S.entries) 0 m)
     by false = tt
 
-of-alone : (t : ℕ) (news : News) (m : Content) (S : State) → IsOf S None (told_alone t news m S)
-of-alone t N.Response m S = of-told t m S (find (W.is_under m.token) S.watches) refl
-of-alone t N.Quiet m S = tt
-of-alone t (N.Reset token) m S = tt
-of-alone t N.Lost m S = tt
+of-alone : (t : ℕ) (p : Peer) (news : News) (m : Content) (S : State) → IsOf S None (told_alone t p news m S)
+of-alone t p N.Response m S = of-told t p m S (find (W.is_under m.token) S.watches) refl
+of-alone t p N.Quiet m S = tt
+of-alone t p (N.Reset token) m S = tt
+of-alone t p N.Lost m S = tt
 
-of-matter : (t : ℕ) (news : News) (place : Bool) (m : Content) (S : State) (found : Option Exchange) → IsOf S found (matter_by t news place m S found)
-of-matter t news place m S None = of-alone t news m S
-of-matter t (N.Reset token) place m S (Some e) = refl
-of-matter t N.Quiet place m S (Some e) = of-valid m S e (stale_in e.opening S.stales) place (comes_to m S e)
-of-matter t N.Response place m S (Some e) = of-valid m S e (stale_in e.opening S.stales) place (comes_to m S e)
-of-matter t N.Lost place m S (Some e) = of-valid m S e (stale_in e.opening S.stales) place (comes_to m S e)
+of-matter : (t : ℕ) (p : Peer) (news : News) (place : Bool) (m : Content) (S : State) (found : Option Exchange) → IsOf S found (matter_by t p news place m S found)
+of-matter t p news place m S None = of-alone t p news m S
+of-matter t p (N.Reset token) place m S (Some e) = refl
+of-matter t p N.Quiet place m S (Some e) = of-valid m S e (stale_in e.opening S.stales) place (comes_to m S e)
+of-matter t p N.Response place m S (Some e) = of-valid m S e (stale_in e.opening S.stales) place (comes_to m S e)
+of-matter t p N.Lost place m S (Some e) = of-valid m S e (stale_in e.opening S.stales) place (comes_to m S e)
 
 module _ (t : ℕ) (p : Peer) (m : Content) (l : List Noted) (S : State) (r : Reads l S) where
   abbrev ended : Option (List ℕ)
@@ -124,15 +140,16 @@ module _ (t : ℕ) (p : Peer) (m : Content) (l : List Noted) (S : State) (r : Re
   gone-of : (x : Matter) (token : List ℕ) → IsOf S (answered_in ended S.exchanges) x → is_one_of (gone_by m S.entries x S.watches) token ≡ true → bears_token l token ≡ true
   gone-of Nothing token of is = absurd (false≢true is)
   gone-of (Tells w stored) token of is = told-borne (notice_in m) w token of is
+  gone-of (Starts w e progress) token of is = absurd (false≢true is)
   gone-of (Goes e progress) token of is = unless-borne e token of is
-  gone-of (Over e how) token of is = elim (or_cases (is_one_of (unless_registered m e S.watches) token) (is_one_of (tokens_of (is_written_by (asked_in S.entries e.opening)) S.watches) token)
-      (sym (list_any-append (bytes_eq token) (unless_registered m e S.watches) (tokens_of (is_written_by (asked_in S.entries e.opening)) S.watches)) ∙ is)) [
+  gone-of (Over e how) token of is = elim (or_cases (is_one_of (unless_registered m e S.watches) token) (is_one_of (tokens_of (is_written_by (asked_in S.entries e.ask)) S.watches) token)
+      (sym (list_any-append (bytes_eq token) (unless_registered m e S.watches) (tokens_of (is_written_by (asked_in S.entries e.ask)) S.watches)) ∙ is)) [
         | inl own ↦ unless-borne e token of own
-        | inr others ↦ tokens-borne (is_written_by (asked_in S.entries e.opening)) token others
+        | inr others ↦ tokens-borne (is_written_by (asked_in S.entries e.ask)) token others
       ]
 
   pub gone-borne : (token : List ℕ)
       → is_one_of (gone_by m S.entries (matter_of t p m (verdict_of t (link_of S.links p) m) S) S.watches) token ≡ true → bears_token l token ≡ true
   gone-borne token is =
       gone-of (matter_of t p m (verdict_of t (link_of S.links p) m) S) token
-      (of-matter t (verdict_of t (link_of S.links p) m).news (has_next_place t p (verdict_of t (link_of S.links p) m) S) m S (answered_in ended S.exchanges)) is
+      (of-matter t p (verdict_of t (link_of S.links p) m).news (has_next_place t p (verdict_of t (link_of S.links p) m) S) m S (answered_in ended S.exchanges)) is

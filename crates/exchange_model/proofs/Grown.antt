@@ -1,6 +1,6 @@
 -- Each call adds to the journal, and the connections follow.
 use Rattle.std.proofs.Common.{◌≡◌, ◌⊎◌, inl, inr, ℕ, ◌+◌, Bool, true, false, cond, List, [], ◌∷◌, ◌++◌, length, Option, Some, None, Result, Ok, Err, refl, sym, ap, ◌∙◌, subst, arith, length-append}
-use Rattle.std.specs.Prelude.{◌&&◌, fold, filter, map, is_some, nat_le, ⊤}
+use Rattle.std.specs.Prelude.{◌&&◌, fold, filter, map, is_some, nat_le}
 use Rattle.std.specs.List.{AllByRecursion}
 use Rattle.std.proofs.lemmas.List.{append-nil, append_assoc, append_cancel_left}
 use Rattle.coap_codec.specs.Spelling.{Content}
@@ -22,7 +22,9 @@ use Rattle.ask_model.specs.declared.cause.Cause.TheVariants as C
 use Rattle.journal_book.specs.Entries.{Kept, Grounds, Fault, Deed, Opens, Asks, Sends, Hears, Passes, Answers, Shuts, Seals, Carries, Written}
 use Rattle.history_laws.specs.Readings.{carries}
 use Rattle.history_laws.proofs.CallerLemmas.{all-more}
-use Rattle.exchange_model.specs.Steps.{Numbers, matter_of, recalls, joins, opens, asks, shuts, seals, begins, hears, hears_nothing, sends_first, sends_copy, is_past, passes, timed_out}
+use Rattle.exchange_model.specs.Steps.{recalls, joins, opens, asks, shuts, seals, begins, hears_nothing, sends_first, sends_copy}
+use Rattle.exchange_model.specs.Matters.{matter_of}
+use Rattle.exchange_model.specs.Hearing.{Numbers, hears, is_past, passes, timed_out}
 use Rattle.exchange_model.specs.Calls.{served_in, serves, asked_for, joined, asked_with, next_by, next, refused, has_place, asked_by, asked, given_back, Telling, tells, told_for, told_late, takes_new, takes_by, repeats, resets, reads_so, heard, is_due, moves_by, moves, move_all, peer_of, something_due, ticked}
 use Rattle.exchange_model.specs.declared.kept.Conn.{Conn}
 use Rattle.exchange_model.specs.declared.kept.Exchange.{Exchange}

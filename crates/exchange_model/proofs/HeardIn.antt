@@ -1,5 +1,6 @@
 -- What is stored, and what exchanges keep of that, was heard whole.
-use Rattle.std.proofs.Common.{◌∷◌, eqb, ◌≡◌, ℕ, zero, inl, inr, List, [], Some, refl, sym, ap, subst, ◌∙◌, arith, suc, ◌<◌, ◌⊎◌, not, ◌++◌, length, true, false}
+use Rattle.std.proofs.Common.{◌∷◌, eqb, ◌≡◌, ℕ, zero, inl, inr, List, [], Some, refl, sym, ap, subst, ◌∙◌, arith, suc, ◌<◌, ◌⊎◌, not, length, true, false}
+use Rattle.exchange_model.proofs.Comes.{heard-fits}
 use Rattle.std.specs.List.{AllByRecursion, Contains, slice_get, list_all}
 use Rattle.std.proofs.lemmas.Bool.{and_parts}
 use Rattle.coap_codec.specs.Spelling.{Content}
@@ -11,7 +12,7 @@ use Rattle.history_laws.specs.Responses.{Response, whole_fetched, renewed_respon
 use Rattle.history_laws.specs.Readings.{Says, Recalls, at, Noted, noted, before}
 use Rattle.history_laws.specs.Progress.{Reply, numbers, messages}
 use Rattle.history_laws.specs.Joining.{asks_the_same}
-use Rattle.history_laws.specs.Exchanges.{begun, replies, Begun}
+use Rattle.history_laws.specs.Exchanges.{begun, Begun, heard_for}
 use Rattle.history_laws.specs.Laws.{IsReplyTo}
 use Rattle.history_laws.specs.Grounds.{IsCarriedReply}
 use Rattle.history_laws.specs.Storing.{IsBrought, IsCarried, IsStored, IsAsHeard, IsRenewed, is_valid_in, pieces_in}
@@ -22,7 +23,7 @@ use Rattle.exchange_model.specs.State.{State}
 use Rattle.exchange_model.proofs.Carried.{reply-stands}
 use Rattle.resp_cache.specs.Stored.{Stored}
 use Rattle.history_laws.specs.Justified.{Legal}
-use Rattle.exchange_model.specs.Steps.{stale_in}
+use Rattle.exchange_model.specs.Matters.{stale_in}
 use Rattle.exchange_model.proofs.Renewals.{renewal-for, pieces-before, pieces-since, was-kept}
 use Rattle.exchange_model.proofs.Shape.{get-by, whole-come, whole-get, all-tellable, tellable-not}
 use Rattle.exchange_model.specs.Keeping.{Kept}
@@ -39,25 +40,29 @@ heard-at l S reads o r fits = record {
   spelled = fits.spelled;
 }
 
-all-heard : (l : List Noted) (S : State) → Reads l S → (o : ℕ) (rs : List Reply) → ((r : Reply) → Contains rs r → IsReplyTo l o r) → AreHeardAt S (numbers rs) (messages rs)
-all-heard l S reads o [] h = tt
-all-heard l S reads o (r ∷ rs) h = (heard-at l S reads o r (h r (zero, omega arith, refl)), all-heard l S reads o rs (λ x has. h x (contains-later r rs x has)))
+all-heard : (l : List Noted) (S : State) → Reads l S → (rs : List Reply) → ((r : Reply) → Contains rs r → (o : ℕ) × IsReplyTo l o r) → AreHeardAt S (numbers rs) (messages rs)
+all-heard l S reads [] h = tt
+all-heard l S reads (r ∷ rs) h = (
+  let it = h r (zero, omega arith, refl) in heard-at l S reads it.0 r it.1,
+  all-heard l S reads rs (λ x has. h x (contains-later r rs x has)),
+)
 
-pub are-heard : (l : List Noted) (S : State) → Reads l S → (o : ℕ) (rs : List Reply) → ((r : Reply) → Contains rs r → Contains (replies l o) r) → AreHeardAt S (numbers rs) (messages rs)
-are-heard l S reads o rs h = all-heard l S reads o rs (λ r has. replies-fit l o r reads.legal (h r has))
+pub are-heard : (l : List Noted) (S : State) → Reads l S → (o : ℕ) (b : Begun) (rs : List Reply) → begun l o ≡ Some b
+    → ((r : Reply) → Contains rs r → Contains (heard_for l o) r) → AreHeardAt S (numbers rs) (messages rs)
+are-heard l S reads o b rs opened h = all-heard l S reads rs (λ r has. heard-fits l o b r reads.legal opened (h r has))
 
 brought-one : (l : List Noted) (S : State) → Reads l S → (p : Pair) (q : CoapRequest) → IsBrought l q p.stored → IsHeardIn S p
 unfolding are-heard all-heard heard-at
 brought-one l S r p q s =
     let rs : List Reply = s.first ∷ s.more in
-    let fit : ((x : Reply) → Contains rs x → IsReplyTo l s.opening x) =
-    λ x has. comes-fit l s.opening s.ending p.stored.response rs x r.legal s.comes has in
-    let fits = fit s.first (zero, omega arith, refl) in
+    let fit : ((x : Reply) → Contains rs x → (o : ℕ) × IsReplyTo l o x) =
+    λ x has. let it = comes-fit l s.opening s.ending p.stored.response rs x r.legal s.comes has in (it.owner, it.fits) in
+    let fits = (fit s.first (zero, omega arith, refl)).1 in
     let both = and_parts (asks_the_same q (begun l s.opening)) _ s.shared in
     let joined = shared-is l q s.opening s.shared in
     let entry : noted fits.moment (Hears fits.peer fits.bytes) (Says s.first.message (Some s.first.sending) fits.notice) ≡ s.entry =
     some-is _ _ (sym fits.heard ∙ s.heard_in) in
-    let heard = all-heard l S r s.opening rs fit in
+    let heard = all-heard l S r rs fit in
     record {
       number = s.first.number;
       others = numbers s.more;
@@ -65,7 +70,7 @@ brought-one l S r p q s =
       more = messages s.more;
       list = s.list;
       heard = inl (heard.0, ap (λ (x : Noted). x.written.moment) entry ∙ sym s.heard, heard.1);
-      whole = whole-come l s.opening s.ending p.stored.response s.first s.more q both.0 (get-by q joined.exchange.request joined.same) s.comes;
+      whole = whole-come l s.opening s.ending p.stored.response s.first s.more q r.legal both.0 (get-by q joined.exchange.request joined.same) s.comes;
     }
 
 -- Or they stand as copies.
@@ -108,7 +113,7 @@ carried-one l S r p q s =
 -- What an exchange keeps was heard whole, whatever has renewed it since.
 abbrev pub Stand : List Noted → List Reply → Type 0
 Stand l rs =
-    ((o : ℕ) × ((r : Reply) → Contains rs r → IsReplyTo l o r))
+    ((r : Reply) → Contains rs r → (o : ℕ) × IsReplyTo l o r)
     ⊎ ((o : ℕ) × (q : CoapRequest) × ((r : Reply) → Contains rs r → IsCarriedReply l o q r))
 
 record HeardWhole (l : List Noted) (s : Stored) : Type 0 where
@@ -122,7 +127,7 @@ record HeardWhole (l : List Noted) (s : Stored) : Type 0 where
 
 -- None of it is a 2.03.
 no-valid : (l : List Noted) (rs : List Reply) → Stand l rs → (r : Reply) → Contains rs r → eqb r.message.code valid ≡ false → is_valid_in (at l r.number) ≡ false
-no-valid l rs (inl h) r has other = ap is_valid_in (h.1 r has).heard ∙ other
+no-valid l rs (inl h) r has other = ap is_valid_in (h r has).1.heard ∙ other
 no-valid l rs (inr h) r has other = ap is_valid_in (h.2 r has).heard
 
 all-other : (rs : List Reply) → list_all is_tellable (messages rs) ≡ true → AllByRecursion (λ (r : Reply). eqb r.message.code valid ≡ false) rs
@@ -158,8 +163,8 @@ heard-whole (suc fuel) l k x q s lt legal stands (inl it) = by (heard-of (before
         let joined = shared-is (before l k) q a.opening a.shared in
         let both = and_parts (asks_the_same q (begun (before l k) a.opening)) _ a.shared in
         let comes = comes-since l k x a.opening a.ending s.response (a.first ∷ a.more) stands a.comes in
-        let stand : Stand l (a.first ∷ a.more) = inl (a.opening, λ r has. comes-fit l a.opening a.ending s.response (a.first ∷ a.more) r legal comes has) in
-        let whole = whole-come (before l k) a.opening a.ending s.response a.first a.more q both.0 (get-by q joined.exchange.request joined.same) a.comes in
+        let stand : Stand l (a.first ∷ a.more) = inl (λ r has. let it = comes-fit l a.opening a.ending s.response (a.first ∷ a.more) r legal comes has in (it.owner, it.fits)) in
+        let whole = whole-come (before l k) a.opening a.ending s.response a.first a.more q (legal-before l k legal) both.0 (get-by q joined.exchange.request joined.same) a.comes in
         record {
           first = a.first;
           more = a.more;
@@ -219,7 +224,7 @@ heard-whole (suc fuel) l k x q s lt legal stands (inr it) =
 
 -- So what it keeps stands in the state.
 stand-in : (l : List Noted) (S : State) → Reads l S → (rs : List Reply) → Stand l rs → AreHeardAt S (numbers rs) (messages rs) ⊎ AreCopiedAt S (numbers rs) (messages rs)
-stand-in l S r rs (inl h) = inl (all-heard l S r h.0 rs h.1)
+stand-in l S r rs (inl h) = inl (all-heard l S r rs h)
 stand-in l S r rs (inr h) = inr (all-copied l S r h.0 h.1 rs h.2)
 
 pub kept-heard : (l : List Noted) (S : State) → Reads l S → (o : ℕ) (b : Begun) (s : Stored) → RenewsFor l o b s → IsKeptIn S s

@@ -25,7 +25,7 @@ use Rattle.history_links.specs.Steps.{ended_token, heard}
 use Rattle.history_links.proofs.CallerLemmas.{ends_what, going-still, hit, is_ended, Judged, one-token, still-after, waits-after}
 use Rattle.exchange_model.specs.declared.kept.Exchange.{Exchange}
 use Rattle.exchange_model.specs.Reads.{IsNewest, IsSentUnder, awaited_by, ExchangeIn, got_in, opening_of, kept_in}
-use Rattle.exchange_model.specs.Steps.{is_other}
+use Rattle.exchange_model.specs.Matters.{is_other}
 use Rattle.exchange_model.proofs.Lists.{filter-map, filter-both}
 use Rattle.exchange_model.proofs.Borne.{IsBorne, ended-borne, answers-peer}
 use Rattle.exchange_model.proofs.Tables.{exchange-stays}
@@ -178,15 +178,19 @@ pub end-kept : (l : List Noted) (t : ℕ) (p : Peer) (d : List ℕ) (m : Content
     → end_of (heard l t p d m ∷ l) o ≡ end_of l o
 end-kept l t p d m o stays = going-still l t p d m (answers l p m) (notice_of l t p m (answers l p m)) o stays
 
--- After any entry that opens none, the open exchanges are those of before that go on.
-pub open-later : (x : Noted) (l : List Noted) (es : List Exchange) → openings (x ∷ l) ≡ openings l → open_exchanges l ≡ map opening_of es
-    → open_exchanges (x ∷ l) ≡ map opening_of (filter (λ (e : Exchange). is_going (x ∷ l) e.opening) es)
-open-later x l es same keys =
-    ap (filter (is_going (x ∷ l))) same
-    ∙ (filter_agree (is_going (x ∷ l)) (λ (o : ℕ). is_going (x ∷ l) o && is_going l o) (λ o. both o (is_going (x ∷ l) o) refl) (openings l)
+-- After any entry the open exchanges of before are those that go on, and all where it opens none.
+pub going-later : (x : Noted) (l : List Noted) (es : List Exchange) → open_exchanges l ≡ map opening_of es
+    → filter (is_going (x ∷ l)) (openings l) ≡ map opening_of (filter (λ (e : Exchange). is_going (x ∷ l) e.opening) es)
+going-later x l es keys =
+    filter_agree (is_going (x ∷ l)) (λ (o : ℕ). is_going (x ∷ l) o && is_going l o) (λ o. both o (is_going (x ∷ l) o) refl) (openings l)
     ∙ (filter-both (is_going (x ∷ l)) (is_going l) (openings l)
-    ∙ (ap (filter (is_going (x ∷ l))) keys ∙ filter-map (is_going (x ∷ l)) opening_of es)))
+    ∙ (ap (filter (is_going (x ∷ l))) keys ∙ filter-map (is_going (x ∷ l)) opening_of es))
   where
     both : (o : ℕ) (b : Bool) → is_going (x ∷ l) o ≡ b → b ≡ (b && is_going l o)
     both o true is = sym (ap is_none (going-before x l o is).1)
     both o false is = refl
+
+pub open-later : (x : Noted) (l : List Noted) (es : List Exchange) → openings (x ∷ l) ≡ openings l → open_exchanges l ≡ map opening_of es
+    → open_exchanges (x ∷ l) ≡ map opening_of (filter (λ (e : Exchange). is_going (x ∷ l) e.opening) es)
+open-later x l es same keys =
+    ap (filter (is_going (x ∷ l))) same ∙ going-later x l es keys

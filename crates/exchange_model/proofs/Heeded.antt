@@ -1,5 +1,6 @@
 -- What a datagram leaves.
 use Rattle.std.proofs.Common.{◌≡◌, ℕ, ◌⊎◌, inl, inr, ◌+◌, Bool, true, false, cond, leb, List, [], ◌∷◌, ◌++◌, length, map, Option, Some, None, Result, Ok, Err, refl, sym, ap, ◌∙◌, arith, append_assoc, append-nil}
+use Rattle.message_layer.specs.Sending.{waits}
 use Rattle.std.specs.Prelude.{fold, ◌&&◌}
 use Rattle.std.proofs.lemmas.Bool.{false≢true, le-leb}
 use Rattle.std.proofs.lemmas.List.{length-map}
@@ -21,10 +22,12 @@ use Rattle.history_laws.specs.Numbering.{token_number}
 use Rattle.history_laws.specs.Progress.{Progress}
 use Rattle.history_laws.specs.Transmissions.{bears_token, firsts}
 use Rattle.history_laws.specs.Exchanges.{waiting}
-use Rattle.history_laws.proofs.CallerLemmas.{some-is}
+use Rattle.history_laws.proofs.CallerLemmas.{some-is, none-some}
 use Rattle.history_links.specs.Steps.{ended_token, heard_link}
 use Rattle.exchange_model.specs.Watching.{is_one_of}
-use Rattle.exchange_model.specs.Steps.{Numbers, Matter, Nothing, Tells, Goes, Over, gone_by, watches_by, matter_by, matter_of, has_next_place, answered_in, more_by, link_with, issued_by, exchanges_by, pieces_by, store_by, given_out, hears, hears_nothing, confirms, stales_by}
+use Rattle.exchange_model.specs.Steps.{given_out, hears_nothing, confirms}
+use Rattle.exchange_model.specs.Matters.{Matter, Nothing, Tells, Goes, Over, matter_by, matter_of, has_next_place, answered_in, Starts}
+use Rattle.exchange_model.specs.Hearing.{Numbers, gone_by, watches_by, more_by, link_with, issued_by, exchanges_by, pieces_by, store_by, hears, stales_by}
 use Rattle.exchange_model.specs.Calls.{next_by, next, given_back, Telling, tells, told_for, takes_new, takes_by, repeats, resets, reads_so, goes_with, goes_as, heard}
 use Rattle.exchange_model.specs.declared.kept.Exchange.{Exchange}
 use Rattle.exchange_model.specs.State.{PeerLink, State, link_of, with_link}
@@ -65,17 +68,14 @@ next-conns t p S = by (link_of S.links p).outstanding (link_of S.links p).waitin
 
 -- A message that is new.
 
--- By it the exchange goes on under the next token.
+-- By it the exchange goes on, or begins, under the next token.
 abbrev IsNext : Matter → Numbers → State → Type 0
-IsNext x n S = (e : Exchange) (progress : Progress) → x ≡ Goes e progress → token_number n.token ≡ S.issued
+IsNext x n S = (e : Exchange) (progress : Progress) → goes_with x ≡ Some (e, progress) → token_number n.token ≡ S.issued
 
 -- It bears no token that went out.
 is-fresh : (t : ℕ) (p : Peer) (m : Content) (n : Numbers) (S : State) (may : MayStep t S) (x : Matter) → IsNext x n S
     → IsFresh (more_by n x) (gone_by m S.entries (matter_of t p m (verdict_of t (link_of S.links p) m) S) S.watches)
-is-fresh t p m n S may Nothing ahead w is = cc
-is-fresh t p m n S may (Tells r stored) ahead w is = cc
-is-fresh t p m n S may (Over e how) ahead w is = cc
-is-fresh t p m n S may (Goes e progress) ahead w is = by (is_one_of gone w.token) refl
+is-fresh t p m n S may x ahead w is = by x ahead is
   where
     r : Reads may.kept.reading S
     r = may.kept.rests.reads
@@ -83,13 +83,25 @@ is-fresh t p m n S may (Goes e progress) ahead w is = by (is_one_of gone w.token
     gone : List (List ℕ)
     gone = gone_by m S.entries (matter_of t p m (verdict_of t (link_of S.links p) m) S) S.watches
 
-    unborne-next : bears_token may.kept.reading w.token ≡ false
-    unborne-next =
-        unborne w.token S.issued (ap token_number (ap (λ (v : Waiting). v.token) (sym (some-is _ w is))) ∙ ahead e progress refl) (firsts may.kept.reading) r.tokens_are
+    fresh : token_number w.token ≡ S.issued → is_one_of gone w.token ≡ false
+    fresh next = of (is_one_of gone w.token) refl
+      where
+        unborne-next : bears_token may.kept.reading w.token ≡ false
+        unborne-next = unborne w.token S.issued next (firsts may.kept.reading) r.tokens_are
 
-    by : (b : Bool) → is_one_of gone w.token ≡ b → b ≡ false
-    by true h = absurd (false≢true (sym unborne-next ∙ gone-borne t p m may.kept.reading S r w.token h))
-    by false e = refl
+        of : (b : Bool) → is_one_of gone w.token ≡ b → b ≡ false
+        of true h = absurd (false≢true (sym unborne-next ∙ gone-borne t p m may.kept.reading S r w.token h))
+        of false e = refl
+
+    token-is : Some (waits n.token n.text n.word) ≡ Some w → token_number n.token ≡ S.issued → token_number w.token ≡ S.issued
+    token-is waits number = ap token_number (ap (λ (v : Waiting). v.token) (sym (some-is _ w waits))) ∙ number
+
+    by : (x : Matter) → IsNext x n S → more_by n x ≡ Some w → is_one_of gone w.token ≡ false
+    by Nothing next waits = absurd (none-some w waits)
+    by (Tells r stored) next waits = absurd (none-some w waits)
+    by (Over e how) next waits = absurd (none-some w waits)
+    by (Starts r e progress) next waits = fresh (token-is waits (next e progress refl))
+    by (Goes e progress) next waits = fresh (token-is waits (next e progress refl))
 
 new-heeded : (t : ℕ) (p : Peer) (d : List ℕ) (m : Content) (n : Numbers) (S : State) → Comes t p d S
     → let v = verdict_of t (link_of S.links p) m in IsNext (matter_of t p m v S) n S
@@ -227,10 +239,10 @@ quiet-is v r e n =
     ∙ (ap (λ (b : Bool). record v { ends = b; news = N.Quiet }) (sym e)
     ∙ ap (λ (k : News). record v { news = k }) (sym n))
 
-quiet-nothing : (t : ℕ) (news : News) (place : Bool) (m : Content) (S : State) → news ≡ N.Quiet
-    → Nothing ≡ matter_by t news place m S (answered_in (ended_token news m.token) S.exchanges)
-quiet-nothing t news place m S e =
-    sym (ap (λ (k : News). matter_by t k place m S (answered_in (ended_token k m.token) S.exchanges)) e)
+quiet-nothing : (t : ℕ) (p : Peer) (news : News) (place : Bool) (m : Content) (S : State) → news ≡ N.Quiet
+    → Nothing ≡ matter_by t p news place m S (answered_in (ended_token news m.token) S.exchanges)
+quiet-nothing t p news place m S e =
+    sym (ap (λ (k : News). matter_by t p k place m S (answered_in (ended_token k m.token) S.exchanges)) e)
 
 idle-heeded : (t : ℕ) (p : Peer) (d : List ℕ) (mid : ℕ) (token : List ℕ) (v : Verdict) (n : Numbers)
     (S : State) → Comes t p d S
@@ -268,13 +280,13 @@ taken t p d m v n N.Quiet S h = refl
 taken t p d m v n N.Response S h = refl
 taken t p d m v n (N.Reset token) S h = refl
 
--- It is the next token, where a message that is new brings an exchange on.
+-- It is the next token, where a message that is new brings an exchange on, or begins one.
 pub next-token : (t : ℕ) (p : Peer) (d : List ℕ) (m : Content) (n : Numbers) (S : State) → message_at d ≡ Ok m → MayGoOn t p d n S
     → repeats t (link_of S.links p) m ≡ false → (e : Exchange) (progress : Progress)
-    → matter_of t p m (verdict_of t (link_of S.links p) m) S ≡ Goes e progress → IsContinued e progress n S
+    → goes_with (matter_of t p m (verdict_of t (link_of S.links p) m) S) ≡ Some (e, progress) → IsContinued e progress n S
 next-token t p d m n S is goes new e progress at =
     goes e progress (ap (λ (r : Result Content CodecFault). goes_as t p r S) is
-    ∙ (ap (λ (b : Bool). cond b None (goes_with (matter_of t p m (verdict_of t (link_of S.links p) m) S))) new ∙ ap goes_with at))
+    ∙ (ap (λ (b : Bool). cond b None (goes_with (matter_of t p m (verdict_of t (link_of S.links p) m) S))) new ∙ at))
 
 pub message-enters : MessageEnters
 message-enters t p d m n S come e goes kept = heard-read t p d n (Ok m) S come e ∙ by (repeats t s m) refl
@@ -300,7 +312,7 @@ message-enters t p d m n S come e goes kept = heard-read t p d n (Ok m) S come e
         idle-heeded t p d m.mid m.token v n S come i.0 i.1 is_quiet
         ∙ ap (λ (x : Matter). heeded t p d m.mid m.token v
         (record { matter = x; watches = watches_by t m S.entries x S.watches; gone = gone_by m S.entries x S.watches; numbers = n }) S)
-        (quiet-nothing t v.news (has_next_place t p v S) m S is_quiet)
+        (quiet-nothing t p v.news (has_next_place t p v S) m S is_quiet)
     by false k = taken t p d m v n v.news S kept
         ∙ new-heeded t p d m n S come (λ f progress at. (next-token t p d m n S e goes k f progress at).number)
 

@@ -1,5 +1,6 @@
 -- A datagram that is heard: a step keeps what holds between steps.
-use Rattle.std.proofs.Common.{◌≡◌, ℕ, ◌<◌, ◌⊎◌, inl, inr, Bool, true, false, cond, ltb, leb, ◌≤◌, ◌-◌, List, [], ◌∷◌, length, Option, Some, None, Result, Ok, Err, refl, sym, ap, subst, ◌∙◌, arith}
+use Rattle.std.proofs.Common.{◌≡◌, ℕ, ◌<◌, ◌⊎◌, inl, inr, Bool, true, false, cond, ltb, leb, ◌≤◌, ◌-◌, List, [], ◌∷◌, length, Option, Some, None, Result, Ok, Err, refl, sym, ap, subst, ◌∙◌, arith, ◌++◌}
+use Rattle.std.proofs.lemmas.List.{length-map}
 use Rattle.std.specs.Prelude.{find, ◌&&◌, is_some, option_map, count_by}
 use Rattle.std.specs.List.{AllByRecursion, Contains}
 use Rattle.std.proofs.lemmas.Bool.{false≢true, leb-true, ltb-true}
@@ -24,12 +25,12 @@ use Rattle.message_layer.specs.declared.verdict.News.{News}
 use Rattle.message_layer.specs.declared.state.Reply.TheVariants as R
 use Rattle.message_layer.specs.declared.verdict.News.TheVariants as N
 use Rattle.journal_book.specs.Entries.{Grounds, grounds_size, Hears}
-use Rattle.history_laws.specs.Progress.{Ending, Whole, NotUnderstood, Reset as ResetSo, TimedOut, Turned, Progress, Renewed}
+use Rattle.history_laws.specs.Progress.{Ending, Whole, NotUnderstood, Reset as ResetSo, TimedOut, Turned, Progress, Renewed, Reply as ReplyTo, messages, progress}
 use Rattle.history_laws.specs.Readings.{Noted, Repeats, Garbled, ticked, noted}
 use Rattle.history_laws.specs.Confirming.{owed}
 use Rattle.history_laws.specs.Hearing.{is_such, heard_before, repeated, can_be_remembered}
-use Rattle.history_laws.specs.Justified.{HasGrounds}
-use Rattle.history_laws.proofs.CallerLemmas.{all-filter, all-more, begun-keeps, some-is, and-left, and-right, any-of, entries-length, find-any, is-some}
+use Rattle.history_laws.specs.Justified.{HasGrounds, Legal}
+use Rattle.history_laws.proofs.CallerLemmas.{all-filter, all-more, and-left, and-right, any-of, entries-length, find-any, is-some, CameTo, came-to, going-not, goes-so, GoesSo, IsMadeOf}
 use Rattle.history_links.specs.Agrees.{Start, IsFrom, due, Agrees}
 use Rattle.history_links.specs.Steps.{ended_token, heard_link, heard as heard_entry, reset}
 use Rattle.history_links.proofs.CallerLemmas.{none-before}
@@ -38,33 +39,34 @@ use Rattle.exchange_model.specs.declared.kept.Exchange.{Exchange}
 use Rattle.exchange_model.specs.declared.kept.Reader.{Reader}
 use Rattle.exchange_model.specs.State.{State, link_of}
 use Rattle.ask_model.specs.Requests.{CoapRequest}
-use Rattle.history_laws.specs.Exchanges.{Begun}
-use Rattle.exchange_model.specs.Reads.{ExchangeIn}
+use Rattle.history_laws.specs.Exchanges.{Begun, heard_for}
 use Rattle.exchange_model.specs.Watching.{is_one_of}
-use Rattle.exchange_model.specs.Steps.{gone_by, Numbers, Nothing, Goes, Over, answered_in, let_go, matter_of, has_next_place, exchanges_by, more_by, link_with, hears, hears_nothing}
+use Rattle.exchange_model.specs.Steps.{hears_nothing}
+use Rattle.exchange_model.specs.Matters.{Over, answered_in, let_go, matter_of, has_next_place}
+use Rattle.exchange_model.specs.Hearing.{gone_by, Numbers, exchanges_by, more_by, link_with, hears}
 use Rattle.exchange_model.specs.Resting.{LinkRests, HasExchange}
 use Rattle.exchange_model.specs.Growing.{RiseByAsk}
 use Rattle.exchange_model.specs.Laws.{Before, MayHear, Heeds, IsContinued}
-use Rattle.exchange_model.specs.Calls.{Telling, grounds_for, tell_of, told_for, next, given_back, takes_new, takes_by, repeats, resets, reads_so}
+use Rattle.exchange_model.specs.Calls.{Telling, grounds_for, tell_of, told_for, next, given_back, takes_new, takes_by, repeats, resets, reads_so, goes_with}
 use Rattle.exchange_model.specs.Keeping.{HasMids, Kept, MayStep, HearsKeeps}
-use Rattle.exchange_model.proofs.Amid.{Amid, Moved, RestAt, IsEarly, next-moves, given-moves}
+use Rattle.exchange_model.proofs.Amid.{Amid, Moved, RestAt, IsEarly, next-moves, given-moves, tick-before}
 use Rattle.exchange_model.proofs.Telling.{readers_in, AreServed, IsAmong, ReadWith, all-in, all-told, kept-told}
 use Rattle.exchange_model.proofs.Readers.{ReaderIn, reader-keeps, readers-wait, readers-rise-in, readers-apart, rise-filter, Apart}
 use Rattle.exchange_model.proofs.Tellings.{is-told, over_in, reads_it, ended_list, grounds-bare, grounds-as, readers-for, among-for, for-all}
 use Rattle.exchange_model.proofs.Lists.{all-both}
 use Rattle.exchange_model.proofs.Opened.{open-ones}
-use Rattle.exchange_model.proofs.Brief.{IsShortFor, ends-brief}
+use Rattle.exchange_model.proofs.Brief.{WholeOfFew, ends-brief, whole-few}
 use Rattle.exchange_model.proofs.Calling.{IsBriefBy}
 use Rattle.exchange_model.proofs.Grounds.{GroundsFor, IsTold, told-grounds, told-moves, both-go}
 use Rattle.exchange_model.proofs.Heeded.{next-token}
 use Rattle.exchange_model.proofs.Heard.{hears-leads}
 use Rattle.exchange_model.proofs.LinksHeard.{waits-with}
-use Rattle.exchange_model.proofs.Over.{IsOver, IsMatter, is-matter}
+use Rattle.exchange_model.proofs.Over.{IsOver, IsMatter, is-matter, reply_of}
 use Rattle.exchange_model.proofs.Quiet.{repeats-leads, garbled-leads}
 use Rattle.exchange_model.proofs.Silent.{now-from}
 use Rattle.exchange_model.proofs.Stepping.{may-come, before-step}
 use Rattle.exchange_model.proofs.Tables.{all-links, link-same, link-other}
-use Rattle.exchange_model.proofs.Ongoing.{by-since, served-part, goes-place, ids-with, early-after, tells-few}
+use Rattle.exchange_model.proofs.Ongoing.{by-since, served-part, goes-ids, ids-with, early-after, starts-now, tells-few}
 
 pub may-hear : (t : ℕ) (p : Peer) (d : List ℕ) (S : State) (m : MayStep t S) → is_some (link_of S.links p).last_mid ≡ true → leb (length d) 2048 ≡ true → MayHear m.kept.reading t p d S
 may-hear t p d S m known short = record {
@@ -166,7 +168,7 @@ is-bytes (b ∷ d) a = (a.0, is-bytes d a.1)
 
 new-keeps : (t : ℕ) (p : Peer) (d : List ℕ) (mess : Content) (n : Numbers) (S : State) (m : MayStep t S) → MayHear m.kept.reading t p d S → Spells mess d → repeated m.kept.reading t p mess ≡ None
     → can_be_remembered m.kept.reading t p mess ≡ true
-    → ((e : Exchange) (progress : Progress) → matter_of t p mess (verdict_of t (link_of S.links p) mess) S ≡ Goes e progress → IsContinued e progress n S)
+    → ((e : Exchange) (progress : Progress) → goes_with (matter_of t p mess (verdict_of t (link_of S.links p) mess) S) ≡ Some (e, progress) → IsContinued e progress n S)
     → Kept (takes_new t p d mess (verdict_of t (link_of S.links p) mess) n S)
 new-keeps t p d mess n S m h spelled none room onward =
     let l = m.kept.reading in
@@ -180,12 +182,17 @@ new-keeps t p d mess n S m h spelled none room onward =
     let heard_so = heard_link t mess.mid mess.token (is_one_of (gone_by mess S.entries mt S.watches)) v s in
     let new = link_with t (more_by n mt) heard_so in
     let ids : HasMids new = ids-with t mt n s heard_so (record { small = (m.kept.mids p).small; enough = (m.kept.mids p).enough }) refl
-    (λ e progress is. ltb-true _ _ (and-right (ltb (length s.waiting - let_go v) 64) _ (goes-place t v.news (has_next_place t p v S) mess S (answered_in (ended_token v.news mess.token) S.exchanges) e progress is))) in
+    (goes-ids t p mess S v.news (has_next_place t p v S) (answered_in (ended_token v.news mess.token) S.exchanges)
+    (λ place. ltb-true _ _ (and-right (ltb (length s.waiting - let_go v) 64) _ place))) in
     let amid : Amid (x ∷ l) t S1 = record {
       before = record { reads = made.leads.reads; later = omega arith };
       unsealed = m.unsealed;
       mids = all-links (λ (q : Peer) (u : LinkState). HasMids u) p new S.links ids (λ q away. m.kept.mids q);
-      in_time = by-since (ticked l) S.entries n.token mt S.exchanges rests.in_time;
+      in_time = by-since (ticked l) S.entries n.token mt S.exchanges rests.in_time
+          (λ r e progress is.
+          let now = starts-now t p mess S v.news (has_next_place t p v S) (answered_in (ended_token v.news mess.token) S.exchanges) r e progress is in
+          let tick = tick-before l t S h.before in
+          omega (arith, now, tick));
     } in
     let given = given-moves (x ∷ l) t p S1 mess.mid v.reply amid made.owes in
     let S2 = given_back t p (replies mess.mid v.reply) S1 in
@@ -323,11 +330,26 @@ hears-keeps t p d n S m bytes onward = by (is_some (link_of S.links p).last_mid)
     by true known false long = m.kept
     by false none c any = m.kept
 
--- The body that it was opened for keeps its limit.
-short-for : {start : Start} (l : List Noted) (x : Noted) (e : Exchange) → ExchangeIn start l e → IsShortFor (x ∷ l) e.opening
-short-for l x e a b opened write =
-    subst (λ (q : CoapRequest). length q.body ≤ 65536)
-    (ap (λ (b : Begun). b.request) (some-is _ _ (sym (begun-keeps x l e.opening _ a.opening) ∙ opened))) a.short
+-- What it ends with as a whole are few replies.
+few-of : {start : Start} (l : List Noted) (t : ℕ) (p : Peer) (d : List ℕ) (m : Content) (S : State) → Legal l → (e : Exchange) (how : Ending)
+    → (it : IsOver start l t p d m S e how) → (real : Ending) → it.real ≡ real → WholeOfFew real
+few-of l t p d m S legal e how it (Whole w ws) is =
+    let a = it.it.kept in
+    let q : CoapRequest = a.request in
+    let rs : List ReplyTo = heard_for l e.opening in
+    let r : ReplyTo = reply_of l it.it.sending m in
+    let goes : GoesSo (Some (record { since = e.since; request = q })) rs = subst (λ (v : Option Begun). GoesSo v rs) a.opening (goes-so l e.opening legal it.it.going) in
+    let made : IsMadeOf q (rs ++ r ∷ []) w ws =
+    subst (CameTo q (rs ++ r ∷ [])) (it.whole w ws is) (came-to q rs r (λ end ends. going-not (progress q rs) end goes.0 ends) goes.1) in
+    let few = whole-few q (messages ws) w (λ write. a.short) made.whole in
+    let one = length-map ws (λ (r : ReplyTo). r.message) in
+    let two = length-map ws (λ (r : ReplyTo). r.number) in
+    omega (arith, few, one, two)
+few-of l t p d m S legal e how it (Renewed s r) is = tt
+few-of l t p d m S legal e how it NotUnderstood is = tt
+few-of l t p d m S legal e how it ResetSo is = tt
+few-of l t p d m S legal e how it TimedOut is = tt
+few-of l t p d m S legal e how it Turned is = tt
 
 -- What an exchange ended with by it isn't long.
 pub heard-brief : (t : ℕ) (p : Peer) (d : List ℕ) (S : State) → MayStep t S → IsBriefBy t p d S
@@ -336,8 +358,8 @@ heard-brief t p d S m k at again kept known short e how r is = elim (lost-or-new
   | inr w ↦
       let h = may-hear t p d S m known short in
       let it : IsOver h.before.reads.start l t p d k S e how = subst (IsMatter h.before.reads.start l t p d k S) is (is-matter l t p d k S h w.0 w.1) in
-      let small = ends-brief (heard_entry l t p d k ∷ l) e.opening (length l) it.real e.sending r (short-for l (heard_entry l t p d k) e it.it.kept)
-      (tells-few l t p d k S m.kept.rests.reads e it.it.kept it.real it.ends) it.ends in
+      let small = ends-brief (length l) it.real e.sending r (few-of l t p d k S m.kept.rests.reads.legal e how it it.real refl)
+      (tells-few l t p d k S m.kept.rests.reads e it.it.kept it.real it.ends) in
       let as_real : grounds_size (grounds_for it.real (length S.entries) e.sending r) ≤ 16392 = any-number it.real (length l) (length S.entries) e.sending r small in
       subst (λ (g : Grounds). grounds_size g ≤ 16392) (grounds-bare it.real (length S.entries) e.sending r ∙ ap (λ (u : Ending). grounds_for u (length S.entries) e.sending r) (sym it.same)) as_real
 ]

@@ -17,7 +17,8 @@ use Rattle.exchange_model.specs.declared.kept.Reader.{Reader}
 use Rattle.exchange_model.specs.declared.kept.Exchange.{Exchange}
 use Rattle.exchange_model.specs.State.{State}
 use Rattle.exchange_model.specs.Reads.{Reads}
-use Rattle.exchange_model.specs.Steps.{opens, shuts, seals, is_past}
+use Rattle.exchange_model.specs.Steps.{opens, shuts, seals}
+use Rattle.exchange_model.specs.Hearing.{is_past}
 use Rattle.exchange_model.specs.Calls.{peer_of, asked, heard, ticked}
 use Rattle.exchange_model.specs.Keeping.{Kept, MayStep}
 use Rattle.exchange_model.specs.Room.{has_asked, seals_left, entries_taken, bytes_taken, fits, KeptInRoom, WithinLimits}

@@ -15,7 +15,7 @@ use Rattle.history_laws.proofs.CallerLemmas.{all-filter, all-more, all-of, all-p
 use Rattle.exchange_model.specs.declared.kept.Exchange.{Exchange}
 use Rattle.exchange_model.specs.declared.kept.Reader.{Reader}
 use Rattle.exchange_model.specs.State.{State}
-use Rattle.exchange_model.specs.Steps.{is_past}
+use Rattle.exchange_model.specs.Hearing.{is_past}
 use Rattle.exchange_model.specs.Calls.{Telling, is_reader_of, timeout_for, told_late}
 use Rattle.exchange_model.specs.Keeping.{Kept}
 use Rattle.exchange_model.specs.Sealing.{late, IsPrompt, ArePrompt}

@@ -1,8 +1,9 @@
 -- What is observed was asked for lately: since the last tick, or not long before it.
-use Rattle.std.proofs.Common.{◌≡◌, ℕ, ◌+◌, ◌<◌, ◌≤◌, Bool, true, false, cond, eqb, not, List, [], ◌∷◌, length, Option, Some, None, option_map, refl, sym, ap, subst, ◌∙◌, arith}
+use Rattle.std.proofs.Common.{◌≡◌, ℕ, ◌+◌, ◌<◌, ◌≤◌, Bool, true, false, cond, eqb, not, List, [], ◌∷◌, length, Option, Some, None, option_map, refl, sym, ap, subst, ◌∙◌, arith, inl, inr}
+use Rattle.history_laws.specs.Progress.{Reply}
 use Rattle.std.specs.Prelude.{is_none}
 use Rattle.std.specs.List.{AllByRecursion, list_all}
-use Rattle.std.proofs.lemmas.Bool.{leb-false, lt-leb, not-true, or_parts}
+use Rattle.std.proofs.lemmas.Bool.{leb-false, lt-leb, not-true, or_parts, false≢true}
 use Rattle.limits.specs.declared.TheConstants.{MAX_TRANSMIT_WAIT}
 use Rattle.coap_codec.specs.Spelling.{Content}
 use Rattle.uri_map.specs.declared.peer.Peer.{Peer}
@@ -12,50 +13,73 @@ use Rattle.observe_share.specs.declared.registration.Registration.{Registration}
 use Rattle.observe_share.specs.declared.notice.Notice as Shared
 use Rattle.observe_share.specs.declared.notice.Notice.TheVariants.{Update, Other}
 use Rattle.observe_share.specs.Watches.{counted, counts_for, first_changed, in_place}
-use Rattle.history_laws.specs.Readings.{Noted, Note, Begins, Joins, Says, Notice, Observation, Unobserved, Registers, Updates, Outdates, Cancels, noted, ticked, ticked_by, Renews}
+use Rattle.history_laws.specs.Readings.{Noted, Note, Begins, Joins, Says, Notice, Observation, Unobserved, Registers, Updates, Outdates, Cancels, noted, ticked, ticked_by, Renews, Starts, at, before}
 use Rattle.history_laws.specs.Transmissions.{FirstSending, first_at}
-use Rattle.history_laws.specs.Exchanges.{Begun, begun, begun_by, End, end_by, end_here, end_of, expires, Expired, is_late, Nothing, opens_by, replies, waits_for, kept as kept_of}
-use Rattle.history_laws.specs.Observing.{Watch, asked_again, asked_by, asked_last, asked_last_by, current_by, held_by, idles, is_current, is_for, is_under, notice_in, registered, registered_of, told_by, watches, watches_by}
+use Rattle.history_laws.specs.Exchanges.{Begun, begun, begun_by, End, end_by, end_here, end_of, expires, Expired, is_late, Nothing, opens_by, replies, waits_for, kept as kept_of, heard_for}
+use Rattle.history_laws.specs.Observing.{Watch, asked_again, asked_by, asked_last, asked_last_by, current_by, held_by, idles, is_current, is_for, is_under, notice_in, registered, registered_of, told_by, watches, watches_by, observes, unless_replied, wants_in, wants_by}
 use Rattle.history_laws.specs.Justified.{is_asked_for, Legal}
-use Rattle.history_laws.proofs.CallerLemmas.{all-filter, all-join, all-more, all-passes, at-newest, begun-opening, going-before, IsRegistering, none-some, open-exactly, registering, said, some-is, ticked-newest}
+use Rattle.history_laws.proofs.CallerLemmas.{all-filter, all-join, all-more, all-passes, at-newest, begun-opening, going-before, IsRegistering, none-some, open-exactly, registering, said, some-is, ticked-newest, at-old, at-same, eqb-itself}
 use Rattle.exchange_model.proofs.Expiring.{awaited-open}
 use Rattle.exchange_model.proofs.Lists.{all-map, all-pass}
 
 -- An exchange was asked for when it was opened, or later.
 
-since-step : (l : List Noted) (o t : ℕ) (note : Note) (b : Begun) → (begun l o ≡ Some b → b.since ≤ asked_last l o) → (begun l o ≡ Some b → b.since ≤ t)
-    → begun_by (opens_by note) (eqb (length l) o) t (begun l o) ≡ Some b → b.since ≤ asked_last_by o (length l) t note (asked_last l o)
-since-step l o t (Begins q) b ih old e = by (eqb (length l) o) e
+since-step : (o n t since old : ℕ) (note : Note) → since ≤ old → since ≤ t → since ≤ asked_last_by o n t note old
+since-step o n t since old (Begins q) first later = by (eqb n o)
   where
-    by : (c : Bool) → begun_by (Some q) c t (begun l o) ≡ Some b → b.since ≤ cond c t (asked_last l o)
-    by true e = let same = ap (λ (f : Begun). f.since) (some-is _ b e) in omega (arith, same)
-    by false e = ih e
-since-step l o t (Renews q s) b ih old e = by (eqb (length l) o) e
+    by : (c : Bool) → since ≤ cond c t old
+    by true = later
+    by false = first
+since-step o n t since old (Renews q s) first later = by (eqb n o)
   where
-    by : (c : Bool) → begun_by (Some q) c t (begun l o) ≡ Some b → b.since ≤ cond c t (asked_last l o)
-    by true e = let same = ap (λ (f : Begun). f.since) (some-is _ b e) in omega (arith, same)
-    by false e = ih e
-since-step l o t (Joins p) b ih old e = by (eqb p o)
+    by : (c : Bool) → since ≤ cond c t old
+    by true = later
+    by false = first
+since-step o n t since old (Joins p) first later = by (eqb p o)
   where
-    by : (c : Bool) → b.since ≤ cond c t (asked_last l o)
-    by true = old e
-    by false = ih e
-since-step l o t note b ih old e = ih e
+    by : (c : Bool) → since ≤ cond c t old
+    by true = later
+    by false = first
+since-step o n t since old note first later = first
 
-since-asked : (l : List Noted) (o : ℕ) (b : Begun) → Legal l → begun l o ≡ Some b → b.since ≤ asked_last l o
-since-asked [] o b legal e = absurd (none-some b e)
-since-asked (x ∷ older) o b legal e =
-    since-step older o x.written.moment x.note b (since-asked older o b legal.0) before e
+since-asked : (l : List Noted) (o : ℕ) (x : Noted) (q : CoapRequest) → Legal l → at l o ≡ Some x → x.note ≡ Begins q → x.written.moment ≤ asked_last l o
+since-asked [] o x q legal e note = absurd (none-some x e)
+since-asked (y ∷ older) o x q legal e note = elim (at-old y older o x e) [
+  | inl w ↦
+      subst (λ (z : Noted). z.written.moment ≤ asked_last (y ∷ older) o) w.1
+      (subst (λ (n : Note). y.written.moment ≤ asked_last_by o (length older) y.written.moment n (asked_last older o)) (sym (ap (λ (z : Noted). z.note) w.1 ∙ note))
+      (rw (w.0, eqb-itself (length older)) (omega arith)))
+  | inr old ↦
+      let first = at-newest older o x legal.0 old in
+      let later = legal.1 in
+      since-step o (length older) y.written.moment x.written.moment (asked_last older o) y.note (since-asked older o x q legal.0 old note) (omega (arith, first, later))
+]
+
+-- One that asks to observe was opened by an ask.
+record AskedFirst (l : List Noted) (o : ℕ) : Type 0 where
+  pub entry : Noted
+  pub request : CoapRequest
+  pub stands : at l o ≡ Some entry
+  pub note : entry.note ≡ Begins request
+
+asked-first : (l : List Noted) (o : ℕ) → observes l o ≡ true → AskedFirst l o
+asked-first l o e = of (at l o) refl (wanted (wants_in (before l o) (at l o)) (replies l o) e)
   where
-    before : begun older o ≡ Some b → b.since ≤ x.written.moment
-    before is =
-        let first = at-newest older o _ legal.0 (begun-opening older o b is).2 in
-        let later = legal.1 in
-        omega (arith, first, later)
+    wanted : (b : Bool) (rs : List Reply) → unless_replied b rs ≡ true → b ≡ true
+    wanted b [] f = f
+    wanted b (r ∷ rs) f = absurd (false≢true f)
+
+    noted-so : (older : List Noted) (d : Deed) (note : Note) → wants_by older d note ≡ true → (q : CoapRequest) × (note ≡ Begins q)
+    noted-so older (Asks c a) (Begins q) f = (q, refl)
+    noted-so older d note f = absurd (false≢true f)
+
+    of : (v : Option Noted) → at l o ≡ v → wants_in (before l o) v ≡ true → AskedFirst l o
+    of None is f = absurd (false≢true f)
+    of (Some x) is f = let it = noted-so (before l o) x.written.deed x.note f in record { entry = x; request = it.0; stands = is; note = it.1 }
 
 -- What is open was opened since the last tick, or is no older than it may be.
 
-ends-late : (l : List Noted) (o t n : ℕ) (a : Bool) (old : Option End) → end_by (end_here (begun l o) (kept_of l o) n (replies l o) (cond a Expired Nothing)) n old ≡ None → a ≡ false
+ends-late : (l : List Noted) (o t n : ℕ) (a : Bool) (old : Option End) → end_by (end_here (begun l o) (kept_of l o) n (heard_for l o) (cond a Expired Nothing)) n old ≡ None → a ≡ false
 ends-late l o t n false old e = refl
 ends-late l o t n true None e = absurd (none-some _ (sym e))
 ends-late l o t n true (Some f) e = absurd (none-some _ (sym e))
@@ -126,8 +150,10 @@ told-asked l t p b m i notice legal a = by notice.observation refl
     lately r =
         let going = ((open-exactly l r.first.opening).0 (awaited-open l r.first.opening i legal.0 r.waited)).1 in
         let first = young l r.first.opening r.exchange legal.0 r.opened going in
-        let last = since-asked l r.first.opening r.exchange legal.0 r.opened in
-        omega (arith, first, last)
+        let asked = asked-first l r.first.opening r.observing in
+        let last = since-asked l r.first.opening asked.entry asked.request legal.0 asked.stands asked.note in
+        let same = ap (λ (z : Noted). z.written.moment) (at-same l r.first.opening asked.entry _ asked.stands (begun-opening l r.first.opening r.exchange r.opened).2) in
+        omega (arith, first, last, same)
 
     new : (r : IsRegistering l m i) → AllByRecursion P (registered l t i m (first_at l i))
     new r =
@@ -139,6 +165,7 @@ told-asked l t p b m i notice legal a = by notice.observation refl
     by Registers e = all-join P (watches l) (registered l t i m (first_at l i)) a (new (registering l t m i ((said l t p b m i notice legal.2).observation ∙ e)))
     by Updates e = changed
     by Outdates e = changed
+    by (Starts ask request) e = changed
     by Cancels e = changed
 
 asked-step : (l : List Noted) (t : ℕ) (d : Deed) (note : Note) → Legal (noted t d note ∷ l) → AllByRecursion (IsAsked (ticked l)) (watches l)

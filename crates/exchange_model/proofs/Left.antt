@@ -1,5 +1,6 @@
 -- What a message that is new leaves of the tables: a state that has that says what the history says.
-use Rattle.std.proofs.Common.{◌≡◌, ℕ, ◌+◌, ◌<◌, ◌⊎◌, inl, inr, Bool, true, false, List, [], ◌∷◌, ◌++◌, length, map, None, refl, sym, ap, subst}
+use Rattle.std.proofs.Common.{◌≡◌, ℕ, ◌+◌, ◌<◌, ◌⊎◌, inl, inr, Bool, true, false, List, [], ◌∷◌, ◌++◌, length, map, None, refl, sym, ap, subst, Option, Some, ◌∙◌}
+use Rattle.history_laws.proofs.CallerLemmas.{some-is, starts-peer}
 use Rattle.std.specs.List.{AllByRecursion}
 use Rattle.coap_codec.specs.Spelling.{Content, Spells}
 use Rattle.uri_map.specs.declared.peer.Peer.{Peer}
@@ -9,11 +10,12 @@ use Rattle.message_layer.specs.Values.{LinkState}
 use Rattle.message_layer.specs.Hearing.{verdict_of}
 use Rattle.journal_book.specs.Entries.{Hears, Written}
 use Rattle.history_laws.specs.Numbering.{token_number}
-use Rattle.history_laws.specs.Readings.{Noted}
+use Rattle.ask_model.specs.Requests.{CoapRequest}
+use Rattle.history_laws.specs.Readings.{Noted, Observation, Unobserved, Registers, Updates, Outdates, Starts, Cancels}
 use Rattle.history_laws.specs.Transmissions.{FirstSending, firsts}
-use Rattle.history_laws.specs.Hearing.{answers, repeated, can_be_remembered}
+use Rattle.history_laws.specs.Hearing.{answers, repeated, can_be_remembered, observation_of}
 use Rattle.history_laws.specs.Justified.{Follows, Legal}
-use Rattle.history_laws.specs.Exchanges.{issued, open_exchanges}
+use Rattle.history_laws.specs.Exchanges.{issued, open_exchanges, started_by}
 use Rattle.history_links.specs.Agrees.{Agrees, due}
 use Rattle.history_laws.specs.Observing.{watches}
 use Rattle.history_links.specs.Steps.{heard_link, heard, Heeds as LinkHeeds, IsUnnoticed}
@@ -22,7 +24,9 @@ use Rattle.exchange_model.specs.declared.kept.Exchange.{Exchange}
 use Rattle.exchange_model.specs.State.{State, link_of, with_link}
 use Rattle.exchange_model.specs.Reads.{ExchangeIn, held_of, opening_of, PiecesIn, StoreIn, WaitsUnder, StalesIn}
 use Rattle.exchange_model.specs.Watching.{is_one_of}
-use Rattle.exchange_model.specs.Steps.{Matter, entered, exchanges_by, gone_by, issued_by, link_with, more_by, Numbers, pieces_by, store_by, watches_by, stales_by}
+use Rattle.exchange_model.specs.Steps.{entered}
+use Rattle.exchange_model.specs.Matters.{Matter}
+use Rattle.exchange_model.specs.Hearing.{exchanges_by, gone_by, issued_by, link_with, more_by, Numbers, pieces_by, store_by, watches_by, stales_by}
 use Rattle.exchange_model.specs.Laws.{Heeds, MayHear}
 use Rattle.exchange_model.proofs.Borne.{answers-peer}
 use Rattle.exchange_model.proofs.Silent.{later-than, link-before, moment-now}
@@ -45,6 +49,25 @@ after t p d m n x S =
       store = store_by S.entries t x S.store;
       links = with_link p (link_with t (more_by n x) (heard_link t m.mid m.token (is_one_of (gone_by m S.entries x S.watches)) (verdict_of t s m) s)) S.links;
     }
+
+-- What it opens is with the peer that it came from.
+pub started-peer : (l : List Noted) (t : ℕ) (p : Peer) (m : Content) (q : CoapRequest) → Legal l → started_by (observation_of l t m (answers l p m)) ≡ Some q → q.peer ≡ p
+started-peer l t p m q legal e = by (answers l p m) refl e
+  where
+    none-some : None ≡ Some q → ⊥
+    none-some e = cc
+
+    of : (i : ℕ) → answers l p m ≡ Some i → (v : Observation) → observation_of l t m (Some i) ≡ v → started_by v ≡ Some q → q.peer ≡ p
+    of i to (Starts k r) seen e = ap (λ (q : CoapRequest). q.peer) (sym (some-is r q e)) ∙ starts-peer l t p m i k r legal to seen
+    of i to Unobserved seen e = absurd (none-some e)
+    of i to Registers seen e = absurd (none-some e)
+    of i to Updates seen e = absurd (none-some e)
+    of i to Outdates seen e = absurd (none-some e)
+    of i to Cancels seen e = absurd (none-some e)
+
+    by : (to : Option ℕ) → answers l p m ≡ to → started_by (observation_of l t m to) ≡ Some q → q.peer ≡ p
+    by None to e = absurd (none-some e)
+    by (Some i) to e = of i to (observation_of l t m (Some i)) refl e
 
 module _ (l : List Noted) (t : ℕ) (p : Peer) (d : List ℕ) (m : Content) (n : Numbers) (S : State) (h : MayHear l t p d S)
     (spelled : Spells m d) (none : repeated l t p m ≡ None) (room : can_be_remembered l t p m ≡ true) where
@@ -103,6 +126,7 @@ module _ (l : List Noted) (t : ℕ) (p : Peer) (d : List ℕ) (m : Content) (n :
             links_are = all-links (λ (q : Peer) (v : LinkState). Agrees r.start (x ∷ l) q v) p _ S.links left.link_is.agrees
                 (λ q away. says-elsewhere _ l t q p (link_of S.links q) d m (answers l p m) _ (link-before l t S h.before q) away
                 (λ i f to first. subst (λ (a : Peer). same_peer a q ≡ false) (sym (same_peer-same f.peer p (answers-peer l p m i f to first))) away)
+                (λ r opens. subst (λ (a : Peer). same_peer a q ≡ false) (sym (started-peer l t p m r h.before.reads.legal opens)) away)
                 (left.unnoticed q away));
           };
         };

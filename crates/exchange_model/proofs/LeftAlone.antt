@@ -8,7 +8,7 @@ use Rattle.uri_map.specs.declared.peer.Peer.{Peer}
 use Rattle.history_laws.specs.Readings.{Noted}
 use Rattle.history_laws.specs.Hearing.{answers, can_be_remembered, notice_of, repeated}
 use Rattle.history_laws.specs.Justified.{Ends}
-use Rattle.history_laws.specs.Progress.{Reply, Whole, Ending, Renewed}
+use Rattle.history_laws.specs.Progress.{Whole, Ending, Renewed}
 use Rattle.history_laws.specs.Exchanges.{end_of, is_going}
 use Rattle.history_laws.proofs.CallerLemmas.{all-more, contains-none, filter-all}
 use Rattle.history_links.specs.Steps.{heard}
@@ -19,13 +19,15 @@ use Rattle.ask_model.specs.Sharing.{asked_key}
 use Rattle.history_laws.specs.Observing.{watches}
 use Rattle.exchange_model.specs.Watching.{is_one_of}
 use Rattle.exchange_model.specs.Reads.{ExchangeIn, got_in, held_of, opening_of, WaitsUnder}
-use Rattle.exchange_model.specs.Steps.{Nothing, answered_in, Numbers}
+use Rattle.exchange_model.specs.Matters.{Nothing, answered_in}
+use Rattle.exchange_model.specs.Hearing.{Numbers}
 use Rattle.exchange_model.specs.Laws.{MayHear}
-use Rattle.exchange_model.proofs.Answered.{ended, hits, issued-still, kept-in, none-goes-on, none-hit}
+use Rattle.exchange_model.proofs.Answered.{ended, hits, issued-still, kept-in, none-goes-on, none-hit, openings-same}
 use Rattle.exchange_model.proofs.Begins.{waits-with}
 use Rattle.exchange_model.proofs.Hearing.{end-kept, kept-one, open-later, replies-kept}
 use Rattle.exchange_model.proofs.Left.{follows-so, Left, legal-so}
-use Rattle.exchange_model.proofs.Noticing.{IsSilent, told}
+use Rattle.exchange_model.proofs.Noticing.{told}
+use Rattle.exchange_model.proofs.ToldAlone.{IsSilent}
 use Rattle.exchange_model.proofs.Observed.{silent-forgets, silent-resets, silent-unnoticed}
 use Rattle.exchange_model.proofs.Watches.{newest-quiet, outdated-quiet}
 use Rattle.exchange_model.proofs.Written.{none-dropped, told-stand, written-left}
@@ -73,8 +75,8 @@ module _ (l : List Noted) (t : ℕ) (p : Peer) (d : List ℕ) (m : Content) (n :
   left-alone =
       let r = h.before.reads in
       record {
-        issued_are = ap (λ (k : ℕ). r.start.issued + k) (issued-still l t p d m S h none room no-over) ∙ r.issued_are;
-        keys = open-later x l S.exchanges refl r.keys ∙ ap (map opening_of) (filter-all (λ (e : Exchange). is_going (x ∷ l) e.opening) S.exchanges (each-of _ S.exchanges goes));
+        issued_are = ap (λ (k : ℕ). r.start.issued + k) (issued-still l t p d m S h none room silent.unopened no-over) ∙ r.issued_are;
+        keys = open-later x l S.exchanges (openings-same l t p d m S h none room silent.unopened) r.keys ∙ ap (map opening_of) (filter-all (λ (e : Exchange). is_going (x ∷ l) e.opening) S.exchanges (each-of _ S.exchanges goes));
         exchanges_are = each-of (ExchangeIn r.start (x ∷ l)) S.exchanges (λ e has.
             let a = kept-in l t p d m S h none room e has in
             kept-one l t p (link_of S.links p) d m r.legal e e.current e.newest a (unhit e has) (current-still x l S r [] ends (legal-so l t p d m n S h spelled none room) refl e a)
@@ -91,5 +93,5 @@ module _ (l : List Noted) (t : ℕ) (p : Peer) (d : List ℕ) (m : Content) (n :
         waiting_are = waits-with p _ S.links S.exchanges (all-more _ _ (λ e k at_p. subst (λ (q : Peer). WaitsUnder (link_of S.links q).waiting e) at_p k) S.exchanges r.waiting_are) r.waiting_are;
         link_is = says-agrees _ l t p (link_of S.links p) d m (is_one_of []) (link-before l t S h.before p) none room
             (silent-forgets l t p d m n S h spelled none room is left) (silent-resets l t p d m n S h spelled none room is)
-            (none-goes-on l t p d m S h none room no-over);
+            (none-goes-on l t p d m S h none room silent.unopened no-over);
       }

@@ -12,7 +12,6 @@ use Rattle.message_layer.specs.Hearing.{verdict_of}
 use Rattle.ask_model.specs.Sharing.{asked_key, asked_place}
 use Rattle.history_laws.specs.Numbering.{token_number}
 use Rattle.history_laws.specs.Readings.{Noted}
-use Rattle.history_laws.specs.Responses.{Response}
 use Rattle.history_laws.specs.Transmissions.{FirstSending, firsts}
 use Rattle.history_laws.specs.Hearing.{answers, can_be_remembered, notice_of, repeated}
 use Rattle.history_laws.specs.Observing.{counting, watches}
@@ -20,7 +19,7 @@ use Rattle.history_laws.specs.Joining.{outrun}
 use Rattle.history_laws.specs.Justified.{Ends}
 use Rattle.history_laws.specs.Progress.{Reply, numbers, Progress, Whole, Ending, Renewed}
 use Rattle.history_laws.specs.Exchanges.{end_of, is_going, kept as kept_of, replies}
-use Rattle.history_laws.proofs.CallerLemmas.{all-filter, all-more, all-of, all-push, at-below, contains-none, entries-length, eqb-itself, eqb-same, filter-all, IsGoing}
+use Rattle.history_laws.proofs.CallerLemmas.{all-filter, all-more, all-of, all-push, contains-none, entries-length, eqb-itself, eqb-same, filter-all, IsGoing, begun-below}
 use Rattle.history_links.specs.Steps.{EndsReset, heard, heard_link}
 use Rattle.history_links.proofs.CallerLemmas.{goes-on-agrees}
 use Rattle.exchange_model.specs.declared.kept.Exchange.{Exchange}
@@ -28,15 +27,17 @@ use Rattle.exchange_model.specs.declared.kept.Piece.{Piece}
 use Rattle.exchange_model.specs.State.{State, link_of, with_link}
 use Rattle.exchange_model.specs.Watching.{is_one_of, registered}
 use Rattle.exchange_model.specs.Reads.{ExchangeIn, got_in, held_of, opening_of, PiecesIn, WaitsUnder, StalesIn, kept_in, kept_yet}
-use Rattle.exchange_model.specs.Steps.{Goes, asked_in, gone_by, unless_registered, continued, goes_so, got_by, is_of_other, is_under, Numbers, numbers_of, pieces_with, is_stale_of_other, stale_in}
+use Rattle.exchange_model.specs.Steps.{is_under}
+use Rattle.exchange_model.specs.Matters.{Goes, asked_in, numbers_of, stale_in}
+use Rattle.exchange_model.specs.Hearing.{gone_by, unless_registered, continued, goes_so, got_by, is_of_other, Numbers, pieces_with, is_stale_of_other}
 use Rattle.exchange_model.specs.Laws.{IsContinued, MayHear}
-use Rattle.exchange_model.proofs.Answered.{hits, other-going, other-opening, other-unhit, same-opening, start}
+use Rattle.exchange_model.proofs.Answered.{hits, other-going, other-opening, other-unhit, same-opening, start, openings-same}
 use Rattle.exchange_model.proofs.Bare.{bare, bare_progress, got-bare}
 use Rattle.exchange_model.proofs.Begins.{waits-with}
 use Rattle.exchange_model.proofs.Fetched.{IsMore, numbers-gone, numbers-others, numbers-push, numbers-push-other, numbers-push-own}
 use Rattle.exchange_model.proofs.Hearing.{kept-one, open-later, replies-kept}
 use Rattle.exchange_model.proofs.Left.{follows-so, Left, legal-so, told}
-use Rattle.exchange_model.proofs.Noticing.{answered-silent, answered-told, told as told_in}
+use Rattle.exchange_model.proofs.Noticing.{answered-silent, answered-told, told as told_in, answered-unopened}
 use Rattle.exchange_model.proofs.Observed.{answered-resets, registered-forgets, registered-unnoticed}
 use Rattle.exchange_model.proofs.Watches.{newest-quiet, outdated-quiet}
 use Rattle.exchange_model.proofs.Written.{none-dropped, told-stand, written-left}
@@ -105,7 +106,7 @@ module _ (l : List Noted) (t : ℕ) (p : Peer) (d : List ℕ) (m : Content) (n :
   silent : counting l x.note ≡ None
   silent = answered-silent l t p d m S h none room e on.it
 
-  left : map held_of (watches (x ∷ l)) ≡ registered t m e (asked_in S.entries e.opening) S.watches
+  left : map held_of (watches (x ∷ l)) ≡ registered t m e (asked_in S.entries e.ask) S.watches
   left =
       let legal = legal-so l t p d m n S h spelled none room in
       written-left x l S h.before.reads [] ends legal (told_in l t p d m S h none room)
@@ -213,7 +214,7 @@ module _ (l : List Noted) (t : ℕ) (p : Peer) (d : List ℕ) (m : Content) (n :
       by (y ∷ rs) is (inr one_more) =
           pieces-so (S.pieces ++ last ∷ []) (more-fetched one_more)
           (all-push (λ (y : Piece). y.opening < length (x ∷ l)) S.pieces last old
-          (let below = at-below l e.opening _ on.it.kept.stands in omega (arith, below)))
+          (let below = begun-below l e.opening _ on.it.kept.opening in omega (arith, below)))
 
   -- What it asked about is nothing to it any more.
   stale-now : (f : Exchange) → Contains S.exchanges f → kept_in (x ∷ l) f.opening ≡ stale_in f.opening (filter (is_stale_of_other e) S.stales)
@@ -268,7 +269,7 @@ module _ (l : List Noted) (t : ℕ) (p : Peer) (d : List ℕ) (m : Content) (n :
       let r = h.before.reads in
       record {
         issued_are = (let one = issued-now l t p d m S h none room e real_now how is_going_on on real n g in let before_it = r.issued_are in omega (arith, one, before_it));
-        keys = open-later x l S.exchanges refl r.keys
+        keys = open-later x l S.exchanges (openings-same l t p d m S h none room (answered-unopened l t p d m S h none room e on.it)) r.keys
             ∙ (ap (map opening_of) (filter-all (λ (f : Exchange). is_going (x ∷ l) f.opening) S.exchanges (each-of _ S.exchanges goes))
             ∙ sym (goes-openings e n.token now S.exchanges));
         exchanges_are = all-map (goes_so e n.token now) (ExchangeIn r.start (x ∷ l)) S.exchanges (each-of _ S.exchanges (λ f has. one-kept f has (is_under e.token f) refl));

@@ -12,7 +12,7 @@ use Rattle.observe_share.specs.Watches.{without}
 use Rattle.history_laws.specs.Observing.{counting, outdated, watches}
 use Rattle.history_laws.specs.Responses.{Response}
 use Rattle.history_laws.specs.Progress.{Ending, Ends as EndsSoFar, numbers, Progress, progress, Reply, step, Whole, Renewed, NotUnderstood, Reset, TimedOut, Turned}
-use Rattle.history_laws.specs.Exchanges.{Begun, End, end_of, is_going, replies}
+use Rattle.history_laws.specs.Exchanges.{Begun, End, end_of, is_going, heard_for}
 use Rattle.ask_model.specs.Requests.{CoapRequest}
 use Rattle.history_laws.proofs.CallerLemmas.{all-filter, all-more, all-of, all-passes, contains-none, eqb-same, filter-by, first-or-later, progress-push, some-is}
 use Rattle.history_links.specs.Steps.{heard}
@@ -23,15 +23,16 @@ use Rattle.exchange_model.specs.declared.kept.Work.{Work}
 use Rattle.exchange_model.specs.declared.kept.Work.TheVariants as W
 use Rattle.exchange_model.specs.Watching.{is_one_of, is_written_by, tokens_of}
 use Rattle.exchange_model.specs.Reads.{ExchangeIn, got_in, held_of, opening_of, PiecesIn, StoreIn, WaitsUnder, StalesIn, kept_in}
-use Rattle.exchange_model.specs.Steps.{Over, asked_in, gone_by, got_by, newest_by, newest_content, progress_with, watches_by, is_of_other, is_other, left_by, Numbers, numbers_of, outrun_by, settled, is_stale_of_other, stale_in}
+use Rattle.exchange_model.specs.Matters.{Over, asked_in, progress_with, is_other, left_by, numbers_of, outrun_by, stale_in}
+use Rattle.exchange_model.specs.Hearing.{gone_by, got_by, newest_by, newest_content, watches_by, is_of_other, Numbers, settled, is_stale_of_other}
 use Rattle.exchange_model.specs.Laws.{MayHear}
-use Rattle.exchange_model.proofs.Answered.{hits, issued-still, kept-hits, none-goes-on, other-going, other-opening, other-unhit, same-opening, start}
+use Rattle.exchange_model.proofs.Answered.{hits, issued-still, kept-hits, none-goes-on, other-going, other-opening, other-unhit, same-opening, start, openings-same}
 use Rattle.exchange_model.proofs.Begins.{waits-with}
 use Rattle.exchange_model.proofs.Fetched.{numbers-others}
 use Rattle.exchange_model.proofs.Hearing.{kept-one, open-later, replies-kept}
 use Rattle.exchange_model.proofs.Fresh.{newest-more, step-all}
 use Rattle.exchange_model.proofs.Left.{follows-so, Left, legal-so, told}
-use Rattle.exchange_model.proofs.Noticing.{answered-silent, answered-told, told as told_in}
+use Rattle.exchange_model.proofs.Noticing.{answered-silent, answered-told, told as told_in, answered-unopened}
 use Rattle.exchange_model.proofs.Observed.{answered-resets, over-forgets, over-unnoticed}
 use Rattle.exchange_model.proofs.Watches.{newest-quiet, outdated-quiet}
 use Rattle.exchange_model.proofs.Written.{one-written, told-stand, written-left}
@@ -148,7 +149,7 @@ module _ (l : List Noted) (t : ℕ) (p : Peer) (d : List ℕ) (m : Content) (n :
       written-left x l S h.before.reads (e ∷ []) ends legal (told_in l t p d m S h none room)
       (told-stand l t p d m (answers l p m) (notice_of l t p m (answers l p m)) h.before.reads.legal (follows-so l t p d m n S h spelled none room))
       ∙ (one-written S e (map held_of (told_in l t p d m S h none room))
-      ∙ ap (without (is_written_by (asked_in S.entries e.opening))) (answered-told l t p d m S h none room e over.it))
+      ∙ ap (without (is_written_by (asked_in S.entries e.ask))) (answered-told l t p d m S h none room e over.it))
 
   -- Its first reply is this one, or one of those before.
   abbrev kept-it : ExchangeIn h.before.reads.start l e
@@ -163,8 +164,8 @@ module _ (l : List Noted) (t : ℕ) (p : Peer) (d : List ℕ) (m : Content) (n :
       let a = kept-it in
       let reply = reply_of l over.it.sending m in
       let stepped : step (progress_with e.work (got_in l e.opening)) reply ≡ EndsSoFar (Whole w (first ∷ more)) =
-      ap (λ (u : Progress). step u reply) (sym a.progress) ∙ (sym (progress-push a.request (replies l e.opening) reply)
-      ∙ (ap (λ (q : CoapRequest). progress q (replies l e.opening ++ reply ∷ [])) (sym request-same) ∙ over.whole w (first ∷ more) is)) in
+      ap (λ (u : Progress). step u reply) (sym a.progress) ∙ (sym (progress-push a.request (heard_for l e.opening) reply)
+      ∙ (ap (λ (q : CoapRequest). progress q (heard_for l e.opening ++ reply ∷ [])) (sym request-same) ∙ over.whole w (first ∷ more) is)) in
       newest-more x l (asked_key a.request) e.newest reply silent refl (got_in l e.opening) (first ∷ more) (a.newest get)
       (step-all (progress_with e.work (got_in l e.opening)) reply w (first ∷ more) (going e.work) stepped ∙ ap (λ (gs : List Reply). gs ++ reply ∷ []) (got-with e.work (got_in l e.opening)))
     where
@@ -202,8 +203,8 @@ module _ (l : List Noted) (t : ℕ) (p : Peer) (d : List ℕ) (m : Content) (n :
       let legal = legal-so l t p d m n S h spelled none room in
       let waits = all-filter (λ (f : Exchange). WaitsUnder (link_of S.links f.peer).waiting f) (is_other e.token) S.exchanges r.waiting_are in
       record {
-        issued_are = ap (λ (k : ℕ). r.start.issued + k) (issued-still l t p d m S h none room hit-gone) ∙ r.issued_are;
-        keys = open-later x l S.exchanges refl r.keys
+        issued_are = ap (λ (k : ℕ). r.start.issued + k) (issued-still l t p d m S h none room (answered-unopened l t p d m S h none room e over.it) hit-gone) ∙ r.issued_are;
+        keys = open-later x l S.exchanges (openings-same l t p d m S h none room (answered-unopened l t p d m S h none room e over.it)) r.keys
             ∙ (ap (map opening_of) (filter-by (λ (f : Exchange). is_going (x ∷ l) f.opening) (is_other e.token) S.exchanges (each-of _ S.exchanges same-test))
             ∙ sym (left-openings S.entries (e ∷ []) others));
         exchanges_are = left-each (ExchangeIn r.start (x ∷ l)) (λ (f : Exchange). OpenIn r.start l f × (is_other e.token f ≡ true)) S.entries (e ∷ [])
@@ -222,6 +223,6 @@ module _ (l : List Noted) (t : ℕ) (p : Peer) (d : List ℕ) (m : Content) (n :
             (waits-with p _ S.links others (all-more _ _ (λ f k at_p. subst (λ (q : Peer). WaitsUnder (link_of S.links q).waiting f) at_p k) others waits) waits);
         link_is = says-agrees _ l t p (link_of S.links p) d m (is_one_of (gone_by m S.entries (Over e how) S.watches)) (link-before l t S h.before p) none room
             (over-forgets l t p d m n S h spelled none room e over.it left)
-            (answered-resets l t p d m n S h spelled none room e over.it (tokens_of (is_written_by (asked_in S.entries e.opening)) S.watches))
-            (none-goes-on l t p d m S h none room hit-gone);
+            (answered-resets l t p d m n S h spelled none room e over.it (tokens_of (is_written_by (asked_in S.entries e.ask)) S.watches))
+            (none-goes-on l t p d m S h none room (answered-unopened l t p d m S h none room e over.it) hit-gone);
       }

@@ -108,7 +108,9 @@ mod Renewals
 mod Outlasts
 mod Resettled
 mod Notices
+mod Starting
 mod Noticing
+mod ToldAlone
 mod Written
 mod Watched
 mod Observed
@@ -116,6 +118,8 @@ mod Unwritten
 mod Fresh
 mod Brought
 mod LeftTold
+mod Fetches
+mod LeftStarted
 mod Retold
 mod Lately
 mod Gone

@@ -22,7 +22,8 @@ use Rattle.history_links.specs.Agrees.{Start, WaitIn}
 use Rattle.history_links.specs.Steps.{but_gone, heard_link, lets_go}
 use Rattle.exchange_model.specs.State.{State}
 use Rattle.exchange_model.specs.Watching.{is_one_of}
-use Rattle.exchange_model.specs.Steps.{given_out, link_with}
+use Rattle.exchange_model.specs.Steps.{given_out}
+use Rattle.exchange_model.specs.Hearing.{link_with}
 use Rattle.exchange_model.specs.Calls.{given_back}
 use Rattle.exchange_model.specs.Resting.{IsUndue}
 use Rattle.exchange_model.specs.Entering.{in_turn, next_out, awaits_no_more, taken_with}

@@ -1,6 +1,6 @@
 -- What a notification is to lists of what is observed, and how messages are judged.
 use Rattle.std.proofs.Common.{◌≡◌, ℕ, Bool, true, false, cond, eqb, ltb, List, [], ◌∷◌, ◌++◌, length, map, Option, Some, None, option_map, refl, sym, ap, subst, ◌∙◌}
-use Rattle.std.specs.Prelude.{find, ◌&&◌, count_by}
+use Rattle.std.specs.Prelude.{find, ◌&&◌, count_by, not}
 use Rattle.std.specs.List.{list_any}
 use Rattle.std.proofs.lemmas.Bool.{false≢true}
 use Rattle.std.proofs.lemmas.Bool.Decides.{Decides-eqb}
@@ -19,16 +19,14 @@ use Rattle.observe_share.specs.declared.notice.Notice.{Notice as Told}
 use Rattle.observe_share.specs.declared.notice.Notice.TheVariants.{Update, Other}
 use Rattle.observe_share.specs.Watches.{first_changed, heard_by, in_place, noticed}
 use Rattle.observe_share.specs.Watches as W
-use Rattle.history_laws.specs.Readings.{Noted}
+use Rattle.history_laws.specs.Readings.{Noted, Outdates, Starts}
 use Rattle.history_laws.specs.Progress.{Ending, Progress, Fetches, Gives, Ends}
-use Rattle.history_laws.specs.Exchanges.{begun, Turn, Nothing as NoTurn, Sent, Replied, Rejected, Expired, turn, waits_by, waits_for, replies, end_here, end_by, end_of, awaited, kept as kept_of}
+use Rattle.history_laws.specs.Exchanges.{begun, Turn, Nothing as NoTurn, Sent, Replied, Rejected, Expired, turn, waits_by, waits_for, end_here, end_by, end_of, kept as kept_of, heard_for, Begun}
 use Rattle.history_laws.specs.Observing.{Watch, counts, held_by, is_under, notice_in, told_by}
-use Rattle.history_laws.specs.Hearing.{counts_as, is_such}
+use Rattle.history_laws.specs.Hearing.{counts_as, is_such, has_room, is_read, starts_for}
 use Rattle.history_laws.specs.Justified.{Legal}
 use Rattle.history_laws.proofs.CallerLemmas.{first-waits, may-be, none-some, turn-sent, waiting-goes}
-use Rattle.history_links.specs.Steps.{heard}
 use Rattle.exchange_model.specs.Reads.{held_of}
-use Rattle.exchange_model.specs.Steps.{Nothing}
 
 -- lists
 
@@ -62,12 +60,22 @@ changed-held m t (w ∷ ws) = by (W.is_under m.token w.held) (changed-held m t w
     by false ih = ap (λ (rs : List Registration). w.held ∷ rs) ih
 
 -- what a notification that counts is
-pub counted-told : (l : List Noted) (t i : ℕ) (m : Content) (n : Told) (u : Progress) (ws : List Watch)
-    → (told_by l t i m (counts_as n u) ws ≡ first_changed (is_under m.token) (held_by m t) ws) × (counts (counts_as n u) ≡ true)
-counted-told l t i m (Other v) u ws = (refl, refl)
-counted-told l t i m (Update v) (Ends how) ws = (refl, refl)
-counted-told l t i m (Update v) (Fetches k pieces got) ws = (refl, refl)
-counted-told l t i m (Update v) (Gives u got) ws = (refl, refl)
+started-told : (l : List Noted) (t i k : ℕ) (m : Content) (b : Option Begun) (ws : List Watch)
+    → (told_by l t i m (starts_for l t k b) ws ≡ first_changed (is_under m.token) (held_by m t) ws) × (counts (starts_for l t k b) ≡ true)
+started-told l t i k m None ws = (refl, refl)
+started-told l t i k m (Some b) ws = by (has_room l t b.request && not (is_read l b.request))
+  where
+    by : (v : Bool)
+        → (told_by l t i m (cond v (Starts k b.request) Outdates) ws ≡ first_changed (is_under m.token) (held_by m t) ws) × (counts (cond v (Starts k b.request) Outdates) ≡ true)
+    by true = (refl, refl)
+    by false = (refl, refl)
+
+pub counted-told : (l : List Noted) (t i : ℕ) (m : Content) (r : Registration) (n : Told) (u : Progress) (ws : List Watch)
+    → (told_by l t i m (counts_as l t r n u) ws ≡ first_changed (is_under m.token) (held_by m t) ws) × (counts (counts_as l t r n u) ≡ true)
+counted-told l t i m r (Other v) u ws = (refl, refl)
+counted-told l t i m r (Update v) (Ends how) ws = (refl, refl)
+counted-told l t i m r (Update v) (Fetches k pieces got) ws = started-told l t i r.opening m (begun l r.opening) ws
+counted-told l t i m r (Update v) (Gives u got) ws = started-told l t i r.opening m (begun l r.opening) ws
 
 -- how a CON or NON that can be remembered is judged
 pick : (b c : Bool) (x y z : Verdict) → x.news ≡ N.Quiet → y.news ≡ N.Response → z.news ≡ N.Quiet → (b ≡ true → c ≡ false)
@@ -110,8 +118,8 @@ pub waits-open : (l : List Noted) (o i : ℕ) → Legal l → waits_for l o ≡ 
 waits-open [] o i legal e = absurd (none-some i e)
 waits-open (x ∷ l) o i legal e = by (turn l o x) refl e (λ j f. waits-open l o j legal.0 f)
   where
-    ending : (u : Turn) → turn l o x ≡ u → end_here (begun l o) (kept_of l o) (length l) (replies l o) u ≡ None → end_of (x ∷ l) o ≡ end_of l o
-    ending u is quiet = ap (λ (v : Turn). end_by (end_here (begun l o) (kept_of l o) (length l) (replies l o) v) (length l) (end_of l o)) is ∙ ap (λ (v : Option Ending). end_by v (length l) (end_of l o)) quiet
+    ending : (u : Turn) → turn l o x ≡ u → end_here (begun l o) (kept_of l o) (length l) (heard_for l o) u ≡ None → end_of (x ∷ l) o ≡ end_of l o
+    ending u is quiet = ap (λ (v : Turn). end_by (end_here (begun l o) (kept_of l o) (length l) (heard_for l o) v) (length l) (end_of l o)) is ∙ ap (λ (v : Option Ending). end_by v (length l) (end_of l o)) quiet
 
     by : (u : Turn) → turn l o x ≡ u → waits_by u (waits_for l o) ≡ Some i → ((j : ℕ) → waits_for l o ≡ Some j → end_of l o ≡ None) → end_of (x ∷ l) o ≡ None
     by NoTurn is w ih = ending NoTurn is refl ∙ ih i w

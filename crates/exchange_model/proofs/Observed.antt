@@ -24,7 +24,7 @@ use Rattle.observe_share.specs.Watches as W
 use Rattle.resp_cache.specs.Stored.{Stored}
 use Rattle.ask_model.specs.Requests.{CoapRequest}
 use Rattle.ask_model.specs.Sharing.{asked_place}
-use Rattle.history_laws.specs.Readings.{Noted, at, before}
+use Rattle.history_laws.specs.Readings.{Noted}
 use Rattle.history_laws.specs.Transmissions.{first_at}
 use Rattle.history_laws.specs.Exchanges.{openings, waits_for, awaited}
 use Rattle.history_laws.specs.Observing.{Watch, is_under as is_under_in, notice_in, watches}
@@ -38,14 +38,16 @@ use Rattle.exchange_model.specs.declared.kept.Exchange.{Exchange}
 use Rattle.exchange_model.specs.State.{State, link_of}
 use Rattle.exchange_model.specs.Watching.{is_one_of, is_written_by, registered, registers, registration_of, token_of, tokens_of}
 use Rattle.exchange_model.specs.Reads.{held_of, IsSentUnder}
-use Rattle.exchange_model.specs.Steps.{answered_in, asked_in, Numbers, unless_registered, unless_updated}
+use Rattle.exchange_model.specs.Matters.{answered_in, asked_in}
+use Rattle.exchange_model.specs.Hearing.{Numbers, unless_registered, unless_updated}
 use Rattle.exchange_model.specs.Laws.{MayHear}
 use Rattle.exchange_model.proofs.Answered.{ended, hit-one, hits, judged, none-hit, of-it, start, verdict}
 use Rattle.exchange_model.proofs.Apart.{AreApart, awaited-of, comes_to, notified-tells, under-of, watch-unawaited, watches-apart}
 use Rattle.exchange_model.proofs.Borne.{answers-peer}
 use Rattle.exchange_model.proofs.Hearing.{among-awaited}
 use Rattle.exchange_model.proofs.Left.{legal-so}
-use Rattle.exchange_model.proofs.Noticing.{IsTold, registers-response}
+use Rattle.exchange_model.proofs.Noticing.{registers-response}
+use Rattle.exchange_model.proofs.ToldAlone.{IsTold}
 use Rattle.exchange_model.proofs.Notices.{found-held, waits-open}
 use Rattle.exchange_model.proofs.Outrun.{asked-here}
 use Rattle.exchange_model.proofs.Over.{AnswersIt, reset-empty}
@@ -73,7 +75,7 @@ module _ (l : List Noted) (t : ℕ) (p : Peer) (d : List ℕ) (m : Content) (n :
       ≡ ((not (is_ended (ended l t p d m S h none room) token) && awaits l p token) || list_any (comes_to p token) after)
   expects-now after left token =
       ap (λ (b : Bool). b || notified (x ∷ l) p token)
-      (awaits-after l t p (link_of S.links p) d m (answers l p m) (notice_of l t p m (answers l p m)) (verdict l t p d m S h none room) (judged l t p d m S h none room) token)
+      (awaits-after l t p (link_of S.links p) d m (answers l p m) (notice_of l t p m (answers l p m)) (verdict l t p d m S h none room) h.before.reads.legal (judged l t p d m S h none room) token)
       ∙ ap (λ (b : Bool). (not (is_ended (ended l t p d m S h none room) token) && awaits l p token) || b)
       (notified-tells (x ∷ l) p token legal-now ∙ ap (list_any (comes_to p token)) left)
 
@@ -206,7 +208,7 @@ module _ (l : List Noted) (t : ℕ) (p : Peer) (d : List ℕ) (m : Content) (n :
   -- The exchange that it answers.
   module _ (e : Exchange) (it : AnswersIt (start l t p d m S h none room) l t p m S e) where
     abbrev asked : Option CoapRequest
-    asked = asked_in S.entries e.opening
+    asked = asked_in S.entries e.ask
 
     i : ℕ
     i = it.sending
@@ -335,7 +337,7 @@ module _ (l : List Noted) (t : ℕ) (p : Peer) (d : List ℕ) (m : Content) (n :
           by false f = refl
           by true f =
               let observing = (and_parts e.observes _ f).0 in
-              absurd (false≢true (sym write ∙ observing-get l e it.kept observing))
+              absurd (false≢true (sym write ∙ observing-get l e h.before.reads.legal it.kept observing))
 
       dropped-left : map held_of (watches (x ∷ l)) ≡ without drop (registered t m e asked rs) → map held_of (watches (x ∷ l)) ≡ without drop rs
       dropped-left left = left ∙ ap (λ (c : Bool). without drop (cond c (rs ++ registration_of t m e asked) rs)) unregistered

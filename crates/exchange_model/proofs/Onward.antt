@@ -1,5 +1,6 @@
 -- An exchange that goes on by a message: its next message waits last at its endpoint.
 use Rattle.std.proofs.Common.{◌≡◌, ℕ, ◌+◌, Bool, true, false, not, eqb, List, [], ◌∷◌, ◌++◌, length, map, Option, Some, None, inl, inr, refl, sym, ap, subst, ◌∙◌, arith}
+use Rattle.exchange_model.proofs.Pieces.{behind-stays}
 use Rattle.std.specs.Prelude.{is_some}
 use Rattle.std.specs.List.{Contains}
 use Rattle.std.proofs.lemmas.Bool.{false≢true, and_from}
@@ -15,16 +16,17 @@ use Rattle.history_laws.specs.Readings.{Noted, at, before}
 use Rattle.history_laws.specs.Observing.{counting, observes, unless_replied, wants_in, manner, manner_by, tag_of}
 use Rattle.history_laws.specs.Transmissions.{firsts, bears_token}
 use Rattle.history_laws.specs.Progress.{Reply, Progress, Fetches, Gives, Ends, next_message, progress, step}
-use Rattle.history_laws.specs.Exchanges.{Begun, begun, Turn, waits_by, replies_by, replies, is_going, is_issued_at, issued, submitted_by, submitted, rank, waits_for, kept as kept_of}
+use Rattle.history_laws.specs.Exchanges.{Begun, begun, Turn, waits_by, replies_by, replies, is_going, is_issued_at, issued, submitted_by, submitted, rank, waits_for, kept as kept_of, heard_for}
 use Rattle.history_laws.specs.Hearing.{repeated, can_be_remembered}
 use Rattle.history_laws.specs.Joining.{outrun}
-use Rattle.history_laws.proofs.CallerLemmas.{at-keeps, before-new, begun-keeps, eqb-itself, IsGoing, issued-more, progress-push, rank-below, some-is, none-some}
+use Rattle.history_laws.proofs.CallerLemmas.{before-new, begun-keeps, eqb-itself, IsGoing, issued-more, progress-push, rank-below, some-is, none-some, heard-push}
 use Rattle.history_links.specs.Steps.{GoesOn, heard}
 use Rattle.exchange_model.specs.declared.kept.Exchange.{Exchange}
 use Rattle.exchange_model.specs.State.{State, link_of}
 use Rattle.exchange_model.specs.declared.kept.Work.{Work}
 use Rattle.exchange_model.specs.Reads.{ExchangeIn, got_for, got_in, IsNewest, WaitsUnder, kept_in, kept_yet}
-use Rattle.exchange_model.specs.Steps.{Numbers, continued, got_by, newest_by, progress_with, work_by}
+use Rattle.exchange_model.specs.Matters.{progress_with, work_by}
+use Rattle.exchange_model.specs.Hearing.{Numbers, continued, got_by, newest_by}
 use Rattle.exchange_model.specs.Laws.{IsContinued, MayHear}
 use Rattle.exchange_model.proofs.Answered.{start}
 use Rattle.exchange_model.proofs.Bare.{bare, bare_progress}
@@ -43,7 +45,7 @@ submitted-last o [] r = refl
 submitted-last o (x ∷ rs) r = submitted-last x.number rs r
 
 -- What is kept of how far it has come is just that.
-work-goes : (now : Progress) (w : Work) → IsGoing now → now ≡ progress_with (work_by (bare_progress now) w) (got_by now)
+pub work-goes : (now : Progress) (w : Work) → IsGoing now → now ≡ progress_with (work_by (bare_progress now) w) (got_by now)
 work-goes (Fetches k p got) w g = refl
 work-goes (Gives u got) w g = refl
 work-goes (Ends how) w g = absurd g
@@ -71,8 +73,8 @@ module _ (l : List Noted) (t : ℕ) (p : Peer) (d : List ℕ) (m : Content) (S :
   pub replies-now : replies (x ∷ l) e.opening ≡ replies l e.opening ++ r ∷ []
   replies-now = ap (λ (u : Turn). replies_by (length l) u (replies l e.opening)) on.turned
 
-  progress-now : progress q (replies (x ∷ l) e.opening) ≡ now
-  progress-now = ap (progress q) replies-now ∙ (on.comes ∙ real)
+  progress-now : progress q (heard_for (x ∷ l) e.opening) ≡ now
+  progress-now = ap (progress q) (heard-push x l e.opening on.it.sending m true _ on.it.kept.opening on.turned) ∙ (on.comes ∙ real)
 
   submitted-now : submitted (x ∷ l) e.opening ≡ length l
   submitted-now = ap (submitted_by e.opening) replies-now ∙ submitted-last e.opening (replies l e.opening) r
@@ -93,7 +95,7 @@ module _ (l : List Noted) (t : ℕ) (p : Peer) (d : List ℕ) (m : Content) (S :
   rank-now = ap (λ (a : ℕ). issued (before (x ∷ l) a)) submitted-now ∙ ap issued (before-new x l)
 
   pub got-now : got_in (x ∷ l) e.opening ≡ got_by now
-  got-now = ap (λ (b : Option Begun). got_for b (replies (x ∷ l) e.opening)) opened ∙ ap got_by progress-now
+  got-now = ap (λ (b : Option Begun). got_for b (heard_for (x ∷ l) e.opening)) opened ∙ ap got_by progress-now
 
   -- Its token is the next.
   pub numbered : token_number n.token ≡ (start l t p d m S h none room).issued + issued l
@@ -123,9 +125,9 @@ module _ (l : List Noted) (t : ℕ) (p : Peer) (d : List ℕ) (m : Content) (S :
       untagged (Some s) [] = refl
       untagged (Some s) (y ∷ rs) = refl
 
-  next-is : next_message (manner (x ∷ l) e.opening) q (progress q (replies (x ∷ l) e.opening)) 0 n.token ≡ Some g.message
+  next-is : next_message (manner (x ∷ l) e.opening) q (progress q (heard_for (x ∷ l) e.opening)) 0 n.token ≡ Some g.message
   next-is =
-      ap (λ (b : Manner). next_message b q (progress q (replies (x ∷ l) e.opening)) 0 n.token) manner-now
+      ap (λ (b : Manner). next_message b q (progress q (heard_for (x ∷ l) e.opening)) 0 n.token) manner-now
       ∙ (ap (λ (u : Progress). next_message Plainly q u 0 n.token) progress-now
       ∙ (next-bare now ∙ (ap (λ (u : Progress). next_message Plainly q u 0 n.token) (sym same-how)
       ∙ subst (λ (a : CoapRequest). next_message Plainly a how 0 n.token ≡ Some g.message) request-is g.next)))
@@ -140,7 +142,7 @@ module _ (l : List Noted) (t : ℕ) (p : Peer) (d : List ℕ) (m : Content) (S :
     is = is-issued;
     since = e.since;
     request = q;
-    opening = on.it.kept.opening;
+    opening = opened;
     message = g.message;
     next = next-is;
     spelled = g.spelled;
@@ -152,12 +154,12 @@ module _ (l : List Noted) (t : ℕ) (p : Peer) (d : List ℕ) (m : Content) (S :
   -- It has a reply more, or begins anew.
   pub is-more : IsMore (got_in l e.opening) r (got_by now)
   is-more =
-      subst (λ (got : List Reply). IsMore got r (got_by now)) (sym (ap (λ (b : Option Begun). got_for b (replies l e.opening)) on.it.kept.opening))
-      (subst (λ (u : Progress). IsMore (got_by (progress q (replies l e.opening))) r (got_by u)) stepped
-      (step-more (progress q (replies l e.opening)) r (subst IsGoing (sym stepped) goes)))
+      subst (λ (got : List Reply). IsMore got r (got_by now)) (sym (ap (λ (b : Option Begun). got_for b (heard_for l e.opening)) on.it.kept.opening))
+      (subst (λ (u : Progress). IsMore (got_by (progress q (heard_for l e.opening))) r (got_by u)) stepped
+      (step-more (progress q (heard_for l e.opening)) r (subst IsGoing (sym stepped) goes)))
     where
-      stepped : step (progress q (replies l e.opening)) r ≡ now
-      stepped = sym (progress-push q (replies l e.opening) r) ∙ (on.comes ∙ real)
+      stepped : step (progress q (heard_for l e.opening)) r ≡ now
+      stepped = sym (progress-push q (heard_for l e.opening) r) ∙ (on.comes ∙ real)
 
   -- This is kept of it now.
   pub kept-on : (f : Exchange) → f.opening ≡ e.opening → (a : ExchangeIn (start l t p d m S h none room) l f) → f.current ≡ not (outrun (x ∷ l) (asked_place a.request) f.opening)
@@ -181,11 +183,7 @@ module _ (l : List Noted) (t : ℕ) (p : Peer) (d : List ℕ) (m : Content) (S :
     progress = progress-of;
     short = a.short;
     digests = a.digests;
-    conn = a.conn;
-    ask = a.ask;
-    note = a.note;
-    opens = a.opens;
-    stands = at-keeps x l f.opening _ a.stands;
+    behind = behind-stays x l f.opening _ a.opening ∙ a.behind;
   }
     where
       -- the first of its replies, where it is this one, is newer than all
@@ -215,10 +213,10 @@ module _ (l : List Noted) (t : ℕ) (p : Peer) (d : List ℕ) (m : Content) (S :
       request-same : a.request ≡ q
       request-same = ap (λ (b : Begun). b.request) (some-is _ _ begun-same)
 
-      progress-of : progress a.request (replies (x ∷ l) f.opening) ≡ progress_with (work_by (bare_progress now) f.work) (got_in (x ∷ l) f.opening)
+      progress-of : progress a.request (heard_for (x ∷ l) f.opening) ≡ progress_with (work_by (bare_progress now) f.work) (got_in (x ∷ l) f.opening)
       progress-of =
-          ap (λ (v : CoapRequest). progress v (replies (x ∷ l) f.opening)) request-same
-          ∙ (ap (λ (o : ℕ). progress q (replies (x ∷ l) o)) same
+          ap (λ (v : CoapRequest). progress v (heard_for (x ∷ l) f.opening)) request-same
+          ∙ (ap (λ (o : ℕ). progress q (heard_for (x ∷ l) o)) same
           ∙ (progress-now
           ∙ (work-goes now f.work goes
           ∙ ap (progress_with (work_by (bare_progress now) f.work)) (sym (ap (got_in (x ∷ l)) same ∙ got-now)))))

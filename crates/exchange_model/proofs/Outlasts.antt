@@ -10,7 +10,7 @@ use Rattle.ask_model.specs.Views.{Ask}
 use Rattle.journal_book.specs.Entries.{Asks}
 use Rattle.history_laws.specs.Readings.{Noted, Note, at, before, noted}
 use Rattle.history_laws.specs.Progress.{Ending}
-use Rattle.history_laws.specs.Exchanges.{Begun, begun, end_here, end_of, kept, replies, turn}
+use Rattle.history_laws.specs.Exchanges.{Begun, begun, end_here, end_of, kept, turn, heard_for}
 use Rattle.history_laws.specs.Joining.{outrun}
 use Rattle.history_laws.specs.Justified.{Legal}
 use Rattle.history_laws.proofs.CallerLemmas.{begun-before, begun-below, end-before, ended-begun, ends-first, is-outrun, legal-before, none-some, outran, Outran, RenewsFor, some-is, stored-unoutrun}
@@ -22,7 +22,7 @@ asks-end-none : (l : List Noted) (o t c : ℕ) (a : Ask) (note : Note) (w : ℕ)
 asks-end-none l o t c a note w how stands ended =
     let it = ends-first l w o how ended in
     let same : it.0 ≡ noted t (Asks c a) note = some-is _ _ (sym it.1 ∙ stands) in
-    none-some how (subst (λ (y : Noted). end_here (begun (before l o) w) (kept (before l o) w) o (replies (before l o) w) (turn (before l o) w y) ≡ Some how) same it.3)
+    none-some how (subst (λ (y : Noted). end_here (begun (before l o) w) (kept (before l o) w) o (heard_for (before l o) w) (turn (before l o) w y) ≡ Some how) same it.3)
 
 -- What an exchange asks about is outrun just where the exchange is.
 pub outrun-as : (l : List Noted) (o : ℕ) (b : Begun) (s : Stored) → Legal l → begun l o ≡ Some b → RenewsFor l o b s
@@ -62,7 +62,7 @@ outrun-as l o b s legal opened it = by (outrun l place s.opening) refl (outrun l
           ended = ended;
           later = h.later;
         }) in
-        false≢true (sym (ap (λ (v : Stored). outrun (before l o) place v.opening) it.pieces ∙ stored-unoutrun (before l o) b.request it.stored it.is) ∙ over)
+        false≢true (sym (ap (λ (v : Stored). outrun (before l o) place v.opening) it.pieces ∙ stored-unoutrun (before l o) b.request it.stored (legal-before l o legal) it.is) ∙ over)
 
     earlier : Outran l place s.opening → outrun l place o ≡ true
     earlier h = order (ltb h.end.number o) refl

@@ -20,13 +20,15 @@ use Rattle.message_layer.specs.declared.verdict.News.TheVariants as N
 use Rattle.history_laws.specs.Readings.{Noted}
 use Rattle.history_laws.specs.Responses.{Response, confirms}
 use Rattle.history_laws.specs.Progress.{Reply, Ending, Whole, Reset, Turned, Progress, Fetches, Gives, Ends as EndsSoFar, progress, ended_by, Renewed}
-use Rattle.history_laws.specs.Exchanges.{Begun, begun, Turn, Replied, Rejected, answered_by, turn, waits_for, replies, replied_end, end_here, end_of, open_exchanges, kept as kept_of, unless_renewed, end_by}
+use Rattle.history_laws.specs.Exchanges.{Begun, begun, Turn, Replied, Rejected, answered_by, turn, waits_for, replies, replied_end, end_here, end_of, open_exchanges, kept as kept_of, unless_renewed, end_by, heard_for, begins_with}
 use Rattle.history_laws.specs.Hearing.{repeated, can_be_remembered, answers, notice_of}
 use Rattle.history_laws.specs.Observing.{as_first, notice_in}
-use Rattle.history_laws.specs.Justified.{Ends}
+use Rattle.history_laws.specs.Justified.{Ends, Legal}
 use Rattle.observe_share.specs.declared.registration.Registration.{Registration}
 use Rattle.observe_share.specs.Watches as W
-use Rattle.history_laws.proofs.CallerLemmas.{all-of, and-left, and-right, contains-map, eqb-itself, find-some, open-exactly, none-some, some-is, entries-length}
+use Rattle.observe_share.specs.declared.notice.Notice.{Notice}
+use Rattle.observe_share.specs.declared.notice.Notice.TheVariants.{Update, Other}
+use Rattle.history_laws.proofs.CallerLemmas.{all-of, and-left, and-right, contains-map, eqb-itself, find-some, open-exactly, none-some, some-is, entries-length, ask-begins, at-kept, opened-for, IsGoing}
 use Rattle.history_links.specs.Agrees.{Start}
 use Rattle.history_links.specs.Steps.{ended_token, heard}
 use Rattle.history_links.proofs.CallerLemmas.{ends_by, hit, is_to, judge}
@@ -34,7 +36,8 @@ use Rattle.exchange_model.specs.declared.kept.Exchange.{Exchange}
 use Rattle.exchange_model.specs.State.{State, link_of}
 use Rattle.exchange_model.specs.Reads.{ExchangeIn, opening_of, Reads, kept_in, kept_yet}
 use Rattle.exchange_model.specs.Watching.{counts_to}
-use Rattle.exchange_model.specs.Steps.{is_under, answered_in, Matter, Nothing, Tells, Goes, Over, found_in, replied, matter_by, matter_of, has_next_place, tells_of, told_alone, reply_at, stale_in, unless_valid}
+use Rattle.exchange_model.specs.Steps.{is_under, reply_at}
+use Rattle.exchange_model.specs.Matters.{answered_in, Matter, Nothing, Tells, Starts, Goes, Over, may_start, starting, told_so, replied, matter_by, matter_of, has_next_place, tells_of, told_alone, stale_in, unless_valid}
 use Rattle.exchange_model.specs.Laws.{MayHear}
 use Rattle.exchange_model.proofs.Bare.{bare_ending, bare_progress}
 use Rattle.exchange_model.proofs.Borne.{split}
@@ -88,7 +91,7 @@ reset-only m (Some o) token of e = elim (split ((eqb m.code 0) && (eqb o.mid m.m
 
 -- how it ends
 
-pub ends-now : (l : List Noted) (o : ℕ) (x : Noted) (u : Turn) (how : Ending) → turn l o x ≡ u → end_of l o ≡ None → end_here (begun l o) (kept_of l o) (length l) (replies l o) u ≡ Some how → Ends (x ∷ l) o (length l) how
+pub ends-now : (l : List Noted) (o : ℕ) (x : Noted) (u : Turn) (how : Ending) → turn l o x ≡ u → end_of l o ≡ None → end_here (begun l o) (kept_of l o) (length l) (heard_for l o) u ≡ Some how → Ends (x ∷ l) o (length l) how
 ends-now l o x u how is going here = rw (is, going, here) refl
 
 turn-now : (l : List Noted) (t : ℕ) (p : Peer) (d : List ℕ) (m : Content) (o i : ℕ) → waits_for l o ≡ Some i → answers l p m ≡ Some i
@@ -194,7 +197,7 @@ pub record IsOver (start : Start) (l : List Noted) (t : ℕ) (p : Peer) (d : Lis
   pub ends : Ends (heard l t p d m ∷ l) e.opening (length l) real
   pub same : how ≡ bare_ending real
   pub whole : (w : Response) (rs : List Reply) → real ≡ Whole w rs
-      → progress it.kept.request (replies l e.opening ++ reply_of l it.sending m ∷ []) ≡ EndsSoFar (Whole w rs)
+      → progress it.kept.request (heard_for l e.opening ++ reply_of l it.sending m ∷ []) ≡ EndsSoFar (Whole w rs)
 
 -- or goes on so.
 
@@ -203,47 +206,59 @@ pub record IsOnward (start : Start) (l : List Noted) (t : ℕ) (p : Peer) (d : L
   pub turned : turn l e.opening (heard l t p d m) ≡ Replied it.sending m true
   pub going : end_of (heard l t p d m ∷ l) e.opening ≡ None
   pub real : Progress
-  pub comes : progress it.kept.request (replies l e.opening ++ reply_of l it.sending m ∷ []) ≡ real
+  pub comes : progress it.kept.request (heard_for l e.opening ++ reply_of l it.sending m ∷ []) ≡ real
+  pub goes : IsGoing real
   pub same : how ≡ bare_progress real
 
 abbrev pub IsMatter : Start → List Noted → ℕ → Peer → List ℕ → Content → State → Matter → Type 0
 IsMatter start l t p d m S Nothing = answered_in (ended_token (verdict_of t (link_of S.links p) m).news m.token) S.exchanges ≡ None
 IsMatter start l t p d m S (Tells r found) = answered_in (ended_token (verdict_of t (link_of S.links p) m).news m.token) S.exchanges ≡ None
+IsMatter start l t p d m S (Starts r e how) = answered_in (ended_token (verdict_of t (link_of S.links p) m).news m.token) S.exchanges ≡ None
 IsMatter start l t p d m S (Goes e how) = IsOnward start l t p d m S e how
 IsMatter start l t p d m S (Over e how) = IsOver start l t p d m S e how
 
 -- What the exchange asks about ends it by its first reply alone, where that says that this is valid.
-unless-none : (old : Option Stored) (rs : List Reply) (r : Reply) (other : Option Ending) → kept_yet old rs ≡ None → unless_renewed old rs r other ≡ other
-unless-none None rs r other e = refl
-unless-none (Some s) [] r other e = absurd (none-some s (sym e))
-unless-none (Some s) (y ∷ rs) r other e = refl
+unless-none : (old : Option Stored) (bs rs : List Reply) (r : Reply) (other : Option Ending) → kept_yet old rs ≡ None → unless_renewed old (bs ++ rs) r other ≡ other
+unless-none None bs rs r other e = refl
+unless-none (Some s) bs [] r other e = absurd (none-some s (sym e))
+unless-none (Some s) [] (y ∷ rs) r other e = refl
+unless-none (Some s) (b ∷ bs) (y ∷ rs) r other e = refl
 
-unless-as : (old : Option Stored) (rs : List Reply) (r : Reply) (other : Option Ending) (s : Stored) → kept_yet old rs ≡ Some s
-    → unless_renewed old rs r other ≡ cond (confirms s.response.etag r.message) (Some (Renewed s r)) other
-unless-as None [] r other s e = absurd (none-some s e)
-unless-as None (y ∷ rs) r other s e = absurd (none-some s e)
-unless-as (Some u) [] r other s e = ap (λ (v : Stored). cond (confirms v.response.etag r.message) (Some (Renewed v r)) other) (some-is u s e)
-unless-as (Some u) (y ∷ rs) r other s e = absurd (none-some s e)
+unless-as : (old : Option Stored) (bs rs : List Reply) (r : Reply) (other : Option Ending) (s : Stored) → (old ≡ Some s → bs ≡ []) → kept_yet old rs ≡ Some s
+    → unless_renewed old (bs ++ rs) r other ≡ cond (confirms s.response.etag r.message) (Some (Renewed s r)) other
+unless-as None bs [] r other s none e = absurd (none-some s e)
+unless-as None bs (y ∷ rs) r other s none e = absurd (none-some s e)
+unless-as (Some u) bs [] r other s none e =
+    ap (λ (hs : List Reply). unless_renewed (Some u) (hs ++ []) r other) (none e)
+    ∙ ap (λ (v : Stored). cond (confirms v.response.etag r.message) (Some (Renewed v r)) other) (some-is u s e)
+unless-as (Some u) bs (y ∷ rs) r other s none e = absurd (none-some s e)
+
+-- One that asks about something was opened by an ask, and began with nothing.
+pub keeps-begins : (l : List Noted) (o : ℕ) (b : Begun) (s : Stored) → Legal l → begun l o ≡ Some b → kept_of l o ≡ Some s → begins_with l o ≡ []
+keeps-begins l o b s legal opened keeps = elim (opened-for l o b legal opened) [
+  | inl it ↦ ask-begins l o b legal it
+  | inr it ↦ absurd (none-some s (sym (at-kept l o _ it.stands) ∙ keeps))
+]
 
 by-end : (l : List Noted) (t : ℕ) (p : Peer) (d : List ℕ) (m : Content) (S : State) (h : MayHear l t p d S) (e : Exchange)
     (it : AnswersIt h.before.reads.start l t p m S e) → (place : Bool)
     → turn l e.opening (heard l t p d m) ≡ Replied it.sending m place
-    → ((other : Option Ending) → unless_renewed (kept_of l e.opening) (replies l e.opening) (reply_of l it.sending m) other ≡ other)
-    → (u : Progress) → progress it.kept.request (replies l e.opening ++ reply_of l it.sending m ∷ []) ≡ u
+    → ((other : Option Ending) → unless_renewed (kept_of l e.opening) (heard_for l e.opening) (reply_of l it.sending m) other ≡ other)
+    → (u : Progress) → progress it.kept.request (heard_for l e.opening ++ reply_of l it.sending m ∷ []) ≡ u
     → IsMatter h.before.reads.start l t p d m S (replied place e (bare_progress u))
 by-end l t p d m S h e it place turned still u is = by place u turned is
   where
     rs : List Reply
-    rs = replies l e.opening ++ reply_of l it.sending m ∷ []
+    rs = heard_for l e.opening ++ reply_of l it.sending m ∷ []
 
     here : (c : Bool) (v : Progress) → progress it.kept.request rs ≡ v
-        → end_here (begun l e.opening) (kept_of l e.opening) (length l) (replies l e.opening) (Replied it.sending m c) ≡ ended_by c v
+        → end_here (begun l e.opening) (kept_of l e.opening) (length l) (heard_for l e.opening) (Replied it.sending m c) ≡ ended_by c v
     here c v at = still (replied_end (begun l e.opening) c rs) ∙ (ap (λ (b : Option Begun). replied_end b c rs) it.kept.opening ∙ ap (ended_by c) at)
 
     on : (v : Progress) → turn l e.opening (heard l t p d m) ≡ Replied it.sending m true → progress it.kept.request rs ≡ v → ended_by true v ≡ None
         → end_of (heard l t p d m ∷ l) e.opening ≡ None
     on v so at going =
-        ap (λ (w : Turn). end_by (end_here (begun l e.opening) (kept_of l e.opening) (length l) (replies l e.opening) w) (length l) (end_of l e.opening)) so
+        ap (λ (w : Turn). end_by (end_here (begun l e.opening) (kept_of l e.opening) (length l) (heard_for l e.opening) w) (length l) (end_of l e.opening)) so
         ∙ (ap (λ (w : Option Ending). end_by w (length l) (end_of l e.opening)) (here true v at ∙ going) ∙ it.going)
 
     over : (c : Bool) (v : Progress) (how : Ending) → turn l e.opening (heard l t p d m) ≡ Replied it.sending m c → progress it.kept.request rs ≡ v → ended_by c v ≡ Some how
@@ -253,8 +268,8 @@ by-end l t p d m S h e it place turned still u is = by place u turned is
     by : (c : Bool) (v : Progress) → turn l e.opening (heard l t p d m) ≡ Replied it.sending m c → progress it.kept.request rs ≡ v
         → IsMatter h.before.reads.start l t p d m S (replied c e (bare_progress v))
     by c (EndsSoFar how) so at = record { it = it; real = how; ends = over c (EndsSoFar how) how so at refl; same = refl; whole = λ w ts f. at ∙ ap EndsSoFar f }
-    by true (Gives v got) so at = record { it = it; turned = so; going = on (Gives v got) so at refl; real = Gives v got; comes = at; same = refl }
-    by true (Fetches k q got) so at = record { it = it; turned = so; going = on (Fetches k q got) so at refl; real = Fetches k q got; comes = at; same = refl }
+    by true (Gives v got) so at = record { it = it; turned = so; going = on (Gives v got) so at refl; real = Gives v got; comes = at; goes = tt; same = refl }
+    by true (Fetches k q got) so at = record { it = it; turned = so; going = on (Fetches k q got) so at refl; real = Fetches k q got; comes = at; goes = tt; same = refl }
     by false (Gives v got) so at = record { it = it; real = Turned; ends = over false (Gives v got) Turned so at refl; same = refl; whole = λ w ts f. absurd cc }
     by false (Fetches k q got) so at = record { it = it; real = Turned; ends = over false (Fetches k q got) Turned so at refl; same = refl; whole = λ w ts f. absurd cc }
 
@@ -266,15 +281,18 @@ by-valid : (l : List Noted) (t : ℕ) (p : Peer) (d : List ℕ) (m : Content) (S
     (it : AnswersIt h.before.reads.start l t p m S e) → (place : Bool)
     → turn l e.opening (heard l t p d m) ≡ Replied it.sending m place
     → (v : Option Stored) → stale_in e.opening S.stales ≡ v
-    → IsMatter h.before.reads.start l t p d m S (unless_valid v m S e (replied place e (bare_progress (progress it.kept.request (replies l e.opening ++ reply_of l it.sending m ∷ [])))))
+    → IsMatter h.before.reads.start l t p d m S (unless_valid v m S e (replied place e (bare_progress (progress it.kept.request (heard_for l e.opening ++ reply_of l it.sending m ∷ [])))))
 by-valid l t p d m S h e it place turned None none =
     by-end l t p d m S h e it place turned
-    (λ other. unless-none (kept_of l e.opening) (replies l e.opening) (reply_of l it.sending m) other (asks-about l S e h.before.reads it.has ∙ none))
+    (λ other. unless-none (kept_of l e.opening) (begins_with l e.opening) (replies l e.opening) (reply_of l it.sending m) other (asks-about l S e h.before.reads it.has ∙ none))
     _ refl
 by-valid l t p d m S h e it place turned (Some s) asks = by (confirms s.response.etag m) refl
   where
     about : kept_yet (kept_of l e.opening) (replies l e.opening) ≡ Some s
     about = asks-about l S e h.before.reads it.has ∙ asks
+
+    own : kept_of l e.opening ≡ Some s → begins_with l e.opening ≡ []
+    own keeps = keeps-begins l e.opening _ s h.before.reads.legal it.kept.opening keeps
 
     reply : Reply
     reply = reply_of l it.sending m
@@ -284,18 +302,18 @@ by-valid l t p d m S h e it place turned (Some s) asks = by (confirms s.response
 
     by : (b : Bool) → confirms s.response.etag m ≡ b
         → IsMatter h.before.reads.start l t p d m S (cond b (Over e (Renewed s (reply_at (length S.entries) m)))
-        (replied place e (bare_progress (progress it.kept.request (replies l e.opening ++ reply ∷ [])))))
+        (replied place e (bare_progress (progress it.kept.request (heard_for l e.opening ++ reply ∷ [])))))
     by true is = record {
       it = it;
       real = Renewed s reply;
       ends = ends-now l e.opening (heard l t p d m) _ (Renewed s reply) turned it.going
-          (unless-as (kept_of l e.opening) (replies l e.opening) reply _ s about
-          ∙ ap (λ (c : Bool). cond c (Some (Renewed s reply)) (replied_end (begun l e.opening) place (replies l e.opening ++ reply ∷ []))) is);
+          (unless-as (kept_of l e.opening) (begins_with l e.opening) (replies l e.opening) reply _ s own about
+          ∙ ap (λ (c : Bool). cond c (Some (Renewed s reply)) (replied_end (begun l e.opening) place (heard_for l e.opening ++ reply ∷ []))) is);
       same = ap (λ (k : ℕ). Renewed s (reply_at k m)) here;
       whole = λ w ts f. absurd cc;
     }
     by false is = by-end l t p d m S h e it place turned
-        (λ other. unless-as (kept_of l e.opening) (replies l e.opening) reply other s about ∙ ap (λ (c : Bool). cond c (Some (Renewed s reply)) other) is)
+        (λ other. unless-as (kept_of l e.opening) (begins_with l e.opening) (replies l e.opening) reply other s own about ∙ ap (λ (c : Bool). cond c (Some (Renewed s reply)) other) is)
         _ refl
 
 pub is-matter : (l : List Noted) (t : ℕ) (p : Peer) (d : List ℕ) (m : Content) (S : State) → (h : MayHear l t p d S) → repeated l t p m ≡ None → can_be_remembered l t p m ≡ true
@@ -309,32 +327,42 @@ is-matter l t p d m S h none room = by (answered_in (ended_token v.news m.token)
     place = has_next_place t p v S
 
     made : (e : Exchange) (it : AnswersIt h.before.reads.start l t p m S e) → HowAnswered l t p d m S e it.sending
-        → IsMatter h.before.reads.start l t p d m S (matter_by t v.news place m S (Some e))
+        → IsMatter h.before.reads.start l t p d m S (matter_by t p v.news place m S (Some e))
     made e it (by_rst of news turned) =
-        subst (λ (n : News). IsMatter h.before.reads.start l t p d m S (matter_by t n place m S (Some e))) (sym news)
+        subst (λ (n : News). IsMatter h.before.reads.start l t p d m S (matter_by t p n place m S (Some e))) (sym news)
         record { it = it; real = Reset; ends = ends-now l e.opening (heard l t p d m) Rejected Reset turned it.going refl; same = refl; whole = λ w rs f. absurd cc }
     made e it (by_reply news turned) =
         let same_place = place-same l t p m S e.opening it.sending h.before none room it.waits it.answered in
         let comes = comes-to l S e it.sending m h.before.reads it.has it.going it.kept in
-        subst (λ (n : News). IsMatter h.before.reads.start l t p d m S (matter_by t n place m S (Some e))) (sym news)
+        subst (λ (n : News). IsMatter h.before.reads.start l t p d m S (matter_by t p n place m S (Some e))) (sym news)
         (subst (λ (u : Progress). IsMatter h.before.reads.start l t p d m S (unless_valid (stale_in e.opening S.stales) m S e (replied place e u))) (sym comes)
         (by-valid l t p d m S h e it place (turned ∙ ap (Replied it.sending m) same_place) (stale_in e.opening S.stales) refl))
 
-    none-told : answered_in (ended_token v.news m.token) S.exchanges ≡ None → (n : News) → IsMatter h.before.reads.start l t p d m S (told_alone t n m S)
+    none-told : answered_in (ended_token v.news m.token) S.exchanges ≡ None → (n : News) → IsMatter h.before.reads.start l t p d m S (told_alone t p n m S)
     none-told is N.Response = each (find (W.is_under m.token) S.watches)
       where
-        each : (r : Option Registration) → IsMatter h.before.reads.start l t p d m S (tells_of t m S r)
+        each : (r : Option Registration) → IsMatter h.before.reads.start l t p d m S (tells_of t p m S r)
         each None = is
         each (Some r) = counted (counts_to t m r)
           where
-            counted : (b : Bool) → IsMatter h.before.reads.start l t p d m S (cond b (Tells r (found_in t S (notice_in m) r.opening (as_first (length S.entries) 0 m))) Nothing)
-            counted true = is
+            room_for : (u : Progress) (b : Bool) → IsMatter h.before.reads.start l t p d m S (cond b (Starts r (starting t p r u S) u) (Tells r None))
+            room_for u true = is
+            room_for u false = is
+
+            told : (n : Notice) (u : Progress) → IsMatter h.before.reads.start l t p d m S (told_so t p S r n u)
+            told (Other v) u = is
+            told (Update v) (EndsSoFar how) = is
+            told (Update v) (Fetches k q got) = room_for (Fetches k q got) (may_start t p r S)
+            told (Update v) (Gives w got) = room_for (Gives w got) (may_start t p r S)
+
+            counted : (b : Bool) → IsMatter h.before.reads.start l t p d m S (cond b (told_so t p S r (notice_in m) (as_first (length S.entries) 0 m)) Nothing)
+            counted true = told (notice_in m) (as_first (length S.entries) 0 m)
             counted false = is
     none-told is N.Quiet = is
     none-told is (N.Reset of) = is
     none-told is N.Lost = is
 
-    by : (w : Option Exchange) → answered_in (ended_token v.news m.token) S.exchanges ≡ w → IsMatter h.before.reads.start l t p d m S (matter_by t v.news place m S w)
+    by : (w : Option Exchange) → answered_in (ended_token v.news m.token) S.exchanges ≡ w → IsMatter h.before.reads.start l t p d m S (matter_by t p v.news place m S w)
     by None is = none-told is v.news
     by (Some e) is =
         let it = answers-it l t p d m S h none room e is in

@@ -1,5 +1,6 @@
 -- What a message makes known by which an exchange ends.
 use Rattle.std.proofs.Common.{◌≡◌, ℕ, ◌≤◌, Bool, true, false, List, ◌∷◌, length, map, Some, None, inl, inr, refl, sym, ap, subst, ◌∙◌, [], Option, eqb}
+use Rattle.exchange_model.proofs.Stales.{no-replies}
 use Rattle.std.specs.Prelude.{is_some}
 use Rattle.std.specs.List.{Contains}
 use Rattle.std.proofs.lemmas.Bool.{and_parts, le-leb}
@@ -12,16 +13,18 @@ use Rattle.message_layer.specs.declared.verdict.News.TheVariants as N
 use Rattle.ask_model.specs.Requests.{CoapRequest}
 use Rattle.history_laws.specs.Responses.{Response, whole_of, confirms}
 use Rattle.history_laws.specs.Readings.{Noted, Notice, Says, at, noted}
-use Rattle.history_laws.specs.Exchanges.{Begun, kept as kept_of, replies}
+use Rattle.history_laws.specs.Exchanges.{Begun, kept as kept_of, replies, heard_for}
 use Rattle.history_laws.specs.Hearing.{repeated, can_be_remembered}
 use Rattle.history_laws.specs.Progress.{Reply, Ending, Whole, NotUnderstood, Reset, TimedOut, Turned, Progress, numbers, messages, Renewed}
 use Rattle.history_laws.specs.Justified.{Ends as EndsIn}
-use Rattle.history_laws.proofs.CallerLemmas.{begun-keeps, ends-all, all-of, at-new, before-new, ends-renewed, entries-length, renewed-of, renews-for, replies-fit, some-is}
+use Rattle.history_laws.proofs.CallerLemmas.{begun-keeps, ends-all, all-of, at-new, before-new, ends-renewed, entries-length, renewed-of, renews-for, replies-fit, some-is, none-some}
 use Rattle.history_links.specs.Steps.{ended_token, heard}
 use Rattle.exchange_model.specs.declared.kept.Exchange.{Exchange}
 use Rattle.exchange_model.specs.State.{State, link_of}
-use Rattle.exchange_model.specs.Steps.{Nothing, Goes, Over, Numbers, answered_in, has_next_place, hears, matter_by, matter_of, reply_at, stale_in}
-use Rattle.exchange_model.specs.Calls.{repeats}
+use Rattle.exchange_model.specs.Steps.{reply_at}
+use Rattle.exchange_model.specs.Matters.{Nothing, Goes, Over, answered_in, has_next_place, matter_by, matter_of, stale_in}
+use Rattle.exchange_model.specs.Hearing.{Numbers, hears}
+use Rattle.exchange_model.specs.Calls.{repeats, goes_with}
 use Rattle.exchange_model.specs.Growing.{AreHeardAt, IsWorkOf, IsHeardAt, IsKeptIn}
 use Rattle.exchange_model.specs.Keeping.{MayStep}
 use Rattle.exchange_model.specs.Laws.{MayHear}
@@ -75,8 +78,8 @@ begun-request b c e = cc
 over-nothing : (e : Exchange) (how : Ending) → Nothing ≡ Over e how → ⊥
 over-nothing e how h = cc
 
-over-goes : (e f : Exchange) (how : Ending) (u : Progress) → Over e how ≡ Goes f u → ⊥
-over-goes e f how u h = cc
+over-goes : (e f : Exchange) (how : Ending) (u : Progress) → goes_with (Over e how) ≡ Some (f, u) → ⊥
+over-goes e f how u h = none-some (f, u) h
 
 -- What ends an exchange is new.
 is-new : (t : ℕ) (p : Peer) (m : Content) (S : State) → (k : MayStep t S) → ((verdict_of t (link_of S.links p) m).news ≡ N.Lost → ⊥) → (e : Exchange) (how : Ending)
@@ -92,7 +95,7 @@ is-new t p m S k kept e how is = by (repeats t (link_of S.links p) m) refl
         let quiet = repeat-quiet t (link_of S.links p) m m.kind again in
         let v = verdict_of t (link_of S.links p) m in
         absurd (over-nothing e how
-        (sym (ap (λ (news : News). matter_by t news (has_next_place t p v S) m S (answered_in (ended_token news m.token) S.exchanges)) quiet) ∙ is))
+        (sym (ap (λ (news : News). matter_by t p news (has_next_place t p v S) m S (answered_in (ended_token news m.token) S.exchanges)) quiet) ∙ is))
     by false once = elim (lost-or-new l t p (link_of S.links p) m m.kind refl (k.kept.rests.reads.links_are p) (now-from l t S (record { reads = k.kept.rests.reads; later = k.later })) once) [
       | inl lost ↦ absurd (kept lost)
       | inr free ↦ (free.0, free.1)
@@ -112,10 +115,10 @@ over-heard t p d m n S k known short spelled kept e w rs is =
     let real = really w rs over.real over.same in
     let ends : EndsIn (heard l t p d m ∷ l) e.opening (length l) (Whole w real.replies_are) =
     subst (EndsIn (heard l t p d m ∷ l) e.opening (length l)) real.is over.ends in
-    let all = ends-all (heard l t p d m ∷ l) e.opening (length l) w real.replies_are ends in
-    let made = hears-leads l t p d m n S may spelled new.0 new.1 (λ f u g. absurd (over-goes e f (Whole w rs) u (sym is ∙ g))) in
+    let made = hears-leads l t p d m n S may spelled new.0 new.1 (λ f u g. absurd (over-goes e f (Whole w rs) u (sym (ap goes_with is) ∙ g))) in
+    let all = ends-all (heard l t p d m ∷ l) e.opening (length l) w real.replies_are made.leads.reads.legal ends in
     let hear : AreHeardAt (hears t p d m n S) (numbers real.replies_are) (messages real.replies_are) =
-    are-heard (heard l t p d m ∷ l) (hears t p d m n S) made.leads.reads e.opening real.replies_are all.listed in
+    are-heard (heard l t p d m ∷ l) (hears t p d m n S) made.leads.reads e.opening _ real.replies_are all.opened all.listed in
     let asked : all.exchange.request ≡ over.it.kept.request =
     begun-request all.exchange _ (sym all.opened ∙ begun-keeps (heard l t p d m) l e.opening _ over.it.kept.opening) in (
       record {
@@ -177,10 +180,10 @@ over-renewed t p d m n S k known short spelled kept e s r is =
     let real = renewed-really s r over.real over.same in
     let v : Reply = real.reply in
     let ends : EndsIn (x ∷ l) o (length l) (Renewed s v) = subst (EndsIn (x ∷ l) o (length l)) real.is over.ends in
-    let made = hears-leads l t p d m n S may spelled new.0 new.1 (λ f u g. absurd (over-goes e f (Renewed s r) u (sym is ∙ g))) in
+    let made = hears-leads l t p d m n S may spelled new.0 new.1 (λ f u g. absurd (over-goes e f (Renewed s r) u (sym (ap goes_with is) ∙ g))) in
     let turned = (ends-renewed (x ∷ l) o (length l) s v ends).turned in
     let keeps : kept_of l o ≡ Some s = ap (λ (h : List Noted). kept_of h o) (sym (before-new x l)) ∙ turned.keeps in
-    let first : replies l o ≡ [] = ap (λ (h : List Noted). replies h o) (sym (before-new x l)) ∙ turned.first in
+    let first : replies l o ≡ [] = no-replies l o (ap (λ (h : List Noted). heard_for h o) (sym (before-new x l)) ∙ turned.first) in
     let open_yet : kept_in l o ≡ Some s = ap (kept_yet (kept_of l o)) first ∙ keeps in
     let asks = sym (all-of (λ (f : Exchange). kept_in l f.opening ≡ stale_in f.opening S.stales) S.exchanges e reads.stales_are.kept over.it.has) ∙ open_yet in
     let number : v.number ≡ length l = sym (ap (λ (z : Reply). z.number) turned.reply) in

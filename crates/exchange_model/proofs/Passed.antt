@@ -15,7 +15,9 @@ use Rattle.journal_book.specs.Entries.{Deed, Passes, Sends}
 use Rattle.history_laws.proofs.CallerLemmas.{all-more, all-push}
 use Rattle.observe_share.specs.Watches.{without}
 use Rattle.history_links.specs.Steps.{is_over}
-use Rattle.exchange_model.specs.Steps.{is_unwatched, retired, given_out, sends_copy, passed, passes, is_gone, goes_on, is_of_none, left_by, timed_out, is_stale_of_none}
+use Rattle.exchange_model.specs.Steps.{given_out, sends_copy}
+use Rattle.exchange_model.specs.Matters.{left_by}
+use Rattle.exchange_model.specs.Hearing.{is_unwatched, retired, passed, passes, is_gone, goes_on, is_of_none, timed_out, is_stale_of_none}
 use Rattle.exchange_model.specs.declared.kept.Exchange.{Exchange}
 use Rattle.exchange_model.specs.State.{PeerLink, State, link_of, with_link}
 use Rattle.exchange_model.specs.Calls.{moves_by, moves, peer_of, move_all}

@@ -15,9 +15,8 @@ use Rattle.ask_model.specs.Sharing.{asked_key, asked_place}
 use Rattle.observe_share.specs.declared.registration.Registration.{Registration}
 use Rattle.observe_share.specs.Watches.{without}
 use Rattle.journal_book.specs.Entries.{Passes, Written}
-use Rattle.history_laws.specs.Responses.{Response}
-use Rattle.history_laws.specs.Progress.{Reply, Reset, TimedOut, Whole, Ending, Renewed}
-use Rattle.history_laws.specs.Exchanges.{Turn, Nothing, Sent, Replied, Rejected, Expired, turn, replies, end_here, end_by, end_of, Begun, begun, is_late, expires as ends_at, waits_for, goes_to, is_going, is_waiting, waiting, rank, openings, open_exchanges, kept as kept_of, End}
+use Rattle.history_laws.specs.Progress.{Whole, Ending, Renewed}
+use Rattle.history_laws.specs.Exchanges.{Turn, Nothing, Sent, Replied, Rejected, Expired, turn, end_here, end_by, end_of, Begun, begun, is_late, expires as ends_at, waits_for, goes_to, is_going, is_waiting, waiting, rank, openings, open_exchanges, kept as kept_of, End, heard_for}
 use Rattle.history_laws.specs.Justified.{Ends, Legal}
 use Rattle.history_laws.specs.Observing.{idles, is_current, Watch, watches}
 use Rattle.history_laws.specs.Readings.{Noted, Plain, noted}
@@ -32,12 +31,13 @@ use Rattle.exchange_model.specs.declared.kept.Exchange.{Exchange}
 use Rattle.exchange_model.specs.State.{PeerLink, State, link_of}
 use Rattle.exchange_model.specs.Reads.{held_of, IsSentUnder, ExchangeIn, WaitsUnder, opening_of, Reads, awaited_by, got_in, PiecesIn, StalesIn, kept_in}
 use Rattle.exchange_model.specs.Watching.{is_one_of, tokens_of}
-use Rattle.exchange_model.specs.Steps.{expires, is_gone, is_under, is_unwatched, is_written_late, outrun_by, passed, timed_out, is_of_none, numbers_of, left_by, is_stale_of_none, stale_in}
+use Rattle.exchange_model.specs.Steps.{is_under}
+use Rattle.exchange_model.specs.Matters.{outrun_by, numbers_of, left_by, stale_in}
+use Rattle.exchange_model.specs.Hearing.{expires, is_gone, is_unwatched, is_written_late, passed, timed_out, is_of_none, is_stale_of_none}
 use Rattle.exchange_model.specs.Laws.{PassesLeads}
 use Rattle.exchange_model.specs.declared.kept.Piece.{Piece}
 use Rattle.history_laws.specs.Progress.{numbers}
 use Rattle.exchange_model.proofs.Pieces.{pieces-quiet}
-use Rattle.exchange_model.proofs.Settling.{no-whole}
 use Rattle.exchange_model.proofs.Retiring.{store-retired}
 use Rattle.exchange_model.proofs.Apart.{comes_to, notified-tells, watches-apart}
 use Rattle.exchange_model.proofs.Watches.{coming-stands, map-filtered, newest-quiet, others-come, outdated-quiet}
@@ -216,13 +216,13 @@ IsOfReplies (Renewed s r) = ⊤
 IsOfReplies how = ⊥
 
 passed-no-response : (l : List Noted) (t o : ℕ) (how : Ending) → IsOfReplies how → end_of l o ≡ None → Ends (ticked_at t ∷ l) o (length l) how → ⊥
-passed-no-response l t o how of going e = by (turn l o (ticked_at t)) (expired (ends_at l o t (waits_for l o))) (sym (ap (end_by (end_here (begun l o) (kept_of l o) (length l) (replies l o) (turn l o (ticked_at t))) (length l)) going) ∙ e)
+passed-no-response l t o how of going e = by (turn l o (ticked_at t)) (expired (ends_at l o t (waits_for l o))) (sym (ap (end_by (end_here (begun l o) (kept_of l o) (length l) (heard_for l o) (turn l o (ticked_at t))) (length l)) going) ∙ e)
   where
     expired : (b : Bool) → (cond b Expired Nothing ≡ Expired) ⊎ (cond b Expired Nothing ≡ Nothing)
     expired true = inl refl
     expired false = inr refl
 
-    by : (u : Turn) → (u ≡ Expired) ⊎ (u ≡ Nothing) → end_by (end_here (begun l o) (kept_of l o) (length l) (replies l o) u) (length l) None ≡ Some (record { number = length l; how = how }) → ⊥
+    by : (u : Turn) → (u ≡ Expired) ⊎ (u ≡ Nothing) → end_by (end_here (begun l o) (kept_of l o) (length l) (heard_for l o) u) (length l) None ≡ Some (record { number = length l; how = how }) → ⊥
     by Expired h e = subst IsOfReplies (sym (ap (λ (f : End). f.how) (some-is _ _ e))) of
     by Nothing h e = absurd cc
     by (Sent i) h e = absurd cc

@@ -11,24 +11,36 @@ use Rattle.history_laws.specs.Readings.{Noted, Note, First, at, before, noted}
 use Rattle.history_laws.specs.Transmissions.{FirstSending, firsts, sent_last}
 use Rattle.history_laws.specs.Justified.{CopiedNote, Legal}
 use Rattle.history_laws.specs.Progress.{Reply, numbers, Fetches, Gives, progress}
-use Rattle.history_laws.specs.Exchanges.{Begun, begun, replies}
-use Rattle.history_laws.proofs.CallerLemmas.{all-listed, all-more, at-below, begun-keeps, carried-below, eqb-same, find-some, follows-at, IsFirst-below, IsListed, length-before, sent-for}
+use Rattle.history_laws.specs.Exchanges.{Begun, begun, ask_behind, heard_for, replies}
+use Rattle.history_laws.proofs.CallerLemmas.{all-listed, all-more, at-below, at-keeps, begun-keeps, begun-opening, behind-at, heard-stays, carried-below, eqb-same, find-some, follows-at, IsFirst-below, IsListed, length-before, sent-for}
 use Rattle.exchange_model.specs.declared.kept.Exchange.{Exchange}
 use Rattle.exchange_model.specs.declared.kept.Piece.{Piece}
 use Rattle.exchange_model.specs.Reads.{got_for, got_in, PiecesIn}
 use Rattle.exchange_model.specs.declared.kept.Work.TheVariants as W
-use Rattle.exchange_model.specs.Steps.{first_work, got_by, numbers_of, progress_with}
+use Rattle.exchange_model.specs.Steps.{first_work}
+use Rattle.exchange_model.specs.Matters.{numbers_of, progress_with}
+use Rattle.exchange_model.specs.Hearing.{got_by}
 
 pub all-every : {X : Type 0} (P : X → Type 0) → ((x : X) → P x) → (xs : List X) → AllByRecursion P xs
 all-every P f [] = tt
 all-every P f (x ∷ xs) = (f x, all-every P f xs)
 
 -- Where the replies are as before, so are the pieces.
-pub got-same : (l n : List Noted) (o : ℕ) → begun n o ≡ begun l o → replies n o ≡ replies l o → got_in n o ≡ got_in l o
-got-same l n o begins same = ap (λ (b : Option Begun). got_for b (replies n o)) begins ∙ ap (got_for (begun l o)) same
+pub got-same : (l n : List Noted) (o : ℕ) → begun n o ≡ begun l o → heard_for n o ≡ heard_for l o → got_in n o ≡ got_in l o
+got-same l n o begins same = ap (λ (b : Option Begun). got_for b (heard_for n o)) begins ∙ ap (got_for (begun l o)) same
 
 pub got-stays : (x : Noted) (l : List Noted) (o : ℕ) (b : Begun) → begun l o ≡ Some b → replies (x ∷ l) o ≡ replies l o → got_in (x ∷ l) o ≡ got_in l o
-got-stays x l o b opened same = got-same l (x ∷ l) o (begun-keeps x l o b opened ∙ sym opened) same
+got-stays x l o b opened same = got-same l (x ∷ l) o (begun-keeps x l o b opened ∙ sym opened) (heard-stays x l o b opened same)
+
+-- It goes back to the ask that it went back to.
+pub behind-same : (l n : List Noted) (o : ℕ) (b : Begun) → begun l o ≡ Some b → ((x : Noted) → at l o ≡ Some x → at n o ≡ Some x)
+    → ask_behind n o ≡ ask_behind l o
+behind-same l n o b opened still =
+    let h = begun-opening l o b opened in
+    behind-at n o _ (still _ h.2) ∙ sym (behind-at l o _ h.2)
+
+pub behind-stays : (x : Noted) (l : List Noted) (o : ℕ) (b : Begun) → begun l o ≡ Some b → ask_behind (x ∷ l) o ≡ ask_behind l o
+behind-stays x l o b opened = behind-same l (x ∷ l) o b opened (λ y is. at-keeps x l o y is)
 
 pub below-more : (l n : List Noted) (xs : List Piece) → length l ≤ length n → AllByRecursion (λ (x : Piece). x.opening < length l) xs
     → AllByRecursion (λ (x : Piece). x.opening < length n) xs
@@ -108,11 +120,11 @@ got-first q = by (eqb q.method 1)
     by true = refl
     by false = refl
 
-pub got-new : (l : List Noted) (o t : ℕ) (q : CoapRequest) → begun l o ≡ Some (record { since = t; request = q }) → replies l o ≡ [] → got_in l o ≡ []
-got-new l o t q opened none = ap (λ (b : Option Begun). got_for b (replies l o)) opened ∙ (ap (λ (rs : List Reply). got_by (progress q rs)) none ∙ got-first q)
+pub got-new : (l : List Noted) (o t : ℕ) (q : CoapRequest) → begun l o ≡ Some (record { since = t; request = q }) → heard_for l o ≡ [] → got_in l o ≡ []
+got-new l o t q opened none = ap (λ (b : Option Begun). got_for b (heard_for l o)) opened ∙ (ap (λ (rs : List Reply). got_by (progress q rs)) none ∙ got-first q)
 
 pub first-progress : (l : List Noted) (o t : ℕ) (q : CoapRequest)
-    → begun l o ≡ Some (record { since = t; request = q }) → replies l o ≡ [] → progress q (replies l o) ≡ progress_with (first_work q) (got_in l o)
+    → begun l o ≡ Some (record { since = t; request = q }) → heard_for l o ≡ [] → progress q (heard_for l o) ≡ progress_with (first_work q) (got_in l o)
 first-progress l o t q opened none =
     ap (progress q) none ∙ (first (eqb q.method 1) ∙ sym (ap (progress_with (first_work q)) (got-new l o t q opened none)))
   where

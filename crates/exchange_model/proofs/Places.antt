@@ -26,7 +26,7 @@ use Rattle.history_laws.proofs.CallerLemmas.{eqb-itself, first-found, none-is, o
 use Rattle.history_links.specs.Agrees.{Start, TurnIn, WaitIn, way_of}
 use Rattle.history_links.proofs.CallerLemmas.{judge, Judged}
 use Rattle.exchange_model.specs.State.{State, link_of}
-use Rattle.exchange_model.specs.Steps.{has_next_place}
+use Rattle.exchange_model.specs.Matters.{has_next_place}
 use Rattle.exchange_model.specs.Laws.{Before}
 use Rattle.exchange_model.proofs.Borne.{answers-peer}
 use Rattle.exchange_model.proofs.Silent.{now-from}

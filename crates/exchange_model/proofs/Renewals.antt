@@ -11,13 +11,13 @@ use Rattle.ask_model.specs.Sharing.{asked_key, asked_place, is_get}
 use Rattle.history_laws.specs.Readings.{Noted, at, before}
 use Rattle.history_laws.specs.Responses.{Response, confirms, valid}
 use Rattle.history_laws.specs.Progress.{Reply, Whole, Renewed}
-use Rattle.history_laws.specs.Exchanges.{Begun, begun, End, end_here, end_of, kept, replies, turn}
+use Rattle.history_laws.specs.Exchanges.{Begun, begun, End, end_here, end_of, kept, replies, turn, heard_for, Replied}
 use Rattle.history_laws.specs.Joining.{asks_the_same, outrun}
 use Rattle.history_laws.specs.Observing.{outdated}
 use Rattle.history_laws.specs.Storing.{ComesSo, IsRenewal, first_in, is_valid_in, pieces_in, renewed_list}
 use Rattle.history_laws.specs.Justified.{Legal}
-use Rattle.history_laws.proofs.CallerLemmas.{begun-below, begun-keeps, contains-later, end-below, end-keeps, end-old, ended-begun, ends-all, ends-renewed, EndsWrite, filter-by, kept-before, kept-listed, at-still, news-unreplied, outrun-keeps, outrun-quiet, renewed-of, renews-for, RenewsFor, some-is, stored-since, stored-told, update-news, write-outruns, replies-fit, sent-for, at-before, legal-before}
-use Rattle.exchange_model.proofs.Came.{fresh-before, is-last-of, opened-by-one}
+use Rattle.history_laws.proofs.CallerLemmas.{begun-below, begun-keeps, contains-later, end-below, end-keeps, end-old, ended-begun, ends-renewed, EndsWrite, filter-by, kept-before, kept-listed, at-still, news-unreplied, outrun-keeps, outrun-quiet, renewed-of, renews-for, RenewsFor, some-is, stored-since, stored-told, update-news, write-outruns, replies-fit, sent-for, at-before, legal-before, ends-whole}
+use Rattle.exchange_model.proofs.Came.{fresh-before, opened-by-one, one-turn}
 use Rattle.exchange_model.specs.Reads.{kept_in, kept_yet}
 use Rattle.coap_codec.specs.Spelling.{Content}
 use Rattle.coap_codec.specs.Recognition.{is_forwardable}
@@ -91,7 +91,7 @@ kept-get l o b s legal opened k = (renews-for l o b s legal opened (was-kept l o
 pub was-renewed : (x : Noted) (l : List Noted) (q : CoapRequest) (e : ℕ) → (a : IsRenewal (x ∷ l) q e) → e ≢ length l
     → end_of l a.opening ≡ Some (record { number = e; how = Renewed a.kept a.reply })
 was-renewed x l q e a other =
-    elim (end-old (end_here (begun l a.opening) (kept l a.opening) (length l) (replies l a.opening) (turn l a.opening x)) (length l) (end_of l a.opening) _ a.ended) [
+    elim (end-old (end_here (begun l a.opening) (kept l a.opening) (length l) (heard_for l a.opening) (turn l a.opening x)) (length l) (end_of l a.opening) _ a.ended) [
       | inl old ↦ old
       | inr new ↦ absurd (other (sym new.1))
     ]
@@ -173,9 +173,11 @@ one-renewed l o p e s u r v legal a b =
 pub renewed-alone : (l : List Noted) (o p e : ℕ) (s : Stored) (r : Reply) (w : Response) (rs : List Reply) → Legal l
     → end_of l o ≡ Some (record { number = e; how = Renewed s r }) → ComesSo l p e w rs → ⊥
 renewed-alone l o p e s r w rs legal a (inl b) =
-    let it = ends-all l p e w rs b.ended in
-    let opening = opened-by-one l o p r it.last legal (renewed-of l o e s r a) (it.listed it.last (is-last-of it.others it.last rs it.all))
-    (renewed-number l o e s r a ∙ sym it.number) in
+    let it = ends-whole l p e w rs legal b.ended in
+    let mine = ends-renewed l o e s r a in
+    let opening = one-turn (before l e) o p it.entry mine.turned.sending it.turned.sending mine.turned.message it.turned.message mine.turned.place it.turned.place
+    (subst (λ (x : Noted). turn (before l e) o x ≡ Replied mine.turned.sending mine.turned.message mine.turned.place) (some-is _ _ (sym mine.stands ∙ it.stands)) mine.turned.is)
+    it.turned.is in
     not-whole (ap (λ (z : End). z.how) (some-is _ _ (sym a ∙ (ap (end_of l) opening ∙ b.ended))))
   where
     not-whole : Renewed s r ≡ Whole w rs → ⊥

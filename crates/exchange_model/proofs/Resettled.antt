@@ -1,5 +1,6 @@
 -- What is stored after an exchange has renewed what it asked about.
 use Rattle.std.proofs.Common.{◌≡◌, ℕ, inl, inr, Bool, true, false, not, cond, eqb, List, [], ◌∷◌, ◌++◌, length, Option, Some, None, refl, sym, ap, subst, ◌∙◌, arith}
+use Rattle.exchange_model.proofs.Stales.{no-replies}
 use Rattle.std.specs.Prelude.{◌&&◌, filter}
 use Rattle.std.specs.Option.{option_map_or}
 use Rattle.std.specs.List.{Contains}
@@ -17,7 +18,7 @@ use Rattle.history_laws.specs.Observing.{counting, outdated}
 use Rattle.history_laws.specs.Readings.{Noted}
 use Rattle.history_laws.specs.Responses.{Response, renewed_response}
 use Rattle.history_laws.specs.Progress.{Reply, Whole, Renewed}
-use Rattle.history_laws.specs.Exchanges.{Begun, begun, End, end_of, kept as kept_of, replies}
+use Rattle.history_laws.specs.Exchanges.{Begun, begun, End, end_of, kept as kept_of, replies, heard_for}
 use Rattle.history_laws.specs.Joining.{asks_the_same, outrun}
 use Rattle.history_laws.specs.Storing.{first_in}
 use Rattle.history_laws.specs.Justified.{Ends, Legal}
@@ -25,7 +26,8 @@ use Rattle.history_laws.proofs.CallerLemmas.{before-new, begun-keeps, contains-n
 use Rattle.exchange_model.specs.Reads.{ExchangeIn, Reads, StoreIn, kept_yet}
 use Rattle.exchange_model.specs.declared.kept.Exchange.{Exchange}
 use Rattle.exchange_model.specs.State.{State}
-use Rattle.exchange_model.specs.Steps.{asked_in, moment_in, newest_content, put_by, retired, settled, settled_by}
+use Rattle.exchange_model.specs.Matters.{asked_in, moment_in}
+use Rattle.exchange_model.specs.Hearing.{newest_content, put_by, retired, settled, settled_by}
 use Rattle.exchange_model.proofs.Bare.{bare_ending}
 use Rattle.exchange_model.proofs.Brought.{Renews, renewed-arrives, renewed_so, store-arrived}
 use Rattle.exchange_model.proofs.Outlasts.{outrun-as}
@@ -49,7 +51,7 @@ module _ (x : Noted) (l : List Noted) (S : State) (r : Reads l S) (legal : Legal
   keeps = subst (λ (k : List Noted). kept_of k e.opening ≡ Some s) (before-new x l) (ends-renewed (x ∷ l) e.opening (length l) s u came).turned.keeps
 
   unreplied : replies l e.opening ≡ []
-  unreplied = subst (λ (k : List Noted). replies k e.opening ≡ []) (before-new x l) (ends-renewed (x ∷ l) e.opening (length l) s u came).turned.first
+  unreplied = no-replies l e.opening (subst (λ (k : List Noted). heard_for k e.opening ≡ []) (before-new x l) (ends-renewed (x ∷ l) e.opening (length l) s u came).turned.first)
 
   asks_it : RenewsFor l e.opening (record { since = e.since; request = q }) s
   asks_it = renews-for l e.opening _ s r.legal a.opening keeps
@@ -70,7 +72,7 @@ module _ (x : Noted) (l : List Noted) (S : State) (r : Reads l S) (legal : Legal
   writes : (place : Place) → EndsWrite x l place → ⊥
   writes place h =
       let g = write-of x l S r legal (e ∷ []) ends place h in
-      let request : q ≡ g.2.request = some-is q g.2.request (sym (asked-here l S r e a) ∙ (ap (λ (f : Exchange). asked_in S.entries f.opening) (only g.0 g.1) ∙ asked-here l S r g.0 g.2)) in
+      let request : q ≡ g.2.request = some-is q g.2.request (sym (asked-here l S r e a) ∙ (ap (λ (f : Exchange). asked_in S.entries f.ask) (only g.0 g.1) ∙ asked-here l S r g.0 g.2)) in
       let both = and_parts (not (eqb g.2.request.method 1)) (same_place place (asked_place g.2.request)) g.3 in
       true-not (eqb g.2.request.method 1) both.0 (subst (λ (k : CoapRequest). eqb k.method 1 ≡ true) request method)
 

@@ -19,7 +19,8 @@ use Rattle.history_laws.proofs.CallerLemmas.{contains-later, all-more, contains-
 use Rattle.exchange_model.specs.Reads.{AreLastFirst, HasPair, StoreIn, PairIn, Reads}
 use Rattle.exchange_model.specs.declared.kept.Exchange.{Exchange}
 use Rattle.exchange_model.specs.State.{State}
-use Rattle.exchange_model.specs.Steps.{asked_in, put_by, settled_by, settled, retired}
+use Rattle.exchange_model.specs.Matters.{asked_in}
+use Rattle.exchange_model.specs.Hearing.{put_by, settled_by, settled, retired}
 use Rattle.exchange_model.proofs.Carried.{IsOwn}
 use Rattle.exchange_model.proofs.Came.{none-updates}
 use Rattle.exchange_model.proofs.Watches.{outdated-quiet}
@@ -34,9 +35,9 @@ module _ (x : Noted) (l : List Noted) (S : State) (r : Reads l S) (legal : Legal
   -- what comes of those that store nothing
 
   settled-none : (P : Pair → Type 0) (e : Exchange) (ps : List Pair) → AllByRecursion P ps → AllByRecursion (λ (p : Pair). P p × Apart x l S r legal e p) (settled S.entries (Some e) None ps)
-  settled-none P e ps a = by (asked_in S.entries e.opening) refl
+  settled-none P e ps a = by (asked_in S.entries e.ask) refl
     where
-      stays : (q : CoapRequest) → asked_in S.entries e.opening ≡ Some q → eqb q.method 1 ≡ true → AllByRecursion (λ (p : Pair). P p × Apart x l S r legal e p) ps
+      stays : (q : CoapRequest) → asked_in S.entries e.ask ≡ Some q → eqb q.method 1 ≡ true → AllByRecursion (λ (p : Pair). P p × Apart x l S r legal e p) ps
       stays q is get = all-more P (λ (p : Pair). P p × Apart x l S r legal e p)
           (λ p h. (h, λ u i other. absurd (false≢true (sym other ∙ subst (λ (k : CoapRequest). eqb k.method 1 ≡ true) (some-is q u (sym is ∙ i)) get)))) ps a
 
@@ -44,14 +45,14 @@ module _ (x : Noted) (l : List Noted) (S : State) (r : Reads l S) (legal : Legal
       either true h = h
       either false h = h
 
-      of : (q : CoapRequest) → asked_in S.entries e.opening ≡ Some q → (b : Bool) → eqb q.method 1 ≡ b
+      of : (q : CoapRequest) → asked_in S.entries e.ask ≡ Some q → (b : Bool) → eqb q.method 1 ≡ b
           → AllByRecursion (λ (p : Pair). P p × Apart x l S r legal e p) (cond b (cond (is_get q && e.current) (put_by None (asked_key q) ps) ps) (filter (is_elsewhere (asked_place q)) ps))
       of q is true get = either (is_get q && e.current) (stays q is get)
       of q is false write = all-more (λ (p : Pair). P p × (is_elsewhere (asked_place q) p ≡ true)) (λ (p : Pair). P p × Apart x l S r legal e p)
           (λ p h. (h.0, λ u i other. subst (λ (k : CoapRequest). is_elsewhere (asked_place k) p ≡ true) (some-is q u (sym is ∙ i)) h.1)) (filter (is_elsewhere (asked_place q)) ps)
           (all-kept P (is_elsewhere (asked_place q)) ps a)
 
-      by : (v : Option CoapRequest) → asked_in S.entries e.opening ≡ v → AllByRecursion (λ (p : Pair). P p × Apart x l S r legal e p) (settled_by v e.current None ps)
+      by : (v : Option CoapRequest) → asked_in S.entries e.ask ≡ v → AllByRecursion (λ (p : Pair). P p × Apart x l S r legal e p) (settled_by v e.current None ps)
       by None is = all-more P (λ (p : Pair). P p × Apart x l S r legal e p) (λ p h. (h, λ q i. absurd (none-some q (sym is ∙ i)))) ps a
       by (Some q) is = of q is (eqb q.method 1) refl
 
@@ -68,7 +69,7 @@ module _ (x : Noted) (l : List Noted) (S : State) (r : Reads l S) (legal : Legal
       one p h f (inr has) = h.1 f has
 
   settled-order : (e : Exchange) (b : ℕ) (ps : List Pair) → AreLastFirst l b ps → AreLastFirst l b (settled S.entries (Some e) None ps)
-  settled-order e b ps a = by (asked_in S.entries e.opening)
+  settled-order e b ps a = by (asked_in S.entries e.ask)
     where
       either : (c : Bool) → AreLastFirst l b (cond c ps ps)
       either true = a
@@ -87,21 +88,21 @@ module _ (x : Noted) (l : List Noted) (S : State) (r : Reads l S) (legal : Legal
   retired-order (e ∷ es) b ps a = retired-order es b (settled S.entries (Some e) None ps) (settled-order e b ps a)
 
   abbrev Away : Exchange → CacheKey → Type 0
-  Away e key = (w : CoapRequest) → asked_in S.entries e.opening ≡ Some w → eqb w.method 1 ≡ false → (p : Pair) → is_of key p ≡ true → is_elsewhere (asked_place w) p ≡ true
+  Away e key = (w : CoapRequest) → asked_in S.entries e.ask ≡ Some w → eqb w.method 1 ≡ false → (p : Pair) → is_of key p ≡ true → is_elsewhere (asked_place w) p ≡ true
 
   settled-has : (e : Exchange) (key : CacheKey) (ps : List Pair) → Away e key → HasPair ps key → HasPair (settled S.entries (Some e) None ps) key
-  settled-has e key ps away h = by (asked_in S.entries e.opening) refl
+  settled-has e key ps away h = by (asked_in S.entries e.ask) refl
     where
       either : (c : Bool) → HasPair (cond c ps ps) key
       either true = h
       either false = h
 
-      of : (q : CoapRequest) → asked_in S.entries e.opening ≡ Some q → (c : Bool) → eqb q.method 1 ≡ c
+      of : (q : CoapRequest) → asked_in S.entries e.ask ≡ Some q → (c : Bool) → eqb q.method 1 ≡ c
           → HasPair (cond c (cond (is_get q && e.current) (put_by None (asked_key q) ps) ps) (filter (is_elsewhere (asked_place q)) ps)) key
       of q is true k = either (is_get q && e.current)
       of q is false k = has-filtered key (is_elsewhere (asked_place q)) ps (away q is k) h
 
-      by : (v : Option CoapRequest) → asked_in S.entries e.opening ≡ v → HasPair (settled_by v e.current None ps) key
+      by : (v : Option CoapRequest) → asked_in S.entries e.ask ≡ v → HasPair (settled_by v e.current None ps) key
       by None is = h
       by (Some q) is = of q is (eqb q.method 1) refl
 

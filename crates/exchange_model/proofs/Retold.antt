@@ -1,5 +1,6 @@
 -- What a notification that counts leaves in the store.
-use Rattle.std.proofs.Common.{◌≡◌, ◌≢◌, ◌<◌, ℕ, inl, inr, Bool, true, false, cond, not, eqb, List, [], ◌∷◌, length, map, Option, Some, None, Ok, Err, refl, sym, ap, subst, ◌∙◌, arith}
+use Rattle.std.proofs.Common.{◌≡◌, ◌<◌, ℕ, inl, inr, Bool, true, false, cond, not, eqb, List, [], ◌∷◌, length, map, Option, Some, None, Ok, Err, refl, sym, ap, subst, ◌∙◌, arith}
+use Rattle.exchange_model.proofs.Pieces.{behind-stays}
 use Rattle.std.specs.Prelude.{◌&&◌}
 use Rattle.std.specs.Option.{option_map_or}
 use Rattle.std.proofs.lemmas.Bool.{false≢true, and_parts, not-true}
@@ -25,25 +26,26 @@ use Rattle.blockwise.specs.declared.fault.BlockFault.TheVariants as F
 use Rattle.blockwise.specs.declared.pieces.Step.TheVariants.{Next, Last}
 use Rattle.history_laws.specs.Responses.{Response, is_tellable}
 use Rattle.history_laws.specs.Progress.{Reply, numbers, Ending, Whole, NotUnderstood, Reset, TimedOut, Turned, Progress, Fetches, Gives, Ends, fetched_by, Renewed}
-use Rattle.history_laws.specs.Exchanges.{Begun, begun, end_of}
+use Rattle.history_laws.specs.Exchanges.{Begun, begun, end_of, ask_behind}
 use Rattle.history_laws.specs.Hearing.{answers, can_be_remembered, counts_as, notice_of, repeated}
 use Rattle.history_laws.specs.Joining.{asks_the_same, is_joinable, outrun}
 use Rattle.history_laws.specs.Observing.{Watch, as_first, first_reply, notice_by, notice_in, is_some_of, is_current, outdated, version, watch_under, watches}
 use Rattle.history_laws.specs.Observing as O
 use Rattle.history_laws.specs.Storing.{ComesSo, content, EndsSo, IsStored, UpdatesSo}
 use Rattle.history_laws.specs.Justified.{Legal}
-use Rattle.history_laws.proofs.CallerLemmas.{all-more, all-of, at-below, at-new, at-old, before-new, begun-keeps, contains-none, entries-length, EndsWrite, find-some, first-whole, outrun-quiet, some-is, watch-fits, WatchFits}
+use Rattle.history_laws.proofs.CallerLemmas.{all-more, all-of, at-below, at-new, at-old, before-new, begun-keeps, contains-none, entries-length, EndsWrite, find-some, first-whole, outrun-quiet, some-is, watch-fits, WatchFits, ask-own}
 use Rattle.history_links.specs.Steps.{heard}
 use Rattle.exchange_model.specs.State.{State}
 use Rattle.exchange_model.specs.Reads.{PairIn, StoreIn}
-use Rattle.exchange_model.specs.Steps.{answered_in, found_in, moment_in, Numbers, put_by, retold, stored_by}
+use Rattle.exchange_model.specs.Matters.{answered_in, found_in, moment_in, stored_by}
+use Rattle.exchange_model.specs.Hearing.{Numbers, put_by, retold}
 use Rattle.exchange_model.specs.Laws.{MayHear}
 use Rattle.exchange_model.proofs.Answered.{ended}
 use Rattle.exchange_model.proofs.Bare.{bare, bare_progress, step-bare, first-unrenewed}
 use Rattle.exchange_model.proofs.Brought.{Brings, store-arrived, brought-arrives}
 use Rattle.exchange_model.proofs.Fresh.{outdated-late, outdated-now}
 use Rattle.exchange_model.proofs.Left.{legal-so}
-use Rattle.exchange_model.proofs.Noticing.{IsTold}
+use Rattle.exchange_model.proofs.ToldAlone.{IsTold}
 use Rattle.exchange_model.proofs.Outrun.{EndsThose}
 use Rattle.exchange_model.proofs.Settling.{all-kept, is-ended, true-not, was-going, write-of, now-going}
 use Rattle.exchange_model.proofs.Storing.{pair-stays, stored-earlier, stored-fresh, stored-unwritten, stored-was}
@@ -52,12 +54,12 @@ use Rattle.exchange_model.proofs.Unwritten.{watches-current}
 use Rattle.exchange_model.proofs.Uses.{crowded-stays, has-filtered, order-filter, order-stays, order-weaker, unserved, Unused}
 
 -- A whole representation that is told.
-whole-bare : (n i : ℕ) (m : Content) → as_first n 0 m ≡ bare_progress (as_first n i m)
+pub whole-bare : (n i : ℕ) (m : Content) → as_first n 0 m ≡ bare_progress (as_first n i m)
 whole-bare n i m = step-bare (Fetches 0 no_pieces []) (first_reply n i m)
 
-first-ends : (n i : ℕ) (m : Content) (w : Response) (rs : List Reply) (v : ℕ) → as_first n i m ≡ Ends (Whole w rs)
-    → (counts_as (Update v) (as_first 0 0 m) ≡ Updates) × (w.code ≡ m.code)
-first-ends n i m w rs v e = by (is_tellable m) (judged no_pieces m) e
+first-ends : (l : List Noted) (t : ℕ) (r : Registration) (n i : ℕ) (m : Content) (w : Response) (rs : List Reply) (v : ℕ) → as_first n i m ≡ Ends (Whole w rs)
+    → (counts_as l t r (Update v) (as_first 0 0 m) ≡ Updates) × (w.code ≡ m.code)
+first-ends l t r n i m w rs v e = by (is_tellable m) (judged no_pieces m) e
   where
     code-of : (y : Response) (ts : List Reply) → y.code ≡ m.code → Ends (Whole y ts) ≡ Ends (Whole w rs) → w.code ≡ m.code
     code-of y ts c f = ap (λ (z : Response). z.code) (sym (inner f)) ∙ c
@@ -66,7 +68,7 @@ first-ends n i m w rs v e = by (is_tellable m) (judged no_pieces m) e
         inner g = cc
 
     by : (b : Bool) (j : Judged) → cond b (fetched_by j 0 (with_piece no_pieces m) (first_reply n i m ∷ [])) (Ends NotUnderstood) ≡ Ends (Whole w rs)
-        → (counts_as (Update v) (cond b (fetched_by j 0 (with_piece no_pieces m) (first_reply 0 0 m ∷ [])) (Ends NotUnderstood)) ≡ Updates) × (w.code ≡ m.code)
+        → (counts_as l t r (Update v) (cond b (fetched_by j 0 (with_piece no_pieces m) (first_reply 0 0 m ∷ [])) (Ends NotUnderstood)) ≡ Updates) × (w.code ≡ m.code)
     by true (Ok Last) f = (refl, code-of _ _ refl f)
     by true (Ok (Next block)) f = absurd cc
     by true (Err F.Changed) f = absurd cc
@@ -136,7 +138,7 @@ module _ (l : List Noted) (t : ℕ) (p : Peer) (d : List ℕ) (m : Content) (n :
         let g = is-ended x l S h.before.reads legal [] ends o _ (was-going x l S h.before.reads legal o (length l) w rs so refl) so.ended in
         contains-none g.0 g.1
 
-    observation-is : (notice_of l t p m (answers l p m)).observation ≡ counts_as (notice_in m) (as_first 0 0 m)
+    observation-is : (notice_of l t p m (answers l p m)).observation ≡ counts_as l t r (notice_in m) (as_first 0 0 m)
     observation-is = k.seen
 
     other-keys : (key : CacheKey) → (key ≡ asked_key q → ⊥) → same_key r.key key ≡ false
@@ -170,17 +172,17 @@ module _ (l : List Noted) (t : ℕ) (p : Peer) (d : List ℕ) (m : Content) (n :
         code = code-is;
       }
         where
-          told-whole : counts_as (Update v) (as_first 0 0 m) ≡ Updates
-          told-whole = (first-ends (length l) k.sending m w rs v whole).0
+          told-whole : counts_as l t r (Update v) (as_first 0 0 m) ≡ Updates
+          told-whole = (first-ends l t r (length l) k.sending m w rs v whole).0
 
           entry-is : x ≡ noted t (Hears p d) (Says m (Some k.sending) (record { place = (notice_of l t p m (answers l p m)).place; observation = Updates }))
           entry-is =
               ap (λ (to : Option ℕ). noted t (Hears p d) (Says m to (notice_of l t p m (answers l p m)))) k.to
               ∙ ap (λ (o : Observation). noted t (Hears p d) (Says m (Some k.sending) (record { place = (notice_of l t p m (answers l p m)).place; observation = o })))
-              (observation-is ∙ (ap (λ (z : Told). counts_as z (as_first 0 0 m)) update ∙ told-whole))
+              (observation-is ∙ (ap (λ (z : Told). counts_as l t r z (as_first 0 0 m)) update ∙ told-whole))
 
           code-is : w.code ≡ content
-          code-is = (first-ends (length l) k.sending m w rs v whole).1 ∙ updated-code m v update
+          code-is = (first-ends l t r (length l) k.sending m w rs v whole).1 ∙ updated-code m v update
 
       brings : Brings x l q r.opening w first []
       brings = record {
@@ -214,11 +216,16 @@ module _ (l : List Noted) (t : ℕ) (p : Peer) (d : List ℕ) (m : Content) (n :
               ∙ (ap (λ (b : Bool). b && not (outrun (x ∷ l) (asked_place q) r.opening)) itself
               ∙ ap not (outrun-quiet x l (asked_place q) r.opening legal (writes (asked_place q)) ∙ current-is))
 
+      back : ask_behind (x ∷ l) r.opening ≡ r.opening
+      back = subst (λ (o : ℕ). ask_behind (x ∷ l) o ≡ o) opening-is
+          (behind-stays x l k.watch.held.opening fits.exchange fits.opened ∙ ask-own l k.watch.held.opening fits.exchange h.before.reads.legal fits.for_it)
+
       pub put : StoreIn (x ∷ l) (put_by (Some (stored_of w r.opening t (numbers (first ∷ [])))) r.key S.store)
       unfolding brings
       put =
-          subst (λ (c : CacheKey). StoreIn (x ∷ l) (put_by (Some (stored_of w r.opening t (numbers (first ∷ [])))) c S.store)) key-is
-          (store-arrived x l S h.before.reads legal tt q _ (brought-arrives x l legal tt q r.opening w first [] brings) writes (λ key differs i. out-not key i (other-keys key differs)))
+          subst (λ (o : ℕ). StoreIn (x ∷ l) (put_by (Some (stored_of w o t (numbers (first ∷ [])))) r.key S.store)) back
+          (subst (λ (c : CacheKey). StoreIn (x ∷ l) (put_by (Some (stored_of w (ask_behind (x ∷ l) r.opening) t (numbers (first ∷ [])))) c S.store)) key-is
+          (store-arrived x l S h.before.reads legal tt q _ (brought-arrives x l legal tt q r.opening w first [] brings) writes (λ key differs i. out-not key i (other-keys key differs))))
 
     -- what was stored for its key is out of date, and nothing takes its place
     module _ (nothing : (o : ℕ) (w : Response) (rs : List Reply) → ComesSo (x ∷ l) o (length l) w rs → ⊥) where
@@ -265,7 +272,7 @@ module _ (l : List Noted) (t : ℕ) (p : Peer) (d : List ℕ) (m : Content) (n :
 
     -- what comes by it is a whole update
     comes-whole : (o : ℕ) (w : Response) (rs : List Reply) → ComesSo (x ∷ l) o (length l) w rs
-        → (counts_as (notice_in m) (as_first 0 0 m) ≡ Updates) × (as_first (length l) k.sending m ≡ Ends (Whole w rs))
+        → (counts_as l t r (notice_in m) (as_first 0 0 m) ≡ Updates) × (as_first (length l) k.sending m ≡ Ends (Whole w rs))
     comes-whole o w rs (inl so) = absurd (no-end o w rs so)
     comes-whole o w rs (inr u) = elim (at-old x l (length l) _ u.stands) [
       | inr old ↦ absurd (let below = at-below l (length l) _ old in omega (arith, below))
@@ -277,7 +284,7 @@ module _ (l : List Noted) (t : ℕ) (p : Peer) (d : List ℕ) (m : Content) (n :
           )
     ]
 
-    not-updates : (v : Option ℕ) (u : Progress) → counts_as (Other v) u ≡ Updates → ⊥
+    not-updates : (v : Option ℕ) (u : Progress) → counts_as l t r (Other v) u ≡ Updates → ⊥
     not-updates v u e = cc
 
     found-is : (z : Told) → notice_in m ≡ z → (u : Progress) → as_first (length l) k.sending m ≡ u → found ≡ found_in t S z r.opening (bare_progress u)
@@ -307,7 +314,7 @@ module _ (l : List Noted) (t : ℕ) (p : Peer) (d : List ℕ) (m : Content) (n :
         ended-so v is_z Turned is_u = by-none (found-is (Update v) is_z (Ends Turned) is_u) (no-whole (Ends Turned) is_u (λ w rs f. cc))
         ended-so v is_z (Whole w rs) is_u =
             let one = one-reply v is_z w rs is_u in
-            let code = (first-ends (length l) k.sending m w rs v is_u).1 ∙ updated-code m v is_z in
+            let code = (first-ends l t r (length l) k.sending m w rs v is_u).1 ∙ updated-code m v is_z in
             subst (λ (f : Option Stored). StoreIn (x ∷ l) (retold r.key f S.store))
             (sym (found-is (Update v) is_z (Ends (Whole w rs)) is_u
             ∙ (ap (λ (ts : List Reply). stored_by S.entries t r.opening w (map bare ts)) one
@@ -316,7 +323,7 @@ module _ (l : List Noted) (t : ℕ) (p : Peer) (d : List ℕ) (m : Content) (n :
             (put v is_z w rs is_u)
 
         by : (z : Told) → notice_in m ≡ z → (u : Progress) → as_first (length l) k.sending m ≡ u → StoreIn (x ∷ l) (retold r.key found S.store)
-        by (Other v) is_z u is_u = by-none (found-is (Other v) is_z u is_u) (λ o w rs comes. not-updates v (as_first 0 0 m) (sym (ap (λ (y : Told). counts_as y (as_first 0 0 m)) is_z) ∙ (comes-whole o w rs comes).0))
+        by (Other v) is_z u is_u = by-none (found-is (Other v) is_z u is_u) (λ o w rs comes. not-updates v (as_first 0 0 m) (sym (ap (λ (y : Told). counts_as l t r y (as_first 0 0 m)) is_z) ∙ (comes-whole o w rs comes).0))
         by (Update v) is_z (Fetches c pieces got) is_u = by-none (found-is (Update v) is_z (Fetches c pieces got) is_u) (no-whole (Fetches c pieces got) is_u (λ w rs f. cc))
         by (Update v) is_z (Gives y got) is_u = by-none (found-is (Update v) is_z (Gives y got) is_u) (no-whole (Gives y got) is_u (λ w rs f. cc))
         by (Update v) is_z (Ends how) is_u = ended-so v is_z how is_u

@@ -1,5 +1,6 @@
 -- What is stored after an exchange has ended.
 use Rattle.std.proofs.Common.{◌≡◌, ℕ, ◌⊎◌, zero, inl, inr, Bool, true, false, not, cond, eqb, List, [], ◌∷◌, length, map, Option, Some, None, refl, sym, ap, subst, ◌∙◌, arith}
+use Rattle.exchange_model.proofs.Pieces.{behind-stays}
 use Rattle.std.specs.Prelude.{◌==◌, ◌&&◌, filter}
 use Rattle.std.specs.List.{AllByRecursion, Contains}
 use Rattle.std.proofs.lemmas.Bool.{false≢true, and_parts}
@@ -18,14 +19,15 @@ use Rattle.history_laws.specs.Observing.{counting, outdated}
 use Rattle.history_laws.specs.Readings.{Noted}
 use Rattle.history_laws.specs.Responses.{Response}
 use Rattle.history_laws.specs.Progress.{Reply, numbers, Ending, Whole, NotUnderstood, Reset, TimedOut, Turned, Renewed}
-use Rattle.history_laws.specs.Exchanges.{Begun, begun, End, end_of}
+use Rattle.history_laws.specs.Exchanges.{Begun, begun, End, end_of, ask_behind}
 use Rattle.history_laws.specs.Joining.{asks_the_same, outrun, is_joinable}
 use Rattle.history_laws.specs.Justified.{Ends, Legal}
 use Rattle.history_laws.proofs.CallerLemmas.{before-new, all-more, begun-keeps, contains-none, EndsWrite, first-or-later, outrun-keeps, outrun-quiet, some-is}
 use Rattle.exchange_model.specs.Reads.{AreLastFirst, HasPair, StoreIn, ExchangeIn, PairIn, Reads}
 use Rattle.exchange_model.specs.declared.kept.Exchange.{Exchange}
 use Rattle.exchange_model.specs.State.{State}
-use Rattle.exchange_model.specs.Steps.{asked_in, content_by, moment_in, newest_by, newest_content, put_by, settled_by, settled}
+use Rattle.exchange_model.specs.Matters.{asked_in, content_by, moment_in}
+use Rattle.exchange_model.specs.Hearing.{newest_by, newest_content, put_by, settled_by, settled}
 use Rattle.exchange_model.proofs.Bare.{bare, bare_ending, numbers-bare}
 use Rattle.exchange_model.proofs.Brought.{Brings, brought-arrives, store-arrived}
 use Rattle.exchange_model.proofs.Carried.{IsOwn}
@@ -116,7 +118,7 @@ module _ (x : Noted) (l : List Noted) (S : State) (r : Reads l S) (legal : Legal
     gets : eqb q.method 1 ≡ true → (place : Place) → EndsWrite x l place → ⊥
     gets get place h =
         let g = write-of x l S r legal (e ∷ []) ends place h in
-        let request : q ≡ g.2.request = some-is q g.2.request (sym (asked-here l S r e a) ∙ (ap (λ (f : Exchange). asked_in S.entries f.opening) (only g.0 g.1) ∙ asked-here l S r g.0 g.2)) in
+        let request : q ≡ g.2.request = some-is q g.2.request (sym (asked-here l S r e a) ∙ (ap (λ (f : Exchange). asked_in S.entries f.ask) (only g.0 g.1) ∙ asked-here l S r g.0 g.2)) in
         let both = and_parts (not (eqb g.2.request.method 1)) (same_place place (asked_place g.2.request)) g.3 in
         true-not (eqb g.2.request.method 1) both.0 (subst (λ (k : CoapRequest). eqb k.method 1 ≡ true) request get)
 
@@ -249,9 +251,9 @@ module _ (x : Noted) (l : List Noted) (S : State) (r : Reads l S) (legal : Legal
           (λ k s is had. has-filtered (asked_key k) (is_elsewhere (asked_place q)) S.store
           (is-away x l S r legal (e ∷ []) ends k (stored-unwritten x l k s legal own is) e (zero, omega arith, refl) q (asked-here l S r e a) write) had)
         where
-          away : (p : Pair) → is_elsewhere (asked_place q) p ≡ true → (g : Exchange) → Contains (e ∷ []) g → (u : CoapRequest) → asked_in S.entries g.opening ≡ Some u → is_elsewhere (asked_place u) p ≡ true
+          away : (p : Pair) → is_elsewhere (asked_place q) p ≡ true → (g : Exchange) → Contains (e ∷ []) g → (u : CoapRequest) → asked_in S.entries g.ask ≡ Some u → is_elsewhere (asked_place u) p ≡ true
           away p h g in_e u is = subst (λ (k : CoapRequest). is_elsewhere (asked_place k) p ≡ true)
-              (some-is q u (sym (asked-here l S r e a) ∙ (ap (λ (f : Exchange). asked_in S.entries f.opening) (only g in_e) ∙ is))) h
+              (some-is q u (sym (asked-here l S r e a) ∙ (ap (λ (f : Exchange). asked_in S.entries f.ask) (only g in_e) ∙ is))) h
 
       -- a GET that comes to nothing that is stored
       stays : eqb q.method 1 ≡ true
@@ -285,14 +287,19 @@ module _ (x : Noted) (l : List Noted) (S : State) (r : Reads l S) (legal : Legal
           unrun true h = absurd (false≢true h)
           unrun false h = refl
 
+      -- It goes back to its ask.
+      back : ask_behind (x ∷ l) e.opening ≡ e.ask
+      back = behind-stays x l e.opening _ a.opening ∙ a.behind
+
       put : eqb q.method 1 ≡ true → is_get q ≡ true → e.current ≡ true → (w : Response) (first : Reply) (more : List Reply) → Ends (x ∷ l) e.opening (length l) (Whole w (first ∷ more)) → w.code ≡ content
           → outdated (x ∷ l) (asked_key q) first.number ≡ false
-          → StoreIn (x ∷ l) (put_by (Some (stored_of w e.opening (moment_in S.entries x.written.moment first.number) (numbers (first ∷ more)))) (asked_key q) S.store)
+          → StoreIn (x ∷ l) (put_by (Some (stored_of w e.ask (moment_in S.entries x.written.moment first.number) (numbers (first ∷ more)))) (asked_key q) S.store)
       unfolding brings
       put get is_g current w first more c code fresh =
-          subst (λ (t : ℕ). StoreIn (x ∷ l) (put_by (Some (stored_of w e.opening t (numbers (first ∷ more)))) (asked_key q) S.store))
+          subst (λ (o : ℕ). StoreIn (x ∷ l) (put_by (Some (stored_of w o (moment_in S.entries x.written.moment first.number) (numbers (first ∷ more)))) (asked_key q) S.store)) back
+          (subst (λ (t : ℕ). StoreIn (x ∷ l) (put_by (Some (stored_of w (ask_behind (x ∷ l) e.opening) t (numbers (first ∷ more)))) (asked_key q) S.store))
           (sym (first-stands x l S r legal e.opening w first more c).moment)
-          (store-arrived x l S r legal quiet q _ (brought-arrives x l legal quiet q e.opening w first more (brings is_g current w first more c code fresh)) (gets get) (λ key other n. outdated-quiet x l key n silent))
+          (store-arrived x l S r legal quiet q _ (brought-arrives x l legal quiet q e.opening w first more (brings is_g current w first more c code fresh)) (gets get) (λ key other n. outdated-quiet x l key n silent)))
 
       comes : eqb q.method 1 ≡ true → is_get q ≡ true → e.current ≡ true → (u : Ending) → Ends (x ∷ l) e.opening (length l) u
           → ((w : Response) (first : Reply) (more : List Reply) → u ≡ Whole w (first ∷ more) → outdated (x ∷ l) (asked_key q) first.number ≡ not (newest_by (first ∷ more) e.newest))
@@ -302,15 +309,15 @@ module _ (x : Noted) (l : List Noted) (S : State) (r : Reads l S) (legal : Legal
       comes get is_g current Reset c fresh = other-than Reset c (λ w rs f. absurd (cc (f))) get
       comes get is_g current TimedOut c fresh = other-than TimedOut c (λ w rs f. absurd (cc (f))) get
       comes get is_g current Turned c fresh = other-than Turned c (λ w rs f. absurd (cc (f))) get
-      comes get is_g current (Whole w []) c fresh = absurd (rests-on-some (x ∷ l) e.opening (length l) w c)
+      comes get is_g current (Whole w []) c fresh = absurd (rests-on-some (x ∷ l) e.opening (length l) w legal c)
       comes get is_g current (Whole w (first ∷ more)) c fresh =
-          subst (λ (b : Bool). StoreIn (x ∷ l) (put_by (cond b (content_by S.entries x.written.moment e.opening (bare_ending (Whole w (first ∷ more)))) None) (asked_key q) S.store))
+          subst (λ (b : Bool). StoreIn (x ∷ l) (put_by (cond b (content_by S.entries x.written.moment e.ask (bare_ending (Whole w (first ∷ more)))) None) (asked_key q) S.store))
           (sym (newest-bare (first ∷ more) e.newest)) (newest-or (newest_by (first ∷ more) e.newest) (fresh w first more refl))
         where
           coded : (b : Bool) → eqb w.code content ≡ b → outdated (x ∷ l) (asked_key q) first.number ≡ false
-              → StoreIn (x ∷ l) (put_by (cond b (Some (stored_of w e.opening (moment_in S.entries x.written.moment first.number) (numbers (map bare (first ∷ more))))) None) (asked_key q) S.store)
+              → StoreIn (x ∷ l) (put_by (cond b (Some (stored_of w e.ask (moment_in S.entries x.written.moment first.number) (numbers (map bare (first ∷ more))))) None) (asked_key q) S.store)
           coded true same f =
-              subst (λ (ns : List ℕ). StoreIn (x ∷ l) (put_by (Some (stored_of w e.opening (moment_in S.entries x.written.moment first.number) ns)) (asked_key q) S.store))
+              subst (λ (ns : List ℕ). StoreIn (x ∷ l) (put_by (Some (stored_of w e.ask (moment_in S.entries x.written.moment first.number) ns)) (asked_key q) S.store))
               (sym (numbers-bare (first ∷ more))) (put get is_g current w first more c ((Decides-eqb w.code content).0 same) f)
           coded false other f = stays get (λ u g us so is k fr. absurd (false≢true (sym other ∙ (Decides-eqb w.code content).1
               (ap (λ (z : Response). z.code) (whole-is (length l) w u (first ∷ more) (g ∷ us) (sym c ∙ so.ended)) ∙ so.code))))
@@ -322,7 +329,7 @@ module _ (x : Noted) (l : List Noted) (S : State) (r : Reads l S) (legal : Legal
               of h = cc
 
           newest-or : (b : Bool) → outdated (x ∷ l) (asked_key q) first.number ≡ not b
-              → StoreIn (x ∷ l) (put_by (cond b (content_by S.entries x.written.moment e.opening (bare_ending (Whole w (first ∷ more)))) None) (asked_key q) S.store)
+              → StoreIn (x ∷ l) (put_by (cond b (content_by S.entries x.written.moment e.ask (bare_ending (Whole w (first ∷ more)))) None) (asked_key q) S.store)
           newest-or true f = coded (eqb w.code content) refl f
           newest-or false f = stays get (λ u g us so is k fr. absurd (false≢true (sym fr ∙ (ap (λ (z : Reply). outdated (x ∷ l) (asked_key q) z.number) (sym (same-first u g us so)) ∙ f))))
 

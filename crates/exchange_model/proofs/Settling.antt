@@ -1,5 +1,7 @@
 -- Which exchanges end at an entry, and what writes among them leave.
 use Rattle.std.proofs.Common.{◌≡◌, ℕ, ◌⊎◌, zero, suc, inl, inr, Bool, true, false, not, eqb, List, [], ◌∷◌, ◌++◌, length, take, Option, Some, None, is_some, refl, sym, ap, subst, ◌∙◌, arith}
+use Rattle.history_laws.specs.Laws.{IsReplyTo}
+use Rattle.exchange_model.proofs.Comes.{heard-fits}
 use Rattle.std.specs.List.{list_any, AllByRecursion, Contains}
 use Rattle.std.specs.Prelude.{◌&&◌, filter, is_none, slice_get}
 use Rattle.std.specs.Option.{option_map_or}
@@ -15,17 +17,17 @@ use Rattle.resp_cache.specs.declared.pair.Pair.{Pair}
 use Rattle.ask_model.specs.Requests.{CoapRequest}
 use Rattle.journal_book.specs.Entries.{Hears, Written}
 use Rattle.ask_model.specs.Sharing.{asked_key, asked_place, writes_to}
-use Rattle.history_laws.specs.Exchanges.{turn, replies, end_here, Begun, begun, End, end_of, is_going, open_exchanges, kept as kept_of}
+use Rattle.history_laws.specs.Exchanges.{turn, end_here, Begun, begun, End, end_of, is_going, open_exchanges, kept as kept_of, heard_for}
 use Rattle.history_laws.specs.Storing.{IsCrowdedOut, EndsSo}
 use Rattle.history_laws.specs.Responses.{Response}
 use Rattle.history_laws.specs.Readings.{Noted, Says, at, before, noted}
 use Rattle.history_laws.specs.Progress.{Reply, Ending, Whole}
 use Rattle.history_laws.specs.Justified.{Ends, Legal}
-use Rattle.history_laws.proofs.CallerLemmas.{at-entries, at-keeps, at-new, before-new, contains-map, contains-none, end-below, end-old, all-filter, all-of, all-passes, contains-mapped, EndsWrite, ends-whole, entries-length, first-or-later, none-some, open-exactly, replies-fit, some-is, unended}
+use Rattle.history_laws.proofs.CallerLemmas.{at-entries, at-keeps, at-new, before-new, contains-map, contains-none, end-below, end-old, all-filter, all-of, all-passes, contains-mapped, EndsWrite, ends-whole, entries-length, first-or-later, none-some, open-exactly, some-is, unended, heard-none}
 use Rattle.exchange_model.specs.Reads.{HasPair, StoreIn, ExchangeIn, opening_of, PairIn, Reads}
 use Rattle.exchange_model.specs.declared.kept.Exchange.{Exchange}
 use Rattle.exchange_model.specs.State.{State}
-use Rattle.exchange_model.specs.Steps.{asked_in, moment_in}
+use Rattle.exchange_model.specs.Matters.{asked_in, moment_in}
 use Rattle.exchange_model.proofs.Uses.{crowded-out, order-take}
 use Rattle.exchange_model.proofs.Lists.{all-both}
 use Rattle.exchange_model.proofs.Outrun.{asked-here, EndsThose}
@@ -73,8 +75,8 @@ pub no-whole : (n : ℕ) (how : Ending) (w : Response) (rs : List Reply) → (ho
 no-whole n how w rs other e = other (ap (λ (f : End). f.how) (some-is _ _ e))
 
 -- It rests on a reply.
-pub rests-on-some : (l : List Noted) (o n : ℕ) (w : Response) → Ends l o n (Whole w []) → ⊥
-rests-on-some l o n w e = by (ends-whole l o n w [] e).turned.made.others _ (ends-whole l o n w [] e).turned.made.ends
+pub rests-on-some : (l : List Noted) (o n : ℕ) (w : Response) → Legal l → Ends l o n (Whole w []) → ⊥
+rests-on-some l o n w legal e = by (ends-whole l o n w [] legal e).turned.made.others _ (ends-whole l o n w [] legal e).turned.made.ends
   where
     by : (rs : List Reply) (r : Reply) → [] ≡ rs ++ r ∷ [] → ⊥
     by [] r h = cc
@@ -100,15 +102,21 @@ module _ (x : Noted) (l : List Noted) (S : State) (r : Reads l S) (legal : Legal
     pub stands : at (x ∷ l) first.number ≡ Some entry
     pub moment : moment_in S.entries x.written.moment first.number ≡ entry.written.moment
 
-  stands-before : (o : ℕ) (first : Reply) → Contains (replies l o) first → FirstStands first
-  stands-before o first has =
-      let fits = replies-fit l o first r.legal has in
+  heard-before : (o : ℕ) (first : Reply) → IsReplyTo l o first → FirstStands first
+  heard-before o first fits =
       let before_now : at l first.number ≡ Some (noted fits.moment (Hears fits.peer fits.bytes) (Says first.message (Some first.sending) fits.notice)) = fits.heard in
       record {
         entry = noted fits.moment (Hears fits.peer fits.bytes) (Says first.message (Some first.sending) fits.notice);
         stands = at-keeps x l first.number _ before_now;
         moment = ap (option_moment x.written.moment) (subst (λ (ws : List Written). slice_get ws first.number ≡ Some (record { moment = fits.moment; deed = Hears fits.peer fits.bytes })) r.entries_are (at-entries l first.number _ before_now));
       }
+
+  stands-before : (o : ℕ) (first : Reply) → Contains (heard_for l o) first → FirstStands first
+  stands-before o first has = by (begun l o) refl
+    where
+      by : (v : Option Begun) → begun l o ≡ v → FirstStands first
+      by None none = absurd (contains-none first (subst (λ (rs : List Reply). Contains rs first) (heard-none l o r.legal none) has))
+      by (Some b) opened = let it = heard-fits l o b first r.legal opened has in heard-before it.0 first it.1
 
   stands-now : (first : Reply) → first.number ≡ length l → FirstStands first
   stands-now first now = record {
@@ -119,13 +127,13 @@ module _ (x : Noted) (l : List Noted) (S : State) (r : Reads l S) (legal : Legal
 
   pub first-stands : (o : ℕ) (w : Response) (first : Reply) (more : List Reply) → Ends (x ∷ l) o (length l) (Whole w (first ∷ more)) → FirstStands first
   first-stands o w first more e =
-      let it = ends-whole (x ∷ l) o (length l) w (first ∷ more) e in
+      let it = ends-whole (x ∷ l) o (length l) w (first ∷ more) legal e in
       let last : Reply = record { number = length l; sending = it.turned.sending; message = it.turned.message } in
-      let all : Contains (replies (before (x ∷ l) (length l)) o ++ last ∷ []) first =
+      let all : Contains (heard_for (before (x ∷ l) (length l)) o ++ last ∷ []) first =
       subst (λ (rs : List Reply). Contains rs first) (sym it.turned.made.split)
       (Contains-append_right it.turned.made.before (first ∷ more) first (zero, omega arith, refl)) in
-      elim (Contains-append_cases (replies l o) (last ∷ []) first
-      (subst (λ (older : List Noted). Contains (replies older o ++ last ∷ []) first) (before-new x l) all)) [
+      elim (Contains-append_cases (heard_for l o) (last ∷ []) first
+      (subst (λ (older : List Noted). Contains (heard_for older o ++ last ∷ []) first) (before-new x l) all)) [
         | inl old ↦ stands-before o first old
         | inr new ↦ elim (first-or-later last [] first new) [
           | inl same ↦ stands-now first (ap (λ (a : Reply). a.number) (sym same))
@@ -171,7 +179,7 @@ module _ (x : Noted) (l : List Noted) (S : State) (r : Reads l S) (legal : Legal
 
   -- A pair that a write spares: it is of another place.
   abbrev pub Apart : Exchange → Pair → Type 0
-  Apart e p = (q : CoapRequest) → asked_in S.entries e.opening ≡ Some q → eqb q.method 1 ≡ false → is_elsewhere (asked_place q) p ≡ true
+  Apart e p = (q : CoapRequest) → asked_in S.entries e.ask ≡ Some q → eqb q.method 1 ≡ false → is_elsewhere (asked_place q) p ≡ true
 
   not-write : (q : CoapRequest) (b : Bool) → eqb q.method 1 ≡ b → not b ≡ true → b ≡ false
   not-write q true is h = absurd (false≢true h)
@@ -187,7 +195,7 @@ module _ (x : Noted) (l : List Noted) (S : State) (r : Reads l S) (legal : Legal
       (subst (λ (k : CacheKey). same_place k.place (asked_place g.2.request) ≡ true) a.key both.1)
 
   -- A write of these that ends now, at the place.
-  pub ends-write : (over : List Exchange) → EndsThose x l S over → (e : Exchange) → Contains over e → (w : CoapRequest) → asked_in S.entries e.opening ≡ Some w → eqb w.method 1 ≡ false
+  pub ends-write : (over : List Exchange) → EndsThose x l S over → (e : Exchange) → Contains over e → (w : CoapRequest) → asked_in S.entries e.ask ≡ Some w → eqb w.method 1 ≡ false
       → (place : Place) → same_place place (asked_place w) ≡ true → EndsWrite x l place
   ends-write over ends e in_over w is write place same =
       let has = ends.ended e in_over in
@@ -208,7 +216,7 @@ module _ (x : Noted) (l : List Noted) (S : State) (r : Reads l S) (legal : Legal
 
   -- So what is stored for a request whose place isn't written is elsewhere.
   pub is-away : (over : List Exchange) → EndsThose x l S over → (q : CoapRequest) → (EndsWrite x l (asked_place q) → ⊥)
-      → (e : Exchange) → Contains over e → (w : CoapRequest) → asked_in S.entries e.opening ≡ Some w → eqb w.method 1 ≡ false
+      → (e : Exchange) → Contains over e → (w : CoapRequest) → asked_in S.entries e.ask ≡ Some w → eqb w.method 1 ≡ false
       → (p : Pair) → is_of (asked_key q) p ≡ true → is_elsewhere (asked_place w) p ≡ true
   is-away over ends q none e in_over w is write p of_q = by (same_place p.key.place (asked_place w)) refl
     where
@@ -219,13 +227,13 @@ module _ (x : Noted) (l : List Noted) (S : State) (r : Reads l S) (legal : Legal
 
   -- What ends now ended in this entry.
   pub was-going : (o e : ℕ) (w : Response) (rs : List Reply) → EndsSo (x ∷ l) o e w rs → e ≡ length l → end_of l o ≡ None
-  was-going o e w rs so here_now = elim (end-old (end_here (begun l o) (kept_of l o) (length l) (replies l o) (turn l o x)) (length l) (end_of l o) _ so.ended) [
+  was-going o e w rs so here_now = elim (end-old (end_here (begun l o) (kept_of l o) (length l) (heard_for l o) (turn l o x)) (length l) (end_of l o) _ so.ended) [
     | inl old ↦ let below = end-below l o e _ old in absurd (omega (arith, below, here_now))
     | inr new ↦ new.0
   ]
 
   pub now-going : (o e : ℕ) (how : Ending) → Ends (x ∷ l) o e how → e ≡ length l → end_of l o ≡ None
-  now-going o e how so here_now = elim (end-old (end_here (begun l o) (kept_of l o) (length l) (replies l o) (turn l o x)) (length l) (end_of l o) _ so) [
+  now-going o e how so here_now = elim (end-old (end_here (begun l o) (kept_of l o) (length l) (heard_for l o) (turn l o x)) (length l) (end_of l o) _ so) [
     | inl old ↦ let below = end-below l o e _ old in absurd (omega (arith, below, here_now))
     | inr new ↦ new.0
   ]

@@ -1,5 +1,5 @@
 -- What is stored begins with a piece, which counts still.
-use Rattle.std.proofs.Common.{◌≡◌, inl, inr, ℕ, zero, suc, ◌+◌, ◌<◌, ◌≤◌, Bool, true, false, cond, not, eqb, ltb, List, [], ◌∷◌, ◌++◌, length, Option, Some, None, refl, sym, ap, subst, ◌∙◌, arith}
+use Rattle.std.proofs.Common.{◌≡◌, inl, inr, ℕ, zero, suc, ◌<◌, ◌≤◌, Bool, true, false, cond, not, eqb, ltb, List, [], ◌∷◌, ◌++◌, length, Option, Some, None, refl, sym, ap, subst, ◌∙◌, arith}
 use Rattle.std.specs.Prelude.{is_some, ◌&&◌, ◌||◌}
 use Rattle.std.specs.List.{Contains, list_all}
 use Rattle.std.proofs.lemmas.Bool.{false≢true, and_parts, or_parts, not-true}
@@ -28,10 +28,10 @@ use Rattle.exchange_model.proofs.Renewals.{renewal-for, told-in}
 pub whole-get : (q : CoapRequest) (m : Content) (ms : List Content) → eqb q.method 1 ≡ true → whole_of q (m ∷ ms) ≡ whole_fetched m ms
 whole-get q m ms get = ap (λ (b : Bool). cond b (whole_fetched m ms) (whole_given (begun_as (length q.body) 6) (m ∷ ms))) get
 
-pub whole-come : (l : List Noted) (o e : ℕ) (w : Response) (r : Reply) (rs : List Reply) (q : CoapRequest) → asks_the_same q (begun l o) ≡ true
+pub whole-come : (l : List Noted) (o e : ℕ) (w : Response) (r : Reply) (rs : List Reply) (q : CoapRequest) → Legal l → asks_the_same q (begun l o) ≡ true
     → eqb q.method 1 ≡ true → ComesSo l o e w (r ∷ rs) → whole_fetched r.message (messages rs) ≡ Some w
-whole-come l o e w r rs q same get (inl ends) =
-    let it = ends-all l o e w (r ∷ rs) ends.ended in
+whole-come l o e w r rs q legal same get (inl ends) =
+    let it = ends-all l o e w (r ∷ rs) legal ends.ended in
     let alike : asks_same q it.exchange.request ≡ true = subst (λ (v : Option Begun). asks_the_same q v ≡ true) it.opened same in
     sym (whole-get it.exchange.request r.message (messages rs) (is-get it.exchange.request alike)) ∙ it.whole
   where
@@ -40,7 +40,7 @@ whole-come l o e w r rs q same get (inl ends) =
         let b = and_parts (is_get q) (is_get x && same_key (asked_key q) (asked_key x)) e in
         let c = and_parts (is_get x) (same_key (asked_key q) (asked_key x)) b.1 in
         (and_parts (eqb x.method 1) _ c.0).0
-whole-come l o e w r rs q same get (inr update) =
+whole-come l o e w r rs q legal same get (inr update) =
     sym (whole-get q r.message (messages rs) get)
     ∙ first-response q e update.sending update.message w (r ∷ rs) get update.whole
 
@@ -82,12 +82,12 @@ heard-first l q s legal (inl a) =
     let joined_to = shared-is l q a.opening a.shared in
     let both = and_parts (asks_the_same q (begun l a.opening)) _ a.shared in
     let fit = comes-fit l a.opening a.ending s.response (a.first ∷ a.more) a.first legal a.comes (zero, omega arith, refl) in
-    let whole = whole-come l a.opening a.ending s.response a.first a.more q both.0 (get-by q joined_to.exchange.request joined_to.same) a.comes in
+    let whole = whole-come l a.opening a.ending s.response a.first a.more q legal both.0 (get-by q joined_to.exchange.request joined_to.same) a.comes in
     record {
       first = a.first.number;
       more = numbers a.more;
       is = a.list;
-      tells = ap is_valid_in fit.heard ∙ told-first a.first.message (messages a.more) s.response whole;
+      tells = ap is_valid_in fit.fits.heard ∙ told-first a.first.message (messages a.more) s.response whole;
     }
 heard-first l q s legal (inr a) =
     let fit = reply-stands l a.opening s.response (a.first ∷ a.more) legal a.carries a.first (zero, omega arith, refl) in

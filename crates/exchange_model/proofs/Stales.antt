@@ -6,16 +6,26 @@ use Rattle.std.proofs.lemmas.Bool.{false≢true}
 use Rattle.resp_cache.specs.Stored.{Stored}
 use Rattle.history_laws.specs.Readings.{Noted}
 use Rattle.history_laws.specs.Progress.{Reply}
-use Rattle.history_laws.specs.Exchanges.{Begun, begun, kept, replies}
+use Rattle.history_laws.specs.Exchanges.{Begun, begun, kept, replies, begins_with, heard_for}
 use Rattle.history_laws.proofs.CallerLemmas.{all-join, all-more, begun-below, eqb-itself, eqb-same}
 use Rattle.history_links.proofs.CallerLemmas.{kept-keeps}
 use Rattle.exchange_model.specs.declared.kept.Exchange.{Exchange}
 use Rattle.exchange_model.specs.declared.kept.Stale.{Stale}
 use Rattle.exchange_model.specs.Reads.{StalesIn, kept_in, kept_yet}
-use Rattle.exchange_model.specs.Steps.{is_stale_of_none, is_stale_of_other, stale_for, stale_in, is_under, went_out}
+use Rattle.exchange_model.specs.Steps.{stale_for, is_under, went_out}
+use Rattle.exchange_model.specs.Matters.{stale_in}
+use Rattle.exchange_model.specs.Hearing.{is_stale_of_none, is_stale_of_other}
 
 pub kept-same : (l n : List Noted) (o : ℕ) → kept n o ≡ kept l o → replies n o ≡ replies l o → kept_in n o ≡ kept_in l o
 kept-same l n o keeps same = ap (λ (v : Option Stored). kept_yet v (replies n o)) keeps ∙ ap (kept_yet (kept l o)) same
+
+-- Where nothing was heard for it, no reply came.
+pub no-replies : (l : List Noted) (o : ℕ) → heard_for l o ≡ [] → replies l o ≡ []
+no-replies l o e = after (begins_with l o) (replies l o) e
+  where
+    after : (bs rs : List Reply) → bs ++ rs ≡ [] → rs ≡ []
+    after [] rs e = e
+    after (b ∷ bs) rs e = absurd cc
 
 pub kept-stays : (x : Noted) (l : List Noted) (o : ℕ) (b : Begun) → begun l o ≡ Some b → replies (x ∷ l) o ≡ replies l o → kept_in (x ∷ l) o ≡ kept_in l o
 kept-stays x l o b opened same = kept-same l (x ∷ l) o (kept-keeps x l o (begun-below l o b opened)) same

@@ -25,7 +25,7 @@ use Rattle.ask_model.specs.Views.{Ask}
 use Rattle.ask_model.specs.declared.cause.Cause.TheVariants as C
 use Rattle.journal_book.specs.Entries.{Grounds, Kept as KeptGround, Fault, Asks}
 use Rattle.history_laws.specs.Justified.{UnservedNote, HasGrounds, AskNote, Caused, IsRefused, MayCome, pending}
-use Rattle.history_laws.specs.Readings.{Note, Serves, Noted, Plain, Begins, at, ticked, noted}
+use Rattle.history_laws.specs.Readings.{Note, Serves, Noted, Plain, at, ticked, noted}
 use Rattle.history_laws.specs.Causes.{IsRefusal}
 use Rattle.history_laws.specs.Connections.{is_open, asks_of, answers_of}
 use Rattle.history_laws.specs.Hearing.{has_room}
@@ -38,7 +38,8 @@ use Rattle.exchange_model.specs.declared.kept.Exchange.{Exchange}
 use Rattle.exchange_model.specs.declared.kept.Reader.{Reader}
 use Rattle.exchange_model.specs.State.{State, link_of, pend}
 use Rattle.exchange_model.specs.Reads.{Reads, opening_of}
-use Rattle.exchange_model.specs.Steps.{Numbers, asks, begins, joins, exchange_for, read_at, reader_for, unwatched, answers, kept_for, opening_note}
+use Rattle.exchange_model.specs.Steps.{asks, begins, joins, exchange_for, read_at, reader_for, unwatched, answers, kept_for, opening_note}
+use Rattle.exchange_model.specs.Hearing.{Numbers}
 use Rattle.exchange_model.specs.Resting.{IsUndue, LinkRests, HasExchange, HasReader, IsServed, HasConn, Rests}
 use Rattle.exchange_model.specs.Keeping.{HasMids, Kept, MayStep, KeptStands, OpensKeeps, ShutsKeeps, SealsKeeps, IsProper, IsNumbered, AsksKeeps}
 use Rattle.exchange_model.proofs.Quiet.{misses-tell, recalls-leads, asks-leads, joins-leads}

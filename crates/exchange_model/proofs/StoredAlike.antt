@@ -6,7 +6,7 @@ use Rattle.cache_key.specs.Keys.{CacheKey, same_key}
 use Rattle.resp_cache.specs.Stored.{Stored}
 use Rattle.ask_model.specs.Requests.{CoapRequest}
 use Rattle.ask_model.specs.Sharing.{asked_key, asks_same, is_get}
-use Rattle.history_laws.specs.Readings.{newest, Noted}
+use Rattle.history_laws.specs.Readings.{Noted}
 use Rattle.history_laws.specs.Exchanges.{Begun, begun}
 use Rattle.history_laws.specs.Joining.{outrun, is_joinable}
 use Rattle.history_laws.specs.Observing.{outdated}

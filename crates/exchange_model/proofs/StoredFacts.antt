@@ -14,17 +14,16 @@ use Rattle.resp_cache.specs.declared.pair.Pair.{Pair}
 use Rattle.journal_book.specs.Entries.{Mark, done_of, Deed, Asks, Sends, Hears, Carries}
 use Rattle.journal_book.specs.Entries as D
 use Rattle.history_laws.specs.Responses.{Response, whole_of}
-use Rattle.history_laws.specs.Readings.{Noted, Note, First, Says, Recalls, at, before, noted}
+use Rattle.history_laws.specs.Readings.{Noted, Note, First, Says, Recalls, at, before, noted, Plain}
 use Rattle.history_laws.specs.Progress.{Reply, numbers, messages}
 use Rattle.history_laws.specs.Transmissions.{FirstSending, first_at}
-use Rattle.history_laws.specs.Exchanges.{Begun, begun, replies, replies_by, Turn, Sent, Replied, Rejected, Expired, Nothing, turn}
+use Rattle.history_laws.specs.Exchanges.{Begun, begun, replies, replies_by, Turn, Sent, Replied, Rejected, Expired, Nothing, turn, ask_by, ask_behind, heard_for}
 use Rattle.history_laws.specs.Carrying.{carried_replies, carried_replies_by, replied_by, reply_to}
 use Rattle.history_laws.specs.Hearing.{IsReplyKind}
-use Rattle.history_laws.specs.Laws.{IsReplyTo}
 use Rattle.history_laws.specs.Grounds.{IsCarriedReply}
 use Rattle.history_laws.specs.Storing.{ComesSo, IsBrought, IsCarried, content, IsRenewed, IsStored}
-use Rattle.history_laws.specs.Justified.{Legal}
-use Rattle.history_laws.proofs.CallerLemmas.{all-push, asked-for, at-below, at-old, carried-at, carried-fit, comes-fit, ends-all, ends-whole, eqb-itself, first-found, first-older, first-response, first-whole, follows-at, length-before, next-is, sent-for, shared-is, some-is, replies-fit, renewed-of, ends-renewed, contains-none, first-or-later}
+use Rattle.history_laws.specs.Justified.{Legal, CopiedNote}
+use Rattle.history_laws.proofs.CallerLemmas.{all-push, at-below, at-old, carried-at, carried-fit, comes-fit, ends-all, ends-whole, eqb-itself, first-found, first-older, first-response, first-whole, follows-at, length-before, next-is, sent-for, shared-is, some-is, replies-fit, renewed-of, ends-renewed, contains-none, first-or-later, ask-begins, ask-behind, asked-nothing, begun-below, begun-opening, behind-at, behind-below, Came, contains-later, heard-none, legal-before, notice-begins, opened-for}
 use Rattle.exchange_model.specs.Reads.{PairIn, Reads}
 use Rattle.exchange_model.proofs.Backed.{BackedAsk, BackedEntry, BackedReply, BackedSending}
 use Rattle.resp_cache.specs.Stored.{Stored}
@@ -50,13 +49,18 @@ HearsAs (Hears q b) (Says m to notice) p n = (q ≡ p) × (m ≡ n)
 HearsAs (Carries k mark (D.Heard q b)) (Recalls m a) p n = (q ≡ p) × (m ≡ n)
 HearsAs d note p n = ⊥
 
--- A reply to a message that was sent for it, be they copies.
+-- A reply to a message that was sent for it, or for an exchange that goes back to it, be they copies.
 pub record ReplyFacts (l : List Noted) (o : ℕ) (q : CoapRequest) (r : Reply) : Type 0 where
   pub sent : Content
   pub sent_in : Noted
   pub sending : at l r.sending ≡ Some sent_in
+  pub owner : ℕ
+  pub opening_in : Noted
+  pub opened_at : at l owner ≡ Some opening_in
+  pub home : ask_by owner opening_in.note ≡ o
+  pub opened : owner < r.sending
   pub sent_at : ℕ
-  pub listed : first_at l r.sending ≡ Some (record { number = r.sending; moment = sent_at; opening = o; peer = q.peer; message = sent })
+  pub listed : first_at l r.sending ≡ Some (record { number = r.sending; moment = sent_at; opening = owner; peer = q.peer; message = sent })
   pub after : o < r.sending
   pub size : length sent.token ≡ 8
   pub text : List ℕ
@@ -65,7 +69,7 @@ pub record ReplyFacts (l : List Noted) (o : ℕ) (q : CoapRequest) (r : Reply) :
   pub manner : Manner
   pub block : Option Block
   pub asks : sent ≡ asking manner q block sent.mid sent.token
-  pub sends : (gs : List ℕ) (k : List Noted) → BackedSending gs k q.peer o sent → BackedEntry gs k sent_in.written.deed sent_in.note
+  pub sends : (gs : List ℕ) (k : List Noted) → BackedSending gs k q.peer owner sent → BackedEntry gs k sent_in.written.deed sent_in.note
   pub heard_in : Noted
   pub heard : at l r.number ≡ Some heard_in
   pub bytes : List ℕ
@@ -102,29 +106,49 @@ pub record StoredFacts (l : List Noted) (p : Pair) : Type 0 where
 
 -- of what was heard for an exchange,
 
-own-reply : (l : List Noted) (o : ℕ) (b : Begun) (r : Reply) → Legal l → begun l o ≡ Some b → IsReplyTo l o r → ReplyFacts l o b.request r
-own-reply l o b r legal opened fits =
-    let sent = sent-for l fits.sent_at o r.sending fits.peer fits.sent legal fits.first in
+-- The ask that an exchange goes back to goes back to itself.
+behind-home : (l : List Noted) (o : ℕ) (b : Begun) → Legal l → begun l o ≡ Some b → ask_behind l (ask_behind l o) ≡ ask_behind l o
+behind-home l o b legal opened =
+    let it = ask-behind l o b legal opened in
+    let own = (asked-nothing (before l it.number) it.asked.moment it.number it.ask.sense it.asked.note (follows-at l it.number _ legal it.asked.stands).3).1 in
+    ap (ask_behind l) it.is ∙ (behind-at l it.number _ it.asked.stands ∙ (own ∙ sym it.is))
+
+own-reply : (l : List Noted) (o : ℕ) (b : Begun) (r : Reply) → Legal l → begun l o ≡ Some b → Came l o r → ReplyFacts l (ask_behind l o) b.request r
+own-reply l o b r legal opened c =
+    let fits = c.fits in
+    let k : ℕ = c.owner in
+    let sent = sent-for l fits.sent_at k r.sending fits.peer fits.sent legal fits.first in
     let next = next-is _ sent.exchange.request _ fits.sent.mid fits.sent.token fits.sent sent.next in
-    let same : sent.exchange ≡ b = some-is _ _ (sym sent.opened ∙ opened) in
-    let peer : fits.peer ≡ b.request.peer = sent.peer ∙ ap (λ (b : Begun). b.request.peer) same in
+    let same : sent.exchange ≡ c.exchange = some-is _ _ (sym sent.opened ∙ c.opened) in
+    let request : sent.exchange.request ≡ b.request = ap (λ (b : Begun). b.request) same ∙ c.own b opened in
+    let peer : fits.peer ≡ b.request.peer = sent.peer ∙ ap (λ (q : CoapRequest). q.peer) request in
+    let start = begun-opening l k c.exchange c.opened in
+    let back : ask_behind l k ≡ ask_behind l o =
+    elim (c.owned) [ inl own ↦ ap (ask_behind l) own | inr own ↦ ap (ask_behind l) own ∙ behind-home l o b legal opened ] in
+    let below = behind-below l k c.exchange legal c.opened in
+    let after = sent.after in
     record {
       sent = fits.sent;
-      sent_in = noted fits.sent_at (Sends fits.peer fits.first.bytes fits.first.timeout) (First o fits.sent);
+      sent_in = noted fits.sent_at (Sends fits.peer fits.first.bytes fits.first.timeout) (First k fits.sent);
       sending = fits.first.stands;
+      owner = k;
+      opening_in = noted c.exchange.since start.0 start.1;
+      opened_at = start.2;
+      home = sym (behind-at l k _ start.2) ∙ back;
+      opened = after;
       sent_at = fits.sent_at;
       listed =
-          first-found l fits.sent_at o r.sending fits.peer fits.sent fits.first
-          ∙ ap (λ (p : Peer). Some (record { number = r.sending; moment = fits.sent_at; opening = o; peer = p; message = fits.sent })) peer;
-      after = sent.after;
+          first-found l fits.sent_at k r.sending fits.peer fits.sent fits.first
+          ∙ ap (λ (p : Peer). Some (record { number = r.sending; moment = fits.sent_at; opening = k; peer = p; message = fits.sent })) peer;
+      after = omega (arith, after, below, back);
       size = (follows-at l r.sending _ legal fits.first.stands).1.1.token_size;
       text = fits.first.bytes;
       timeout = fits.first.timeout;
       sent_done = ap (λ (p : Peer). Some (D.Sent p fits.first.bytes fits.first.timeout)) peer;
       manner = next.1;
       block = next.0;
-      asks = next.2 ∙ ap (λ (b : Begun). asking next.1 b.request next.0 fits.sent.mid fits.sent.token) same;
-      sends = λ gs k h. subst (λ (p : Peer). BackedSending gs k p o fits.sent) (sym peer) h;
+      asks = next.2 ∙ ap (λ (q : CoapRequest). asking next.1 q next.0 fits.sent.mid fits.sent.token) request;
+      sends = λ gs k h. subst (λ (p : Peer). BackedSending gs k p c.owner fits.sent) (sym peer) h;
       heard_in = noted fits.moment (Hears fits.peer fits.bytes) (Says r.message (Some r.sending) fits.notice);
       heard = fits.heard;
       bytes = fits.bytes;
@@ -174,13 +198,19 @@ asking-mid Observing q None mid token = refl
 asking-mid (Validating etag) q None mid token = refl
 asking-mid manner q (Some b) mid token = refl
 
-carried-facts : (l : List Noted) (o : ℕ) (q : CoapRequest) (r : Reply) → Legal l → IsCarriedReply l o q r → ReplyFacts l o q r
-carried-facts l o q r legal h =
+carried-facts : (l : List Noted) (o : ℕ) (y : Noted) (q : CoapRequest) (r : Reply) → Legal l → at l o ≡ Some y → ask_by o y.note ≡ o → IsCarriedReply l o q r
+    → ReplyFacts l o q r
+carried-facts l o y q r legal stands own h =
     let sent : Content = asking h.manner q h.block h.mid r.message.token in
     record {
       sent = sent;
       sent_in = noted h.sent_at (Carries h.old D.Ground (D.Sent q.peer h.text h.timeout)) (First o sent);
       sending = h.sent;
+      owner = o;
+      opening_in = y;
+      opened_at = stands;
+      home = own;
+      opened = h.opened;
       sent_at = h.sent_at;
       listed = first-carried l r.sending h.sent_at h.old D.Ground q.peer h.text h.timeout o sent h.sent;
       after = h.opened;
@@ -241,15 +271,41 @@ replies-rise (x ∷ older) o = by (turn older o x) (replies-rise older o)
     by Expired h = (h.0, subst (λ (n : ℕ). Below n (replies older o)) (plus-one (length older)) (below-more (length older) (replies older o) h.1))
     by Nothing h = (h.0, subst (λ (n : ℕ). Below n (replies older o)) (plus-one (length older)) (below-more (length older) (replies older o) h.1))
 
-pub comes-rising : (l : List Noted) (o e : ℕ) (w : Response) (rs : List Reply) → ComesSo l o e w rs → AreRising rs
-comes-rising l o e w rs (inl ends) =
-    let it = ends-whole l o e w rs ends.ended in
+-- What it begins with stands before them.
+heard-rise : (l : List Noted) (o : ℕ) → Legal l → AreRising (heard_for l o) × Below (length l) (heard_for l o)
+heard-rise l o legal = by (begun l o) refl
+  where
+    by : (v : Option Begun) → begun l o ≡ v → AreRising (heard_for l o) × Below (length l) (heard_for l o)
+    by None e = subst (λ (rs : List Reply). AreRising rs × Below (length l) rs) (sym (heard-none l o legal e)) (tt, tt)
+    by (Some b) e = elim (opened-for l o b legal e) [
+      | inl it ↦ subst (λ (bs : List Reply). AreRising (bs ++ replies l o) × Below (length l) (bs ++ replies l o)) (sym (ask-begins l o b legal it)) (replies-rise l o)
+      | inr it ↦
+          subst (λ (bs : List Reply). AreRising (bs ++ replies l o) × Below (length l) (bs ++ replies l o)) (sym (notice-begins l o b it))
+          ((all-listed-after (replies l o) (λ r has. has), (replies-rise l o).0), (begun-below l o b e, (replies-rise l o).1))
+    ]
+      where
+        -- each came after a message of the exchange, which was sent after that was opened
+        after : (r : Reply) → Contains (replies l o) r → o < r.number
+        after r has =
+            let fits = replies-fit l o r legal has in
+            let sent = sent-for l fits.sent_at o r.sending fits.peer fits.sent legal fits.first in
+            let opened = sent.after in
+            let later = fits.after in
+            omega (arith, opened, later)
+
+        all-listed-after : (rs : List Reply) → ((r : Reply) → Contains rs r → Contains (replies l o) r) → AllByRecursion (λ (x : Reply). o < x.number) rs
+        all-listed-after [] h = tt
+        all-listed-after (r ∷ rs) h = (after r (h r (zero, omega arith, refl)), all-listed-after rs (λ x has. h x (contains-later r rs x has)))
+
+pub comes-rising : (l : List Noted) (o e : ℕ) (w : Response) (rs : List Reply) → Legal l → ComesSo l o e w rs → AreRising rs
+comes-rising l o e w rs legal (inl ends) =
+    let it = ends-whole l o e w rs legal ends.ended in
     let u = it.turned in
-    let all = replies-rise (before l e) o in
-    let below : Below e (replies (before l e) o) = subst (λ (n : ℕ). Below n (replies (before l e) o)) (length-before l e it.entry it.stands) all.1 in
+    let all = heard-rise (before l e) o (legal-before l e legal) in
+    let below : Below e (heard_for (before l e) o) = subst (λ (n : ℕ). Below n (heard_for (before l e) o)) (length-before l e it.entry it.stands) all.1 in
     rising-last u.made.before rs
-    (subst AreRising u.made.split (rising-push (replies (before l e) o) (record { number = e; sending = u.sending; message = u.message }) all.0 below))
-comes-rising l o e w rs (inr u) =
+    (subst AreRising u.made.split (rising-push (heard_for (before l e) o) (record { number = e; sending = u.sending; message = u.message }) all.0 below))
+comes-rising l o e w rs legal (inr u) =
     subst AreRising (sym (first-whole e u.sending u.message w rs u.whole)) (tt, tt)
 
 pub carried-rise : (l : List Noted) (o : ℕ) → AreRising (carried_replies l o) × Below (length l) (carried_replies l o)
@@ -296,27 +352,27 @@ brought-facts l p legal a s =
     let shared = shared-is l a.request s.opening s.shared in
     let b : Begun = shared.exchange in
     let of_get = is-method a.request b.request shared.same in
-    let ask = asked-for l s.opening b legal shared.opened in
-    let fit : ((r : Reply) → Contains (s.first ∷ s.more) r → ReplyFacts l s.opening b.request r) =
+    let it = ask-behind l s.opening b legal shared.opened in
+    let fit : ((r : Reply) → Contains (s.first ∷ s.more) r → ReplyFacts l (ask_behind l s.opening) b.request r) =
     λ r has. own-reply l s.opening b r legal shared.opened (comes-fit l s.opening s.ending p.stored.response (s.first ∷ s.more) r legal s.comes has) in
     record {
       request = b.request;
       get = of_get.0;
       key = of_get.1 ∙ a.key;
-      ask = subst (λ (o : ℕ). AskFacts l o b.request) (sym s.origin) (record {
-        entry = noted b.since (Asks ask.conn ask.ask) ask.note;
-        stands = ask.stands;
-        conn = ask.conn;
-        ask = ask.ask;
+      ask = subst (λ (o : ℕ). AskFacts l o b.request) (sym (s.origin ∙ it.is)) (record {
+        entry = noted it.asked.moment (Asks it.conn it.ask) it.asked.note;
+        stands = it.asked.stands;
+        conn = it.conn;
+        ask = it.ask;
         done = refl;
-        sense = ask.sense;
+        sense = it.sense;
         backs = λ gs k h. h;
       });
       first = s.first;
       more = s.more;
       replies = λ r has. subst (λ (o : ℕ). ReplyFacts l o b.request r) (sym s.origin) (fit r has);
       list = s.list;
-      rising = comes-rising l s.opening s.ending p.stored.response (s.first ∷ s.more) s.comes;
+      rising = comes-rising l s.opening s.ending p.stored.response (s.first ∷ s.more) legal s.comes;
       whole = whole s.comes b shared.opened (and_parts (eqb b.request.method 1) _ of_get.0).0;
       code = code s.comes;
       entry = s.entry;
@@ -327,13 +383,18 @@ brought-facts l p legal a s =
     whole : ComesSo l s.opening s.ending p.stored.response (s.first ∷ s.more) → (b : Begun) → begun l s.opening ≡ Some b → eqb b.request.method 1 ≡ true
         → whole_of b.request (messages (s.first ∷ s.more)) ≡ Some p.stored.response
     whole (inl ends) b opened get =
-        let it = ends-all l s.opening s.ending p.stored.response (s.first ∷ s.more) ends.ended in
+        let it = ends-all l s.opening s.ending p.stored.response (s.first ∷ s.more) legal ends.ended in
         ap (λ (b : Begun). whole_of b.request (messages (s.first ∷ s.more))) (some-is _ _ (sym opened ∙ it.opened)) ∙ it.whole
     whole (inr u) b opened get = first-response b.request s.ending u.sending u.message p.stored.response (s.first ∷ s.more) get u.whole
 
     code : ComesSo l s.opening s.ending p.stored.response (s.first ∷ s.more) → p.stored.response.code ≡ content
     code (inl ends) = ends.code
     code (inr u) = u.code
+
+-- A copy of an ask goes back to itself.
+plain-own : (l : List Noted) (t o c : ℕ) (a : Ask) (note : Note) → CopiedNote l t D.Ground (D.Asked c a) note → ask_by o note ≡ o
+plain-own l t o c a Plain h = refl
+plain-own l t o c a note h = absurd h
 
 again-facts : (l : List Noted) (p : Pair) → Legal l → (a : PairIn l p) → IsCarried l a.request p.stored → StoredFacts l p
 again-facts l p legal a s =
@@ -342,7 +403,8 @@ again-facts l p legal a s =
     let of_get = is-method a.request b.request s.same in
     let ask = carried-at l s.opening b c.asked in
     let fit : ((r : Reply) → Contains (s.first ∷ s.more) r → ReplyFacts l s.opening b.request r) =
-    λ r has. carried-facts l s.opening b.request r legal (carried-fit l s.opening b r legal c.asked (subst (λ (rs : List Reply). Contains rs r) (sym c.replies) has)) in
+    λ r has. carried-facts l s.opening _ b.request r legal ask.stands (plain-own (before l s.opening) b.since s.opening ask.conn ask.ask ask.note (follows-at l s.opening _ legal ask.stands).2)
+    (carried-fit l s.opening b r legal c.asked (subst (λ (rs : List Reply). Contains rs r) (sym c.replies) has)) in
     record {
       request = b.request;
       get = of_get.0;

@@ -4,9 +4,9 @@ use Rattle.resp_cache.specs.Stored.{Stored}
 use Rattle.ask_model.specs.Requests.{CoapRequest}
 use Rattle.ask_model.specs.Sharing.{asked_key}
 use Rattle.ask_model.proofs.CallerLemmas.{same-key}
-use Rattle.history_laws.specs.Readings.{at, newest, Noted}
+use Rattle.history_laws.specs.Readings.{at, Noted}
 use Rattle.history_laws.specs.Progress.{messages, numbers, Renewed, Reply}
-use Rattle.history_laws.specs.Exchanges.{Begun, end_of}
+use Rattle.history_laws.specs.Exchanges.{Begun, end_of, ask_behind}
 use Rattle.history_laws.specs.Responses.{Response, renewed_response, whole_of}
 use Rattle.history_laws.specs.Carrying.{carried, carried_replies}
 use Rattle.history_laws.specs.Storing.{ComesSo, IsBrought, IsCarried, IsRenewal, IsRenewed, IsStored, renewed_list}
@@ -37,7 +37,7 @@ brought-one l q s u legal a b =
     (subst (λ (n : ℕ). ComesSo l b.opening n u.response (b.first ∷ b.more)) (sym same) b.comes) in
     let first = first-of a.first b.first a.more b.more it.replies in
     let entry : a.entry ≡ b.entry = some-is _ _ (sym a.heard_in ∙ (ap (λ (r : Reply). at l r.number) first ∙ b.heard_in)) in
-    alike s u it.response (a.origin ∙ (it.opening ∙ sym b.origin)) (a.heard ∙ (ap (λ (x : Noted). x.written.moment) entry ∙ sym b.heard)) (a.list ∙ (ap numbers it.replies ∙ sym b.list))
+    alike s u it.response (a.origin ∙ (ap (ask_behind l) it.opening ∙ sym b.origin)) (a.heard ∙ (ap (λ (x : Noted). x.written.moment) entry ∙ sym b.heard)) (a.list ∙ (ap numbers it.replies ∙ sym b.list))
 
 carried-one : (l : List Noted) (q : CoapRequest) (s u : Stored) → Legal l → IsCarried l q s → IsCarried l q u → s ≡ u
 carried-one l q s u legal a b =

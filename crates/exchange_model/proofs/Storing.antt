@@ -1,5 +1,6 @@
 -- What an entry leaves of what is stored.
 use Rattle.std.proofs.Common.{◌≢◌, arith, refl, ◌≡◌, ℕ, ◌≤◌, ◌⊎◌, Bool, true, false, not, inl, inr, List, ◌∷◌, length, Option, Some, None, is_some, sym, ap, subst, ◌∙◌, zero, ◌<◌}
+use Rattle.exchange_model.proofs.Pieces.{behind-stays}
 use Rattle.std.specs.List.{AllByRecursion}
 use Rattle.std.specs.Prelude.{◌&&◌, ⊤}
 use Rattle.std.proofs.lemmas.Bool.{false≢true, and_parts}
@@ -58,7 +59,7 @@ brought-stays x l q s legal spares a = record {
   entry = a.entry;
   heard_in = at-keeps x l a.first.number _ a.heard_in;
   heard = a.heard;
-  origin = a.origin;
+  origin = a.origin ∙ sym (let was = comes-begun l a.opening a.ending s.response (a.first ∷ a.more) legal.0 a.comes in behind-stays x l a.opening was.0 was.1);
   list = a.list;
 }
   where
@@ -157,7 +158,7 @@ pairs-stay x l legal own same silent ps a = all-more (PairIn l) (PairIn (x ∷ l
 brought-first : (l : List Noted) (o e : ℕ) (w : Response) (first : Reply) (more : List Reply) → Legal l → ComesSo l o e w (first ∷ more) → first.number < length l
 brought-first l o e w first more legal comes =
     let fit = comes-fit l o e w (first ∷ more) first legal comes (zero, omega arith, refl) in
-    at-below l first.number _ fit.heard
+    at-below l first.number _ fit.fits.heard
 
 -- An entry that writes nothing there, and isn't the end of what is stored, leaves what was.
 brought-was : (x : Noted) (l : List Noted) (q : CoapRequest) (s : Stored) → Legal (x ∷ l) → (EndsWrite x l (asked_place q) → ⊥) → (a : IsBrought (x ∷ l) q s) → a.ending ≢ length l
@@ -177,7 +178,7 @@ brought-was x l q s legal writes a other = record {
   entry = a.entry;
   heard_in = stood x l a.first.number a.entry first-below a.heard_in;
   heard = a.heard;
-  origin = a.origin;
+  origin = a.origin ∙ behind-stays x l a.opening was.0 was.1;
   list = a.list;
 }
   where

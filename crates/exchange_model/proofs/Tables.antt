@@ -22,7 +22,7 @@ use Rattle.resp_cache.specs.Stored.{Stored}
 use Rattle.history_laws.specs.Storing.{first_in}
 use Rattle.history_laws.specs.Joining.{outrun}
 use Rattle.history_laws.specs.Justified.{Follows, IsNextConn}
-use Rattle.history_laws.proofs.CallerLemmas.{all-more, outrun-same, at-keeps, awaiting-stays, begun-keeps, entries-length, eqb-same, find-some, first-older, listed-below, rank-keeps}
+use Rattle.history_laws.proofs.CallerLemmas.{all-more, outrun-same, awaiting-stays, begun-keeps, entries-length, eqb-same, find-some, first-older, heard-stays, listed-below, rank-keeps}
 use Rattle.history_links.specs.Agrees.{Start, Agrees}
 use Rattle.history_links.proofs.CallerLemmas.{first_at-still, observes-keep, Still}
 use Rattle.exchange_model.specs.declared.kept.Exchange.{Exchange}
@@ -30,9 +30,10 @@ use Rattle.exchange_model.specs.declared.kept.Reader.{Reader}
 use Rattle.exchange_model.specs.State.{PeerLink, State, link_of, with_link, conns_after}
 use Rattle.exchange_model.specs.declared.kept.Piece.{Piece}
 use Rattle.exchange_model.specs.declared.kept.Stale.{Stale}
-use Rattle.exchange_model.specs.Steps.{given_out, numbers_of, progress_with, stale_in}
+use Rattle.exchange_model.specs.Steps.{given_out}
+use Rattle.exchange_model.specs.Matters.{numbers_of, progress_with, stale_in}
 use Rattle.exchange_model.proofs.Lists.{all-map}
-use Rattle.exchange_model.proofs.Pieces.{all-every, got-same, got-stays, pieces-stay}
+use Rattle.exchange_model.proofs.Pieces.{behind-same, behind-stays, got-same, got-stays, pieces-stay}
 use Rattle.exchange_model.proofs.Watches.{newest-same, outdated-quiet}
 use Rattle.exchange_model.proofs.Stales.{kept-same, kept-stays, stales-stay}
 use Rattle.exchange_model.specs.Reads.{IsNewest, StalesIn, kept_in, IsSentUnder, awaited_by, got_in, held_of, ExchangeIn, opening_of, PiecesIn, StoreIn, WaitsUnder, Reads, opens_in, opens_once, readers_by, readers_of}
@@ -77,17 +78,14 @@ exchange-stays {start = start} x l e b c unborne same sends reads a current newe
       asked = reads ∙ a.asked;
       named = a.named;
       sent = under-stays x l e.peer e.token (awaited_by e.awaits e.sending) unborne a.sent;
-      progress = ap (progress a.request) unreplied ∙ (a.progress ∙ ap (progress_with e.work) (sym got));
+      progress = ap (progress a.request) (heard-stays x l e.opening _ a.opening unreplied)
+          ∙ (a.progress ∙ ap (progress_with e.work) (sym got));
       current = current;
       newest = λ get. subst (λ (rs : List Reply). IsNewest (x ∷ l) (asked_key a.request) rs c) (sym got) (newest get);
       newest_kept = λ s k. kept_newest s (sym (kept-stays x l e.opening _ a.opening unreplied) ∙ k);
       short = a.short;
       digests = a.digests;
-      conn = a.conn;
-      ask = a.ask;
-      note = a.note;
-      opens = a.opens;
-      stands = at-keeps x l e.opening _ a.stands;
+      behind = behind-stays x l e.opening _ a.opening ∙ a.behind;
     }
 
 -- Nor does one that is nothing to any exchange.
@@ -102,7 +100,7 @@ sent_in o fs = option_map (λ (f : FirstSending). f.number) (find (λ (f : First
 exchange-still : {start : Start} (l n : List Noted) (t : ℕ) → Still l n → ((key : CacheKey) (i : ℕ) → outdated n key i ≡ outdated l key i)
     → (e : Exchange) → asked_last n e.opening ≡ t → ExchangeIn start l e → ExchangeIn start n (record e { asked = t })
 exchange-still {start = start} l n t still quiet e reads a =
-    let got = got-same l n e.opening (still.begun_are e.opening) (still.replies_are e.opening) in record {
+    let got = got-same l n e.opening (still.begun_are e.opening) (still.heard_are e.opening a.opening) in record {
       request = a.request;
       opening = still.begun_are e.opening ∙ a.opening;
       peer = a.peer;
@@ -114,7 +112,7 @@ exchange-still {start = start} l n t still quiet e reads a =
       asked = reads;
       named = a.named;
       sent = under-still l n e.peer e.token (awaited_by e.awaits e.sending) still a.sent;
-      progress = ap (progress a.request) (still.replies_are e.opening)
+      progress = ap (progress a.request) (still.heard_are e.opening a.opening)
           ∙ (a.progress ∙ ap (progress_with e.work) (sym got));
       newest = λ get. subst (λ (rs : List Reply). IsNewest n (asked_key a.request) rs e.newest) (sym got)
           (newest-same l n (asked_key a.request) (got_in l e.opening) e.newest quiet (a.newest get));
@@ -123,11 +121,7 @@ exchange-still {start = start} l n t still quiet e reads a =
       current = a.current ∙ ap not (sym (outrun-same l n still.openings_are still.begun_are still.ends_are (asked_place a.request) e.opening));
       short = a.short;
       digests = a.digests;
-      conn = a.conn;
-      ask = a.ask;
-      note = a.note;
-      opens = a.opens;
-      stands = still.stands e.opening _ a.stands;
+      behind = behind-same l n e.opening _ a.opening (λ y is. still.stands e.opening y is) ∙ a.behind;
     }
 
 -- one is read by an ask, or stays as it was
@@ -221,7 +215,8 @@ still-reads l t d note S links store watches reads_last r stored observed read q
           (all-more (ExchangeIn r.start l) (λ (e : Exchange). ExchangeIn r.start n (read_as reads_last e))
           (λ e a. exchange-still l n (reads_last e) still (λ key i. outdated-quiet (noted t d note) l key i quiet) e (read e a) a) S.exchanges r.exchanges_are);
       pieces_are = pieces-read n reads_last S.exchanges S.pieces (pieces-stay l n S.exchanges S.pieces (omega arith)
-          (all-every (λ (e : Exchange). got_in n e.opening ≡ got_in l e.opening) (λ e. got-same l n e.opening (still.begun_are e.opening) (still.replies_are e.opening)) S.exchanges)
+          (all-more (ExchangeIn r.start l) (λ (e : Exchange). got_in n e.opening ≡ got_in l e.opening)
+          (λ e a. got-same l n e.opening (still.begun_are e.opening) (still.heard_are e.opening a.opening)) S.exchanges r.exchanges_are)
           r.pieces_are);
       stales_are = stales-read n reads_last S.exchanges S.stales (stales-stay l n S.exchanges S.stales (omega arith)
           (all-more (ExchangeIn r.start l) (λ (e : Exchange). kept_in n e.opening ≡ kept_in l e.opening)

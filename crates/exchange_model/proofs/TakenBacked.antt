@@ -17,10 +17,10 @@ use Rattle.journal_book.specs.Entries as D
 use Rattle.history_laws.specs.Readings.{Noted, at, before}
 use Rattle.history_laws.specs.Progress.{Reply}
 use Rattle.history_laws.specs.Transmissions.{FirstSending, firsts, first_at}
-use Rattle.history_laws.specs.Exchanges.{Begun, begun_by}
+use Rattle.history_laws.specs.Exchanges.{Begun, begun_by, ask_behind}
 use Rattle.history_laws.specs.Carrying.{asked_for, is_replied_by, replied_by}
 use Rattle.history_laws.specs.Justified.{Legal}
-use Rattle.history_laws.proofs.CallerLemmas.{any-of, at-below, at-cases, at-keeps, at-new, at-old, at-same, at-still, before-keeps, before-new, eqb-itself, find-any, find-some, first-listed, first-older, firsts-tokens, legal-before, length-before, none-some, some-is}
+use Rattle.history_laws.proofs.CallerLemmas.{any-of, at-below, at-cases, at-keeps, at-new, at-old, at-same, at-still, before-keeps, before-new, eqb-itself, find-any, find-some, first-listed, first-older, firsts-tokens, legal-before, length-before, none-some, some-is, behind-at}
 use Rattle.exchange_model.specs.Rotating.{has, Backed, carried_numbers}
 use Rattle.exchange_model.proofs.Backed.{asks_by, asked_at, asked-below, asked-keeps, not-here, AreBacked, BackedEntry}
 use Rattle.exchange_model.proofs.StoredFacts.{AskFacts}
@@ -204,6 +204,13 @@ module _ (l : List Noted) (bs : List Backed) (legal : Legal l) (taken : AreTaken
           let same : o ≡ n = it.2.1 ∙ (ap (λ (b : Backed). b.pair.stored.opening) (sym one) ∙ sym is) in
           absurd (omega (arith, below, len, same))
 
+  -- the exchange of a reply goes back to it
+  pub home-then : (n : ℕ) (x : Noted) (b : Backed) (r : Reply) → (h : BackedFacts l b) → (of : Contains (h.facts.first ∷ h.facts.more) r)
+      → at l n ≡ Some x → (h.facts.replies r of).owner < n → ask_behind (before l n) (h.facts.replies r of).owner ≡ b.pair.stored.opening
+  home-then n x b r h of stands lt =
+      let facts = h.facts.replies r of in
+      behind-at (before l n) facts.owner facts.opening_in (at-still l n facts.owner x facts.opening_in stands lt facts.opened_at) ∙ facts.home
+
   -- a message that was sent for it
   backed-sending : (n : ℕ) (x : Noted) (b : Backed) (r : Reply) → Contains bs b → (h : BackedFacts l b) → Contains (h.facts.first ∷ h.facts.more) r
       → at l n ≡ Some x → n ≡ r.sending → BackedEntry gs (before l n) x.written.deed x.note
@@ -213,6 +220,9 @@ module _ (l : List Noted) (bs : List Backed) (legal : Legal l) (taken : AreTaken
       let after = facts.after in
       subst (λ (x : Noted). BackedEntry gs (before l n) x.written.deed x.note) same
       (facts.sends gs (before l n) (record {
+        opened = (let lt = facts.opened in let len = length-before l n x stands in omega (arith, lt, len, is));
+        ask = b.pair.stored.opening;
+        back = home-then n x b r h of stands (let lt = facts.opened in omega (arith, lt, is));
         exchange = record { since = h.facts.ask.entry.written.moment; request = h.facts.request };
         asked = asked-earlier n b.pair.stored.opening x h.facts.request stands (omega (arith, after, is)) h.facts.ask;
         listed = opening-listed l bs b legal among h;
@@ -226,7 +236,7 @@ module _ (l : List Noted) (bs : List Backed) (legal : Legal l) (taken : AreTaken
   pub reply-under : (n : ℕ) (x : Noted) (b : Backed) (r : Reply) → (h : BackedFacts l b) → (of : Contains (h.facts.first ∷ h.facts.more) r)
       → at l n ≡ Some x → n ≡ r.number
       → replied_by (before l n) h.facts.request.peer r.message
-      ≡ Some (record { number = r.sending; moment = (h.facts.replies r of).sent_at; opening = b.pair.stored.opening; peer = h.facts.request.peer; message = (h.facts.replies r of).sent })
+      ≡ Some (record { number = r.sending; moment = (h.facts.replies r of).sent_at; opening = (h.facts.replies r of).owner; peer = h.facts.request.peer; message = (h.facts.replies r of).sent })
   reply-under n x b r h of stands is =
       let facts = h.facts.replies r of in
       let later = facts.later in
@@ -242,7 +252,7 @@ module _ (l : List Noted) (bs : List Backed) (legal : Legal l) (taken : AreTaken
       subst (λ (x : Noted). BackedEntry gs (before l n) x.written.deed x.note) same
       (facts.hears gs (before l n) (record {
         response = facts.response;
-        first = record { number = r.sending; moment = facts.sent_at; opening = b.pair.stored.opening; peer = h.facts.request.peer; message = facts.sent };
+        first = record { number = r.sending; moment = facts.sent_at; opening = facts.owner; peer = h.facts.request.peer; message = facts.sent };
         under = reply-under n x b r h of stands is;
         listed = (reply-listed l bs b legal among h r of).0;
         kind = facts.kind;

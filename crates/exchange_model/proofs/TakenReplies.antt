@@ -12,7 +12,7 @@ use Rattle.journal_book.specs.Entries as D
 use Rattle.history_laws.specs.Readings.{Noted, Note, First, Says, Recalls, Answered, at, before}
 use Rattle.history_laws.specs.Progress.{Reply}
 use Rattle.history_laws.specs.Transmissions.{FirstSending}
-use Rattle.history_laws.specs.Exchanges.{Begun}
+use Rattle.history_laws.specs.Exchanges.{Begun, ask_behind}
 use Rattle.history_laws.specs.Carrying.{carried_replies, replied_by, reply_to}
 use Rattle.history_laws.proofs.CallerLemmas.{all-of, at-below, at-keeps, at-new, before-keeps, before-new, carried-below, contains-later, contains-none, eqb-apart, eqb-itself, first-or-later, some-is}
 use Rattle.exchange_model.specs.Rotating.{has}
@@ -80,12 +80,12 @@ early-zero : (rs : List Reply) → early 0 rs ≡ []
 early-zero [] = refl
 early-zero (r ∷ rs) = rw (le-ltb r.number 0 (omega arith)) (early-zero rs)
 
-module _ (gs : List ℕ) (f : ℕ → ℕ) (t : ℕ) where
+module _ (gs : List ℕ) (f home : ℕ → ℕ) (t : ℕ) where
   abbrev pub renumbered : Reply → Reply
   renumbered r = record { number = f r.number; sending = f r.sending; message = r.message }
 
   -- Copies of asks stand in order.
-  pub place-rises : (l : List Noted) (o n : ℕ) (b : Begun) → ArePlaced gs f t l → has gs o ≡ true → has gs n ≡ true → asked_at l o ≡ Some b → o < n → n < length l
+  pub place-rises : (l : List Noted) (o n : ℕ) (b : Begun) → ArePlaced gs f home t l → has gs o ≡ true → has gs n ≡ true → asked_at l o ≡ Some b → o < n → n < length l
       → f o < f n
   place-rises [] o n b placed ho hn e lt below = absurd (omega (arith, below))
   place-rises (x ∷ older) o n b placed ho hn e lt below =
@@ -94,8 +94,8 @@ module _ (gs : List ℕ) (f : ℕ → ℕ) (t : ℕ) where
       ∙ (rw (eqb-apart (length older) o (λ same. omega (arith, same, lt, below))) at e) in
       elim (eqb_tells (length older) n) [
         | inl w ↦
-            let place : f n ≡ length (copied f gs t older) = ap f (sym w.1) ∙ placed.1 (ap (has gs) w.1 ∙ hn) in
-            let less = carried-below (copied f gs t older) (f o) b (carried-copied gs f t older o b placed.0 ho older_asks) in
+            let place : f n ≡ length (copied home gs t older) = ap f (sym w.1) ∙ (placed.1 (ap (has gs) w.1 ∙ hn)).0 in
+            let less = carried-below (copied home gs t older) (f o) b (carried-copied gs f home t older o b placed.0 ho older_asks) in
             omega (arith, place, less)
         | inr w ↦
             let ne = w.1 in
@@ -124,9 +124,9 @@ module _ (gs : List ℕ) (f : ℕ → ℕ) (t : ℕ) where
       -- each of them is copied, and came to a message of the ask
       pub one : (r : Reply) → Contains rs r → r.number ≡ n
           → (has gs n ≡ true) × HearsAs d note peer r.message
-          × ((g : FirstSending) × (replied_by l peer r.message ≡ Some g) × (g.opening ≡ o))
+          × ((g : FirstSending) × (replied_by l peer r.message ≡ Some g) × (ask_behind l g.opening ≡ o))
       -- and what else came to one is one of them
-      pub all : (p : Peer) (m : Content) (g : FirstSending) → has gs n ≡ true → HearsAs d note p m → replied_by l p m ≡ Some g → g.opening ≡ o
+      pub all : (p : Peer) (m : Content) (g : FirstSending) → has gs n ≡ true → HearsAs d note p m → replied_by l p m ≡ Some g → ask_behind l g.opening ≡ o
           → Contains rs (record { number = n; sending = g.number; message = m })
       -- No other ask has its copy in the same place.
       pub apart : (q : ℕ) (b : Begun) → has gs q ≡ true → asked_at l q ≡ Some b → f q ≡ f o → q ≡ o
@@ -149,28 +149,28 @@ module _ (gs : List ℕ) (f : ℕ → ℕ) (t : ℕ) where
         → early (suc n) rs ≡ early n rs
     none-adds l n d note fit none = early-none n rs (λ r has_it same. let it = fit.one r has_it same in none r.message it.0 it.1)
 
-    reply-adds : (d : Deed) (note : Note) (l : List Noted) (s : ℕ) (p : Peer) (b : List ℕ) (m : Content) (a : Answered) → AreBacked gs l → ArePlaced gs f t l
-        → f (length l) ≡ length (copied f gs t l)
+    reply-adds : (d : Deed) (note : Note) (l : List Noted) (s : ℕ) (p : Peer) (b : List ℕ) (m : Content) (a : Answered) → AreBacked gs l → ArePlaced gs f home t l
+        → f (length l) ≡ length (copied home gs t l)
         → has gs (length l) ≡ true → BackedReply gs l p m → FitsHere l (length l) d note → HearsAs d note p m
         → ((q : Peer) (n : Content) → HearsAs d note q n → (p ≡ q) × (m ≡ n))
-        → carried_replies (copied f gs t l) (f o) ≡ map renumbered (early (length l) rs)
-        → carried_replies (copy_as (length l) s (Heard D.Ground p b m a) ∷ copied f gs t l) (f o) ≡ map renumbered (early (suc (length l)) rs)
+        → carried_replies (copied home gs t l) (f o) ≡ map renumbered (early (length l) rs)
+        → carried_replies (copy_as (length l) s (Heard D.Ground p b m a) ∷ copied home gs t l) (f o) ≡ map renumbered (early (suc (length l)) rs)
     reply-adds d note l s p b m a backed placed place mine h fit hears only ih =
         let g = h.first in
-        let it = replied-copied p m gs f t l g backed placed h.under h.listed in
-        hears-adds s (length l) (f o) (copied f gs t l) p b m a (moved p m gs f t g) it.replied
-        ∙ elim (eqb_tells g.opening o) [
+        let it = replied-copied p m gs f home t l g backed placed h.under h.listed in
+        hears-adds s (length l) (f o) (copied home gs t l) p b m a (moved p m gs f home t g) it.replied
+        ∙ elim (eqb_tells it.ask o) [
           | inl w ↦
               let r : Reply = record { number = length l; sending = g.number; message = m } in
-              let has_it = fit.all p m g mine hears h.under w.1 in
-              rw (ap (λ (k : ℕ). eqb (f k) (f o)) w.1 ∙ eqb-itself (f o))
-              (ap (λ (n : ℕ). carried_replies (copied f gs t l) (f o) ++ record { number = n; sending = f g.number; message = m } ∷ []) (sym place)
+              let has_it = fit.all p m g mine hears h.under (it.back ∙ w.1) in
+              rw (ap (λ (k : ℕ). eqb k (f o)) it.placed ∙ (ap (λ (k : ℕ). eqb (f k) (f o)) w.1 ∙ eqb-itself (f o)))
+              (ap (λ (n : ℕ). carried_replies (copied home gs t l) (f o) ++ record { number = n; sending = f g.number; message = m } ∷ []) (sym place)
               ∙ (ap (λ (v : List Reply). v ++ renumbered r ∷ []) ih
               ∙ (sym (map-append renumbered (early (length l) rs) (r ∷ []))
               ∙ ap (map renumbered) (sym (early-one (length l) rs r rises has_it refl)))))
           | inr w ↦
               let ne = w.1 in
-              rw (eqb-apart (f g.opening) (f o) (λ same. ne (fit.apart g.opening it.exchange it.listed it.asked same)))
+              rw (eqb-apart (home g.opening) (f o) (λ same. ne (fit.apart it.ask it.exchange it.listed it.asked (sym it.placed ∙ same))))
               (ih ∙ ap (map renumbered)
               (sym (early-none (length l) rs
               (λ r has_it same.
@@ -179,16 +179,16 @@ module _ (gs : List ℕ) (f : ℕ → ℕ) (t : ℕ) where
               let other = one.2 in
               let found : replied_by l p m ≡ Some other.0 =
               ap (λ (q : Peer). replied_by l q m) is.0 ∙ (ap (λ (n : Content). replied_by l peer n) is.1 ∙ other.1) in
-              ne (ap (λ (g : FirstSending). g.opening) (some-is _ _ (sym h.under ∙ found)) ∙ other.2)))))
+              ne (sym it.back ∙ (ap (λ (g : FirstSending). ask_behind l g.opening) (some-is _ _ (sym h.under ∙ found)) ∙ other.2))))))
         ]
 
-    entry-adds : (l : List Noted) (x : Noted) → AreBacked gs (x ∷ l) → ArePlaced gs f t (x ∷ l) → FitsHere l (length l) x.written.deed x.note
-        → carried_replies (copied f gs t l) (f o) ≡ map renumbered (early (length l) rs)
+    entry-adds : (l : List Noted) (x : Noted) → AreBacked gs (x ∷ l) → ArePlaced gs f home t (x ∷ l) → FitsHere l (length l) x.written.deed x.note
+        → carried_replies (copied home gs t l) (f o) ≡ map renumbered (early (length l) rs)
         → (c : Bool) → has gs (length l) ≡ c
-        → carried_replies (add_copy (length l) x.written.moment (copy_by c f t x.written.moment x.written.deed x.note) (copied f gs t l)) (f o)
+        → carried_replies (add_copy (length l) x.written.moment (copy_by c home t x.written.moment x.written.deed x.note) (copied home gs t l)) (f o)
         ≡ map renumbered (early (suc (length l)) rs)
     entry-adds l x backed placed fit ih false not =
-        past-adds x.written.moment (length l) (f o) (kept_as x.written.deed x.note) (copied f gs t l)
+        past-adds x.written.moment (length l) (f o) (kept_as x.written.deed x.note) (copied home gs t l)
         ∙ (ih ∙ ap (map renumbered) (sym (none-adds l (length l) x.written.deed x.note fit (λ m mine hears. false≢true (sym not ∙ mine)))))
     entry-adds l x backed placed fit ih true mine = kinds x.written.deed x.note (backed.1 mine) fit
       where
@@ -198,23 +198,23 @@ module _ (gs : List ℕ) (f : ℕ → ℕ) (t : ℕ) where
         s : ℕ
         s = x.written.moment
 
-        quiet : (d : Deed) (note : Note) → FitsHere l n d note → ((m : Content) → HearsAs d note peer m → ⊥) → carried_replies (copied f gs t l) (f o) ≡ map renumbered (early (suc n) rs)
+        quiet : (d : Deed) (note : Note) → FitsHere l n d note → ((m : Content) → HearsAs d note peer m → ⊥) → carried_replies (copied home gs t l) (f o) ≡ map renumbered (early (suc n) rs)
         quiet d note fit none = ih ∙ ap (map renumbered) (sym (none-adds l n d note fit (λ m mine hears. none m hears)))
 
         kinds : (d : Deed) (note : Note) → BackedEntry gs l d note → FitsHere l n d note
-            → carried_replies (add_copy n s (backing_copy f d note) (copied f gs t l)) (f o) ≡ map renumbered (early (suc n) rs)
+            → carried_replies (add_copy n s (backing_copy home d note) (copied home gs t l)) (f o) ≡ map renumbered (early (suc n) rs)
         kinds (Asks c a) note h fit = quiet (Asks c a) note fit (λ m hears. hears)
         kinds (Carries k mark (D.Asked c a)) note h fit = quiet (Carries k mark (D.Asked c a)) note fit (λ m hears. hears)
         kinds (Sends p b w) (First q m) h fit = quiet (Sends p b w) (First q m) fit (λ m hears. hears)
         kinds (Carries k mark (D.Sent p b w)) (First q m) h fit = quiet (Carries k mark (D.Sent p b w)) (First q m) fit (λ m hears. hears)
         kinds (Hears p b) (Says m to notice) h fit =
-            reply-adds (Hears p b) (Says m to notice) l s p b m (answered_as (answered (Says m to notice))) backed.0 placed.0 (placed.1 mine) mine h fit (refl, refl) (λ q n hears. hears) ih
+            reply-adds (Hears p b) (Says m to notice) l s p b m (answered_as (answered (Says m to notice))) backed.0 placed.0 (placed.1 mine).0 mine h fit (refl, refl) (λ q n hears. hears) ih
         kinds (Carries k mark (D.Heard p b)) (Recalls m a) h fit =
-            reply-adds (Carries k mark (D.Heard p b)) (Recalls m a) l s p b m a backed.0 placed.0 (placed.1 mine) mine h fit (refl, refl) (λ q n hears. hears) ih
+            reply-adds (Carries k mark (D.Heard p b)) (Recalls m a) l s p b m a backed.0 placed.0 (placed.1 mine).0 mine h fit (refl, refl) (λ q n hears. hears) ih
         kinds d note h fit = absurd h
 
-    pub replies-copied : (l : List Noted) → AreBacked gs l → ArePlaced gs f t l → AreFit l
-        → carried_replies (copied f gs t l) (f o) ≡ map renumbered (early (length l) rs)
+    pub replies-copied : (l : List Noted) → AreBacked gs l → ArePlaced gs f home t l → AreFit l
+        → carried_replies (copied home gs t l) (f o) ≡ map renumbered (early (length l) rs)
     replies-copied [] backed placed fit = ap (map renumbered) (sym (early-zero rs))
     replies-copied (x ∷ older) backed placed fit =
         entry-adds older x backed placed fit.1 (replies-copied older backed.0 placed.0 fit.0) (has gs (length older)) refl

@@ -18,7 +18,7 @@ use Rattle.history_laws.specs.Responses.{Response, whole_of}
 use Rattle.history_laws.specs.Readings.{Noted, Note, Says, Recalls, at, before}
 use Rattle.history_laws.specs.Progress.{Reply, numbers, messages}
 use Rattle.history_laws.specs.Transmissions.{FirstSending}
-use Rattle.history_laws.specs.Exchanges.{Begun, End, end_of}
+use Rattle.history_laws.specs.Exchanges.{Begun, End, end_of, ask_behind}
 use Rattle.history_laws.specs.Observing.{outdated}
 use Rattle.history_laws.specs.Carrying.{replied_by, CarriesSo}
 use Rattle.history_laws.specs.Storing.{ComesSo, IsStored, IsUnused, IsUse, IsCrowdedOut}
@@ -34,7 +34,7 @@ use Rattle.exchange_model.proofs.TakenPlaced.{backed-copy}
 use Rattle.exchange_model.proofs.Backed.{asked_at, asked-below, AreBacked, ArePlaced, carried-back, carried-copied}
 use Rattle.exchange_model.proofs.StoredFacts.{HearsAs}
 use Rattle.exchange_model.proofs.Taken.{AreTaken, BackedApart, BackedFacts, IsListed, listed, one-pair, opening-listed, reply-listed}
-use Rattle.exchange_model.proofs.TakenBacked.{are-backed, ask-listed, asked-ask, asked-later, reply-under, same-keys}
+use Rattle.exchange_model.proofs.TakenBacked.{are-backed, ask-listed, asked-ask, asked-later, reply-under, same-keys, home-then}
 use Rattle.exchange_model.proofs.TakenReplies.{AreFit, all-fit, early-all, place-rises, renumbered, replies-copied}
 
 -- Nothing comes for a GET in a journal of copies, and no notification counts.
@@ -50,52 +50,52 @@ none-outdated-add n s (Some (Aimed p b w o m)) c key k e = ap (λ (v : Bool). v 
 none-outdated-add n s (Some (Heard mark p b m a)) c key k e = ap (λ (v : Bool). v || outdated c key k) (and-none (ltb k (length c))) ∙ e
 none-outdated-add n s (Some (Bare done)) c key k e = ap (λ (v : Bool). v || outdated c key k) (and-none (ltb k (length c))) ∙ e
 
-none-outdated : (f : ℕ → ℕ) (gs : List ℕ) (t : ℕ) (l : List Noted) (key : CacheKey) (k : ℕ) → outdated (copied f gs t l) key k ≡ false
-none-outdated f gs t [] key k = refl
-none-outdated f gs t (x ∷ older) key k =
-    none-outdated-add (length older) x.written.moment (copy_in f gs t (length older) x) (copied f gs t older) key k (none-outdated f gs t older key k)
+none-outdated : (home : ℕ → ℕ) (gs : List ℕ) (t : ℕ) (l : List Noted) (key : CacheKey) (k : ℕ) → outdated (copied home gs t l) key k ≡ false
+none-outdated home gs t [] key k = refl
+none-outdated home gs t (x ∷ older) key k =
+    none-outdated-add (length older) x.written.moment (copy_in home gs t (length older) x) (copied home gs t older) key k (none-outdated home gs t older key k)
 
-none-comes : (f : ℕ → ℕ) (gs : List ℕ) (t : ℕ) (l : List Noted) (o e : ℕ) (w : Response) (rs : List Reply) → Legal (copied f gs t l) → ComesSo (copied f gs t l) o e w rs → ⊥
-none-comes f gs t l o e w rs legal h =
-    let c = copied f gs t l in
+none-comes : (home : ℕ → ℕ) (gs : List ℕ) (t : ℕ) (l : List Noted) (o e : ℕ) (w : Response) (rs : List Reply) → Legal (copied home gs t l) → ComesSo (copied home gs t l) o e w rs → ⊥
+none-comes home gs t l o e w rs legal h =
+    let c = copied home gs t l in
     let it = comes-begun c o e w rs legal h in
-    contains-none o (subst (λ (os : List ℕ). Contains os o) (openings-copied f gs t l) (begun-listed c o (ap is_some it.1)))
+    contains-none o (subst (λ (os : List ℕ). Contains os o) (openings-copied home gs t l) (begun-listed c o (ap is_some it.1)))
 
-none-ended : (f : ℕ → ℕ) (gs : List ℕ) (t : ℕ) (l : List Noted) (o : ℕ) (e : End) → Legal (copied f gs t l) → end_of (copied f gs t l) o ≡ Some e → ⊥
-none-ended f gs t l o e legal ended =
-    let c = copied f gs t l in
+none-ended : (home : ℕ → ℕ) (gs : List ℕ) (t : ℕ) (l : List Noted) (o : ℕ) (e : End) → Legal (copied home gs t l) → end_of (copied home gs t l) o ≡ Some e → ⊥
+none-ended home gs t l o e legal ended =
+    let c = copied home gs t l in
     let it = ended-begun c o e legal ended in
-    contains-none o (subst (λ (os : List ℕ). Contains os o) (openings-copied f gs t l) (begun-listed c o (ap is_some it.1)))
+    contains-none o (subst (λ (os : List ℕ). Contains os o) (openings-copied home gs t l) (begun-listed c o (ap is_some it.1)))
 
-none-used : (f : ℕ → ℕ) (gs : List ℕ) (t : ℕ) (l : List Noted) (n : ℕ) (key : CacheKey) → Legal (copied f gs t l) → IsUse (copied f gs t l) n key → ⊥
-none-used f gs t l n key legal (inl u) = false≢true (copy-at (copied f gs t l) n _ (all-copies f gs t l) u.stands)
-none-used f gs t l n key legal (inr (inl u)) = none-comes f gs t l u.opening n u.response (u.first ∷ u.more) legal u.comes
-none-used f gs t l n key legal (inr (inr u)) = none-ended f gs t l u.opening _ legal u.ended
+none-used : (home : ℕ → ℕ) (gs : List ℕ) (t : ℕ) (l : List Noted) (n : ℕ) (key : CacheKey) → Legal (copied home gs t l) → IsUse (copied home gs t l) n key → ⊥
+none-used home gs t l n key legal (inl u) = false≢true (copy-at (copied home gs t l) n _ (all-copies home gs t l) u.stands)
+none-used home gs t l n key legal (inr (inl u)) = none-comes home gs t l u.opening n u.response (u.first ∷ u.more) legal u.comes
+none-used home gs t l n key legal (inr (inr u)) = none-ended home gs t l u.opening _ legal u.ended
 
 -- The copy of an entry has its moment.
-moved-at : (gs : List ℕ) (f : ℕ → ℕ) (t : ℕ) (l : List Noted) (n : ℕ) (x : Noted) → AreBacked gs l → ArePlaced gs f t l → has gs n ≡ true → at l n ≡ Some x
-    → (y : Noted) × (at (copied f gs t l) (f n) ≡ Some y) × (y.written.moment ≡ x.written.moment)
-moved-at gs f t [] n x backed placed listed e = absurd cc
-moved-at gs f t (z ∷ older) n x backed placed listed e =
+moved-at : (gs : List ℕ) (f home : ℕ → ℕ) (t : ℕ) (l : List Noted) (n : ℕ) (x : Noted) → AreBacked gs l → ArePlaced gs f home t l → has gs n ≡ true → at l n ≡ Some x
+    → (y : Noted) × (at (copied home gs t l) (f n) ≡ Some y) × (y.written.moment ≡ x.written.moment)
+moved-at gs f home t [] n x backed placed listed e = absurd cc
+moved-at gs f home t (z ∷ older) n x backed placed listed e =
     elim (at-old z older n x e) [
       | inl w ↦
           let mine : has gs (length older) ≡ true = ap (has gs) (sym w.0) ∙ listed in
-          let copy = backed-copy gs f t older z.written.deed z.note (backed.1 mine) in
-          let made : copy_in f gs t (length older) z ≡ Some copy.0 = ap (λ (b : Bool). copy_by b f t z.written.moment z.written.deed z.note) mine ∙ copy.1 in
+          let copy = backed-copy gs f home t older z.written.deed z.note (backed.1 mine) in
+          let made : copy_in home gs t (length older) z ≡ Some copy.0 = ap (λ (b : Bool). copy_by b home t z.written.moment z.written.deed z.note) mine ∙ copy.1 in
           let y : Noted = copy_as (length older) z.written.moment copy.0 in (
             y,
-            ap (λ (v : Option Copy). at (add_copy (length older) z.written.moment v (copied f gs t older)) (f n)) made
-                ∙ (ap (at (y ∷ copied f gs t older)) (ap f w.0 ∙ placed.1 mine) ∙ at-new y (copied f gs t older)),
+            ap (λ (v : Option Copy). at (add_copy (length older) z.written.moment v (copied home gs t older)) (f n)) made
+                ∙ (ap (at (y ∷ copied home gs t older)) (ap f w.0 ∙ (placed.1 mine).0) ∙ at-new y (copied home gs t older)),
             moment-copy (length older) z.written.moment copy.0 ∙ ap (λ (z : Noted). z.written.moment) w.1,
           )
       | inr w ↦
-          let it = moved-at gs f t older n x backed.0 placed.0 listed w in
-          (it.0, keeps (copy_in f gs t (length older) z) it.0 it.1, it.2)
+          let it = moved-at gs f home t older n x backed.0 placed.0 listed w in
+          (it.0, keeps (copy_in home gs t (length older) z) it.0 it.1, it.2)
     ]
   where
-    keeps : (oc : Option Copy) (y : Noted) → at (copied f gs t older) (f n) ≡ Some y → at (add_copy (length older) z.written.moment oc (copied f gs t older)) (f n) ≡ Some y
+    keeps : (oc : Option Copy) (y : Noted) → at (copied home gs t older) (f n) ≡ Some y → at (add_copy (length older) z.written.moment oc (copied home gs t older)) (f n) ≡ Some y
     keeps None y e = e
-    keeps (Some c) y e = at-keeps (copy_as (length older) z.written.moment c) (copied f gs t older) (f n) y e
+    keeps (Some c) y e = at-keeps (copy_as (length older) z.written.moment c) (copied home gs t older) (f n) y e
 
 hears-done : (d : Deed) (note : Note) (p : Peer) (m : Content) → HearsAs d note p m → (b : List ℕ) × (q : Peer) × (done_of d ≡ Some (D.Heard q b))
 hears-done (Hears q b) (Says n to notice) p m h = (b, q, refl)
@@ -111,12 +111,15 @@ module _ (ws : List Written) (t : ℕ) (l : List Noted) (bs : List Backed) (lega
   abbrev f : ℕ → ℕ
   f n = place_of ws n
 
+  abbrev home : ℕ → ℕ
+  home o = place_of ws (ask_behind l o)
+
   abbrev gs : List ℕ
   gs = carried_numbers bs
 
-  module _ (placed : ArePlaced gs f t l) (legal_copied : Legal (copied f gs t l)) where
+  module _ (placed : ArePlaced gs f home t l) (legal_copied : Legal (copied home gs t l)) where
     abbrev after : List Noted
-    after = copied f gs t l
+    after = copied home gs t l
 
     all_backed : AreBacked gs l
     all_backed = are-backed l bs legal taken
@@ -146,10 +149,10 @@ module _ (ws : List Written) (t : ℕ) (l : List Noted) (bs : List Backed) (lega
         where
           by : (u : Bool) → ltb k o ≡ u → (v : Bool) → ltb o k ≡ v → k ≡ o
           by true u v w =
-              let less = place-rises gs f t l k o c placed listed_it mine e (ltb-true k o u) (asked-below l o opened asked) in
+              let less = place-rises gs f home t l k o c placed listed_it mine e (ltb-true k o u) (asked-below l o opened asked) in
               absurd (omega (arith, less, same))
           by false u true v =
-              let less = place-rises gs f t l o k opened placed mine listed_it asked (ltb-true o k v) (asked-below l k c e) in
+              let less = place-rises gs f home t l o k opened placed mine listed_it asked (ltb-true o k v) (asked-below l k c e) in
               absurd (omega (arith, less, same))
           by false u false v = let a = ltb-false k o u in let b = ltb-false o k v in omega (arith, a, b)
 
@@ -164,22 +167,22 @@ module _ (ws : List Written) (t : ℕ) (l : List Noted) (bs : List Backed) (lega
 
       one : (n : ℕ) (x : Noted) → at l n ≡ Some x → (r : Reply) → Contains rs r → r.number ≡ n
           → (has gs n ≡ true) × HearsAs x.written.deed x.note q.peer r.message
-          × ((g : FirstSending) × (replied_by (before l n) q.peer r.message ≡ Some g) × (g.opening ≡ o) × (g.number ≡ r.sending))
+          × ((g : FirstSending) × (replied_by (before l n) q.peer r.message ≡ Some g) × (ask_behind (before l n) g.opening ≡ o) × (g.number ≡ r.sending))
       one n x stands r of same =
           let facts = h.facts.replies r of in
           let entry : facts.heard_in ≡ x = at-same l n facts.heard_in x (ap (at l) (sym same) ∙ facts.heard) stands in (
             ap (has gs) (sym same) ∙ (reply-listed l bs b legal among h r of).1,
             subst (λ (x : Noted). HearsAs x.written.deed x.note q.peer r.message) entry facts.says,
             (
-              record { number = r.sending; moment = facts.sent_at; opening = o; peer = q.peer; message = facts.sent },
+              record { number = r.sending; moment = facts.sent_at; opening = facts.owner; peer = q.peer; message = facts.sent },
               reply-under l bs legal taken n x b r h of stands (sym same),
-              refl,
+              home-then l bs legal taken n x b r h of stands (let lt = facts.opened in let later = facts.later in omega (arith, lt, later, same)),
               refl,
             ),
           )
 
       all : (n : ℕ) (x : Noted) → at l n ≡ Some x → (p : Peer) (m : Content) (g : FirstSending) → has gs n ≡ true → HearsAs x.written.deed x.note p m
-          → replied_by (before l n) p m ≡ Some g → g.opening ≡ o → Contains rs (record { number = n; sending = g.number; message = m })
+          → replied_by (before l n) p m ≡ Some g → ask_behind (before l n) g.opening ≡ o → Contains rs (record { number = n; sending = g.number; message = m })
       all n x stands p m g listed_it hears found opening = by (listed l bs n legal taken.facts listed_it)
         where
           not-heard : (k : ℕ) (y : Noted) (done : D.Done) → n ≡ k → at l k ≡ Some y → done_of y.written.deed ≡ Some done → ((b : List ℕ) (q : Peer) → Some done ≡ Some (D.Heard q b) → ⊥) → ⊥
@@ -222,7 +225,11 @@ module _ (ws : List Written) (t : ℕ) (l : List Noted) (bs : List Backed) (lega
                           let under = reply-under l bs legal taken n x it.backed u.0 it.known u.1 stands v in
                           let first : Some _ ≡ Some g =
                           sym under ∙ (ap (λ (p : Peer). replied_by (before l n) p u.0.message) same.0 ∙ (ap (replied_by (before l n) p) same.1 ∙ found)) in
-                          let opens : it.backed.pair.stored.opening ≡ o = ap (λ (g : FirstSending). g.opening) (some-is _ _ first) ∙ opening in
+                          let lt = r.opened in
+                          let later = r.later in
+                          let opens : it.backed.pair.stored.opening ≡ o =
+                          sym (home-then l bs legal taken n x it.backed u.0 it.known u.1 stands (omega (arith, lt, later, v)))
+                          ∙ (ap (λ (g : FirstSending). ask_behind (before l n) g.opening) (some-is _ _ first) ∙ opening) in
                           let is = same-pair it.backed it.among it.known opens in
                           let among_them : Contains it.backed.pair.stored.list n =
                           subst (λ (ns : List ℕ). Contains ns n) (sym facts.list)
@@ -231,15 +238,15 @@ module _ (ws : List Written) (t : ℕ) (l : List Noted) (bs : List Backed) (lega
                     ]
               ]
 
-      fits : AreFit gs f t o rs h.facts.rising q.peer l
-      fits = all-fit gs f t o rs h.facts.rising q.peer l (λ n x stands. record {
+      fits : AreFit gs f home t o rs h.facts.rising q.peer l
+      fits = all-fit gs f home t o rs h.facts.rising q.peer l (λ n x stands. record {
         one = λ r of same. let it = one n x stands r of same in (it.0, it.1, (it.2.0, it.2.1, it.2.2));
         all = λ p m g listed_it hears found opening. all n x stands p m g listed_it hears found opening;
         apart = λ k c listed_it e same. apart k c listed_it (asked-later l n k c e) same;
       })
 
       abbrev renumber : Reply → Reply
-      renumber r = renumbered gs f t r
+      renumber r = renumbered gs f home t r
 
       same-messages : (rs : List Reply) → messages (map renumber rs) ≡ messages rs
       same-messages [] = refl
@@ -252,10 +259,10 @@ module _ (ws : List Written) (t : ℕ) (l : List Noted) (bs : List Backed) (lega
       pub carried-so : CarriesSo after (f o) b.pair.stored.response (map renumber rs)
       carried-so = record {
         exchange = opened;
-        asked = carried-copied gs f t l o opened placed mine asked;
+        asked = carried-copied gs f home t l o opened placed mine asked;
         get = h.facts.get;
         replies =
-            replies-copied gs f t o rs h.facts.rising q.peer l all_backed placed fits
+            replies-copied gs f home t o rs h.facts.rising q.peer l all_backed placed fits
             ∙ ap (map renumber) (early-all (length l) rs (λ r of. let facts = h.facts.replies r of in at-below l r.number facts.heard_in facts.heard));
         whole = ap (whole_of q) (same-messages rs) ∙ h.facts.whole;
       }
@@ -263,7 +270,7 @@ module _ (ws : List Written) (t : ℕ) (l : List Noted) (bs : List Backed) (lega
       pub pair-in : PairIn after (pair_at ws b)
       unfolding carried-so
       pair-in =
-          let first = moved-at gs f t l h.facts.first.number h.facts.entry all_backed placed (reply-listed l bs b legal among h h.facts.first (zero, omega arith, refl)).1 h.facts.heard_in in
+          let first = moved-at gs f home t l h.facts.first.number h.facts.entry all_backed placed (reply-listed l bs b legal among h h.facts.first (zero, omega arith, refl)).1 h.facts.heard_in in
           record {
             request = q;
             get = h.facts.get;
@@ -276,16 +283,16 @@ module _ (ws : List Written) (t : ℕ) (l : List Noted) (bs : List Backed) (lega
                 carries = carried-so;
                 code = h.facts.code;
                 same = asks-itself q h.facts.get;
-                current = ap (list_any _) (openings-copied f gs t l);
-                newest = none-outdated f gs t l (asked_key q) (f h.facts.first.number);
-                alone = λ k e w r more comes joins current. none-comes f gs t l k e w (r ∷ more) legal_copied comes;
+                current = ap (list_any _) (openings-copied home gs t l);
+                newest = none-outdated home gs t l (asked_key q) (f h.facts.first.number);
+                alone = λ k e w r more comes joins current. none-comes home gs t l k e w (r ∷ more) legal_copied comes;
                 entry = first.0;
                 heard_in = first.1;
                 heard = h.facts.heard ∙ sym first.2;
                 origin = refl;
                 list = ap (map (place_of ws)) h.facts.list ∙ moved-numbers rs;
               },
-              λ e a. none-ended f gs t l a.opening _ legal_copied a.ended,
+              λ e a. none-ended home gs t l a.opening _ legal_copied a.ended,
             ));
           }
         where
@@ -296,7 +303,7 @@ module _ (ws : List Written) (t : ℕ) (l : List Noted) (bs : List Backed) (lega
       unfolding carried-so
       unused = (
         record { opening = f o; response = b.pair.stored.response; replies = map renumber rs; carries = carried-so; is = h.facts.key },
-        λ n u. none-used f gs t l n b.pair.key legal_copied u,
+        λ n u. none-used home gs t l n b.pair.key legal_copied u,
       )
 
     -- all of them
@@ -328,11 +335,11 @@ module _ (ws : List Written) (t : ℕ) (l : List Noted) (bs : List Backed) (lega
     in-order (c ∷ cs) h = inr h
 
     kept : (q : CoapRequest) (s : Stored) → IsStored after q s → is_never_fresh s ≡ false → HasPair (map (pair_at ws) bs) (asked_key q) ⊎ IsCrowdedOut after (asked_key q)
-    kept q s (inl (inl is)) lasts = absurd (none-comes f gs t l is.0.opening is.0.ending s.response (is.0.first ∷ is.0.more) legal_copied is.0.comes)
-    kept q s (inr is) lasts = absurd (none-ended f gs t l is.renewal.opening _ legal_copied is.renewal.ended)
+    kept q s (inl (inl is)) lasts = absurd (none-comes home gs t l is.0.opening is.0.ending s.response (is.0.first ∷ is.0.more) legal_copied is.0.comes)
+    kept q s (inr is) lasts = absurd (none-ended home gs t l is.renewal.opening _ legal_copied is.renewal.ended)
     kept q s (inl (inr (is, none))) lasts =
         let e = is.carries.exchange in
-        let ask = carried-back gs f t l is.opening e placed is.carries.asked in
+        let ask = carried-back gs f home t l is.opening e placed is.carries.asked in
         let it = ask-listed l bs legal taken ask.number e ask.listed ask.asked in
         let key : it.0.pair.key ≡ asked_key q =
         sym it.2.0.facts.key ∙ (ap asked_key (sym it.2.2) ∙ sym (same-keys l bs legal taken q e.request is.same)) in

@@ -12,7 +12,7 @@ use Rattle.history_laws.proofs.CallerLemmas.{all-more, any-find, eqb-itself, fin
 use Rattle.exchange_model.specs.declared.kept.Exchange.{Exchange}
 use Rattle.exchange_model.specs.declared.kept.Reader.{Reader}
 use Rattle.exchange_model.specs.Resting.{HasExchange}
-use Rattle.exchange_model.specs.Steps.{Matter, Nothing, Tells, Goes, Over}
+use Rattle.exchange_model.specs.Matters.{Matter, Nothing, Tells, Goes, Over, Starts}
 use Rattle.exchange_model.specs.Calls.{Telling, grounds_for, tell_of, is_reader_of, told_for, timeout_for, read_by, told_late}
 use Rattle.exchange_model.proofs.Bare.{bare_ending, numbers-bare}
 use Rattle.exchange_model.proofs.Grounds.{GroundsFor, IsTold}
@@ -65,6 +65,7 @@ none-read (r ∷ rs) = none-read rs
 pub readers-for : (n : ℕ) (x : Matter) (rs : List Reader) → readers_in (told_for n x rs) ≡ filter (reads_it (over_in x)) rs
 readers-for n Nothing rs = none-read rs
 readers-for n (Tells r found) rs = none-read rs
+readers-for n (Starts r e progress) rs = none-read rs
 readers-for n (Goes e progress) rs = none-read rs
 readers-for n (Over e how) rs = readers-told how n e.sending (filter (is_reader_of e) rs)
 
@@ -95,6 +96,7 @@ pub among-for : (n : ℕ) (x : Matter) (rs : List Reader)
     → AllByRecursion (λ (r : Reader). HasExchange (ended_list (over_in x)) r.opening → IsAmong (told_for n x rs) r.ask) rs
 among-for n Nothing rs = none-among rs
 among-for n (Tells r found) rs = none-among rs
+among-for n (Starts r e progress) rs = none-among rs
 among-for n (Goes e progress) rs = none-among rs
 among-for n (Over e how) rs =
     all-more (λ (r : Reader). e.opening ≡ r.opening → IsAmong (told_for n (Over e how) rs) r.ask) _ (λ r h k. by r h k) rs (among-for-one (tell_of how n e.sending) (λ r. refl) e rs)
@@ -107,6 +109,7 @@ pub for-all : (P : Telling → Type 0) (Q : Reader → Type 0) (n : ℕ) (x : Ma
     → ((e : Exchange) (how : Ending) (r : Reader) → x ≡ Over e how → Q r → r.opening ≡ e.opening → P (tell_of how n e.sending r)) → AllByRecursion Q rs → AllByRecursion P (told_for n x rs)
 for-all P Q n Nothing rs h a = tt
 for-all P Q n (Tells r found) rs h a = tt
+for-all P Q n (Starts r e progress) rs h a = tt
 for-all P Q n (Goes e progress) rs h a = tt
 for-all P Q n (Over e how) [] h a = tt
 for-all P Q n (Over e how) (r ∷ rs) h a = elim (eqb_tells r.opening e.opening) [

@@ -10,7 +10,8 @@ use Rattle.message_layer.specs.declared.state.Outstanding.{Outstanding}
 use Rattle.message_layer.specs.declared.state.Waiting.{Waiting}
 use Rattle.history_links.specs.Steps.{passed_link}
 use Rattle.exchange_model.specs.State.{PeerLink, State, link_of}
-use Rattle.exchange_model.specs.Steps.{sends_copy, is_gone, passes, timed_out}
+use Rattle.exchange_model.specs.Steps.{sends_copy}
+use Rattle.exchange_model.specs.Hearing.{is_gone, passes, timed_out}
 use Rattle.exchange_model.specs.Resting.{IsUndue, LinkRests}
 use Rattle.exchange_model.specs.Calls.{next_by, is_due, moves_by, moves, move_all, peer_of, something_due, tells, told_late, ticked}
 use Rattle.exchange_model.proofs.Adding.{Adds, stays, both-add, at-most, still-adds, next-adds, copy-adds}

@@ -7,7 +7,8 @@ use Rattle.uri_map.specs.Peers.{same_peer}
 use Rattle.message_layer.specs.Values.{LinkState}
 use Rattle.journal_book.specs.Entries.{Passes, Deed}
 use Rattle.observe_share.specs.Watches.{without}
-use Rattle.exchange_model.specs.Steps.{is_unwatched, is_of_none, retired, entered, is_gone, passes, timed_out, is_stale_of_none}
+use Rattle.exchange_model.specs.Steps.{entered}
+use Rattle.exchange_model.specs.Hearing.{is_unwatched, is_of_none, retired, is_gone, passes, timed_out, is_stale_of_none}
 use Rattle.exchange_model.specs.Entering.{tick_deeds, answer_of, all_deeds, moved_by, entered_all, link_after, StandsOnce, TicksEnter, StaysDrained}
 use Rattle.exchange_model.specs.State.{PeerLink, State, with_link}
 use Rattle.exchange_model.specs.Calls.{Telling, tells, told_late, move_all}

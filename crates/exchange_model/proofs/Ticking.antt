@@ -25,7 +25,7 @@ use Rattle.exchange_model.specs.declared.kept.Reader.{Reader}
 use Rattle.exchange_model.specs.State.{PeerLink, State, link_of}
 use Rattle.exchange_model.specs.Reads.{held_of, Reads}
 use Rattle.exchange_model.specs.Resting.{IsUndue, LinkRests, HasExchange, Rests}
-use Rattle.exchange_model.specs.Steps.{goes_on, is_past, is_in_vain, expires, is_gone, passes, timed_out}
+use Rattle.exchange_model.specs.Hearing.{goes_on, is_past, is_in_vain, expires, is_gone, passes, timed_out}
 use Rattle.exchange_model.specs.Keeping.{HasMids, Kept, MayStep, TicksKeeps, IsDone, TicksDo}
 use Rattle.history_laws.specs.Justified.{HasGrounds}
 use Rattle.exchange_model.specs.Growing.{RiseByAsk}

@@ -15,7 +15,8 @@ use Rattle.message_layer.specs.declared.state.Waiting.{Waiting}
 use Rattle.message_layer.specs.declared.verdict.Verdict.{Verdict}
 use Rattle.history_links.specs.Steps.{heard_link, is_over, passed_link}
 use Rattle.exchange_model.specs.State.{PeerLink, State, link_of, with_link}
-use Rattle.exchange_model.specs.Steps.{given_out, is_gone, passed}
+use Rattle.exchange_model.specs.Steps.{given_out}
+use Rattle.exchange_model.specs.Hearing.{is_gone, passed}
 use Rattle.exchange_model.specs.Calls.{peer_of}
 use Rattle.exchange_model.specs.Room.{IsShortOut, IsShort, AreApart}
 use Rattle.exchange_model.proofs.Counting.{turned-peers}

@@ -11,7 +11,7 @@ use Rattle.exchange_model.specs.declared.kept.Conn.{Conn}
 use Rattle.exchange_model.specs.declared.kept.Exchange.{Exchange}
 use Rattle.exchange_model.specs.declared.kept.Reader.{Reader}
 use Rattle.exchange_model.specs.State.{State, pend}
-use Rattle.exchange_model.specs.Steps.{Matter, Over}
+use Rattle.exchange_model.specs.Matters.{Matter, Over}
 use Rattle.exchange_model.specs.Reads.{Reads}
 use Rattle.exchange_model.specs.Resting.{HasConn}
 use Rattle.exchange_model.specs.Calls.{Telling, grounds_for, tells, told_for, told_late}

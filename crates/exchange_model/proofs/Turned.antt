@@ -1,5 +1,6 @@
 -- After a turn a state reads the copies.
 use Rattle.std.proofs.Common.{◌≡◌, ℕ, ◌<◌, ◌≤◌, Bool, true, false, cond, List, [], ◌∷◌, length, map, Option, Some, None, refl, sym, ap, subst, ◌∙◌, arith, append-nil}
+use Rattle.history_laws.specs.Exchanges.{ask_behind}
 use Rattle.std.specs.Prelude.{not, ◌||◌, nat_lt, filter, is_some}
 use Rattle.std.specs.List.{AllByRecursion, list_any, find, list_all}
 use Rattle.std.proofs.lemmas.Bool.{false≢true, ltb-false}
@@ -266,8 +267,12 @@ module _ (t : ℕ) (l : List Noted) (S : State) (r : Reads l S) where
   abbrev f : ℕ → ℕ
   f n = place_of ws n
 
+  -- a message goes with the ask that its exchange goes back to
+  abbrev home : ℕ → ℕ
+  home o = place_of ws (ask_behind l o)
+
   abbrev pub next : List Noted
-  next = copied f gs t l
+  next = copied home gs t l
 
   are_taken : AreTaken l bs
   are_taken = are-taken t S l r.entries_are
@@ -278,26 +283,26 @@ module _ (t : ℕ) (l : List Noted) (S : State) (r : Reads l S) where
   all_backed = are-backed l bs r.legal are_taken
 
   entries_next : entries next ≡ ws
-  entries_next = entries-copied gs f t l r.legal ∙ ap (λ (es : List Written). copies_with t es gs) r.entries_are
+  entries_next = entries-copied gs home t l r.legal ∙ ap (λ (es : List Written). copies_with t es gs) r.entries_are
 
-  placed : ArePlaced gs f t l
-  placed = are-placed gs f t ws (λ n. refl) l [] (sym entries_next ∙ sym (append-nil (entries next))) all_backed
+  placed : ArePlaced gs f home t l
+  placed = are-placed gs f home t ws (λ n. refl) l [] (sym entries_next ∙ sym (append-nil (entries next))) all_backed (λ o lt. refl)
 
   legal_next : Legal next
-  legal_next = legal-copied f gs t l r.legal all_backed placed
+  legal_next = legal-copied f home gs t l r.legal all_backed placed
 
   link-agrees : (p : Peer) → S.moment ≤ t → Agrees (after t S) next p (link_of (turned t S).links p)
   link-agrees p later = subst (Agrees (after t S) next p) (sym (turned-link t ws S.links p)) (by (of_peer p ws) refl)
     where
       known : knows next p ≡ of_peer p ws
-      known = known-copied p f gs t l (are-sound gs f t l all_backed) ∙ ap (of_peer p) entries_next
+      known = known-copied p home gs t l (are-sound gs f home t l all_backed) ∙ ap (of_peer p) entries_next
 
       by : (b : Bool) → of_peer p ws ≡ b → Agrees (after t S) next p (cond b (kept_link t (link_of S.links p)) empty_link)
       by true is =
           let now = known ∙ is in
-          kept-agrees r.start (after t S) f gs t l p (link_of S.links p) r.legal refl (reads-from l t S r later, reads-later l t S r later)
-          ((r.links_are p).known ∙ (known-before p f gs t l r.legal now ∙ sym now)) (r.links_are p)
-      by false is = none-agrees (after t S) f gs t l p (known ∙ is)
+          kept-agrees r.start (after t S) home gs t l p (link_of S.links p) r.legal refl (reads-from l t S r later, reads-later l t S r later)
+          ((r.links_are p).known ∙ (known-before p home gs t l r.legal now ∙ sym now)) (r.links_are p)
+      by false is = none-agrees (after t S) home gs t l p (known ∙ is)
 
   pub reads-copied : S.moment ≤ t → fault_of t S ≡ None → Reads next (turned t S)
   reads-copied later fit = record {
@@ -305,22 +310,22 @@ module _ (t : ℕ) (l : List Noted) (S : State) (r : Reads l S) where
     few = few-left t S fit;
     entries_are = entries_next;
     legal = legal_next;
-    sealed_is = sealed-copied f gs t l;
+    sealed_is = sealed-copied home gs t l;
     moment_is =
-        let old = newest-copied f gs t l r.legal in let new = reads-later l t S r later in
+        let old = newest-copied home gs t l r.legal in let new = reads-later l t S r later in
         omega (arith, old, new);
-    opened_are = subst (λ (b : Bool). IsNextConn b (opened next) S.opened) (sym (has-copied f gs t l)) (let none = opened-copied f gs t l in omega (arith, none));
-    opens_are = let none = opens-copied f gs t l in omega (arith, none);
-    issued_are = let none = none-issued f gs t l in omega (arith, none);
-    conns_are = conns-copied f gs t l;
-    readers_are = readers-copied f gs t l;
-    keys = none-open f gs t l;
+    opened_are = subst (λ (b : Bool). IsNextConn b (opened next) S.opened) (sym (has-copied home gs t l)) (let none = opened-copied home gs t l in omega (arith, none));
+    opens_are = let none = opens-copied home gs t l in omega (arith, none);
+    issued_are = let none = none-issued home gs t l in omega (arith, none);
+    conns_are = conns-copied home gs t l;
+    readers_are = readers-copied home gs t l;
+    keys = none-open home gs t l;
     exchanges_are = tt;
     pieces_are = record { fetched = tt; below = tt };
     stales_are = record { kept = tt; below = tt };
-    watches_are = ap (map held_of) (unwatched f gs t l);
+    watches_are = ap (map held_of) (unwatched home gs t l);
     store_is = store-turned ws t l bs r.legal are_taken placed legal_next;
-    tokens_are = issued-copied (λ (m : Content). token_number m.token < S.issued) f gs t l r.tokens_are;
+    tokens_are = issued-copied (λ (m : Content). token_number m.token < S.issued) home gs t l r.tokens_are;
     waiting_are = tt;
     links_are = λ p. link-agrees p later;
   }
@@ -347,7 +352,7 @@ rotates-keeps t S k later fit =
       reading = next t l S r;
       rests = record {
         reads = reads-copied t l S r later fit;
-        quiet = unowed-copied (place_of ws) (carried_numbers (taken t S)) t l;
+        quiet = unowed-copied (λ (o : ℕ). place_of ws (ask_behind l o)) (carried_numbers (taken t S)) t l;
         links = λ p. subst (LinkRests (ticked (next t l S r))) (sym (turned-link t ws S.links p)) (rests-undue t (ticked (next t l S r)) (of_peer p ws) (link_of S.links p));
         in_time = tt;
         served = tt;

@@ -8,14 +8,15 @@ use Rattle.cache_key.specs.Keys.{same_place}
 use Rattle.journal_book.specs.Entries.{Deed, Asks, Sends, Hears, Passes}
 use Rattle.observe_share.specs.declared.registration.Registration.{Registration}
 use Rattle.history_laws.specs.Readings.{Noted, Note, Begins, First, Says, noted, Renews}
-use Rattle.history_laws.specs.Exchanges.{Nothing, Sent, begun, end_by, end_here, end_of, replies, kept as kept_of}
+use Rattle.history_laws.specs.Exchanges.{Nothing, Sent, begun, end_by, end_here, end_of, kept as kept_of, heard_for}
 use Rattle.history_laws.specs.Joining.{outrun}
 use Rattle.history_laws.specs.Justified.{Legal}
 use Rattle.history_laws.specs.Observing.{Watch, asked_again, asked_by, current_by, is_current, is_for, watches, watches_by}
 use Rattle.history_laws.proofs.CallerLemmas.{all-filter, all-more, all-passes, any-of, EndsWrite, find-any, find-some, outrun-quiet, write-outruns}
 use Rattle.exchange_model.specs.declared.kept.Exchange.{Exchange}
 use Rattle.exchange_model.specs.State.{State}
-use Rattle.exchange_model.specs.Steps.{asked_in, is_written_late}
+use Rattle.exchange_model.specs.Matters.{asked_in}
+use Rattle.exchange_model.specs.Hearing.{is_written_late}
 use Rattle.exchange_model.specs.Watching.{is_written_by}
 use Rattle.exchange_model.specs.Reads.{ExchangeIn, Reads}
 use Rattle.exchange_model.proofs.Lists.{all-map}
@@ -37,7 +38,7 @@ none-ends l t (Hears p b) (Says m to notice) h o = absurd h
 none-ends l t Passes note h o = absurd h
 none-ends l t (Sends p b w) (First q m) h o = by (eqb q o)
   where
-    by : (b : Bool) → end_by (end_here (begun l o) (kept_of l o) (length l) (replies l o) (cond b (Sent (length l)) Nothing)) (length l) (end_of l o) ≡ end_of l o
+    by : (b : Bool) → end_by (end_here (begun l o) (kept_of l o) (length l) (heard_for l o) (cond b (Sent (length l)) Nothing)) (length l) (end_of l o) ≡ end_of l o
     by true = refl
     by false = refl
 none-ends l t d note h o = refl
@@ -79,12 +80,12 @@ watches-current (x ∷ older) legal = current-step older x.written.moment x.writ
 
 -- It stays so unless a write to its place ends.
 module _ (x : Noted) (l : List Noted) (S : State) (r : Reads l S) (legal : Legal (x ∷ l)) (over : List Exchange) (ends : EndsThose x l S over) where
-  writes-it : (f : Exchange) (a : ExchangeIn r.start l f) (held : Registration) → is_written_by (asked_in S.entries f.opening) held ≡ writes_to held.key.place a.request
+  writes-it : (f : Exchange) (a : ExchangeIn r.start l f) (held : Registration) → is_written_by (asked_in S.entries f.ask) held ≡ writes_to held.key.place a.request
   writes-it f a held = ap (λ (q : Option CoapRequest). is_written_by q held) (asked-here l S r f a)
 
   by-write : (held : Registration) → is_written_late S.entries over held ≡ true → EndsWrite x l held.key.place
   by-write held any =
-      let tells : Exchange → Bool = λ e. is_written_by (asked_in S.entries e.opening) held in
+      let tells : Exchange → Bool = λ e. is_written_by (asked_in S.entries e.ask) held in
       let found = find-any tells over any in
       let it = find-some tells over found.0 found.1 in
       let a = kept x l S r legal found.0 (ends.ended found.0 it.0).0 in
@@ -94,7 +95,7 @@ module _ (x : Noted) (l : List Noted) (S : State) (r : Reads l S) (legal : Legal
   none-writes : (held : Registration) → is_written_late S.entries over held ≡ false → EndsWrite x l held.key.place → ⊥
   none-writes held none h =
       let g = write-of x l S r legal over ends held.key.place h in
-      false≢true (sym none ∙ any-of (λ (e : Exchange). is_written_by (asked_in S.entries e.opening) held) over g.0 g.1 (writes-it g.0 g.2 held ∙ g.3))
+      false≢true (sym none ∙ any-of (λ (e : Exchange). is_written_by (asked_in S.entries e.ask) held) over g.0 g.1 (writes-it g.0 g.2 held ∙ g.3))
 
   pub current-after : (w : Watch) → w.held.opening < length l → is_current l w ≡ true → is_current (x ∷ l) w ≡ not (is_written_late S.entries over w.held)
   current-after w below is = by (is_written_late S.entries over w.held) refl

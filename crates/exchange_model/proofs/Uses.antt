@@ -14,7 +14,7 @@ use Rattle.ask_model.specs.Sharing.{asked_key}
 use Rattle.ask_model.specs.Views.{Ask}
 use Rattle.journal_book.specs.Entries.{Deed, Asks, Carries}
 use Rattle.history_laws.specs.Readings.{Noted, Note, Serves, carries, noted, at}
-use Rattle.history_laws.specs.Exchanges.{end_of, begun, end_here, kept, replies, turn}
+use Rattle.history_laws.specs.Exchanges.{end_of, begun, end_here, kept, turn, heard_for}
 use Rattle.history_laws.specs.Joining.{outrun}
 use Rattle.history_laws.specs.Observing.{counting, outdated}
 use Rattle.history_laws.specs.Storing.{IsServing, IsUnused, IsUse, IsUsedSince, KeysDiffer, IsCrowdedOut, first_in}
@@ -100,7 +100,7 @@ use-back x l n key legal (inr (inl h)) other =
     }))
 use-back x l n key legal (inr (inr h)) other =
     let old : end_of l h.opening ≡ Some (record { number = n; how = Renewed h.kept h.reply }) =
-    elim (end-old (end_here (begun l h.opening) (kept l h.opening) (length l) (replies l h.opening) (turn l h.opening x)) (length l) (end_of l h.opening) _ h.ended) [
+    elim (end-old (end_here (begun l h.opening) (kept l h.opening) (length l) (heard_for l h.opening) (turn l h.opening x)) (length l) (end_of l h.opening) _ h.ended) [
       | inl was ↦ was
       | inr new ↦ absurd (other (sym new.1))
     ] in

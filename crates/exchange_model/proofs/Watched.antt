@@ -1,5 +1,6 @@
 -- Lists of what is observed, and what asks to observe.
 use Rattle.std.proofs.Common.{◌≡◌, ℕ, Bool, true, false, cond, not, ◌&&◌, ◌||◌, eqb, leb, List, [], ◌∷◌, Option, Some, None, refl, sym, ap, ◌∙◌}
+use Rattle.history_laws.specs.Justified.{Legal}
 use Rattle.std.specs.Prelude.{find}
 use Rattle.std.specs.List.{list_any}
 use Rattle.std.specs.Str.{bytes_eq}
@@ -16,7 +17,6 @@ use Rattle.observe_share.specs.declared.notice.Notice.{Notice as Told}
 use Rattle.observe_share.specs.declared.notice.Notice.TheVariants.{Update}
 use Rattle.observe_share.specs.Watches.{counted, counts_for, heard_by, in_place, noticed}
 use Rattle.observe_share.specs.Watches as W
-use Rattle.ask_model.specs.Sharing.{is_get}
 use Rattle.history_laws.specs.Readings.{Noted, at, before}
 use Rattle.history_laws.specs.Progress.{Reply}
 use Rattle.history_laws.specs.Exchanges.{replies}
@@ -27,11 +27,10 @@ use Rattle.history_links.specs.Steps.{ended_token}
 use Rattle.exchange_model.specs.declared.kept.Exchange.{Exchange}
 use Rattle.exchange_model.specs.State.{State, link_of}
 use Rattle.exchange_model.specs.Reads.{ExchangeIn}
-use Rattle.exchange_model.proofs.Answered.{start}
 use Rattle.exchange_model.proofs.Apart.{AreApart, comes_to}
 use Rattle.exchange_model.proofs.Over.{reset-empty}
 use Rattle.exchange_model.proofs.Watches.{and-no, eq-turn, no-one-comes, or-no, others-apart}
-use Rattle.exchange_model.proofs.Handed.{wants-may}
+use Rattle.exchange_model.proofs.Handed.{reads-get}
 
 -- lists of registrations
 
@@ -110,11 +109,10 @@ ended-elsewhere q token tok n t (s ∷ rs) r is away gone = by (W.is_under tok s
     by false found ih = ap (λ (b : Bool). comes_to q token s || b) (ih found)
 
 -- What asks to observe is a GET.
-pub observing-get : {start : Start} (l : List Noted) (e : Exchange) (a : ExchangeIn start l e) → e.observes ≡ true → eqb a.request.method 1 ≡ true
-observing-get l e a is =
+pub observing-get : {start : Start} (l : List Noted) (e : Exchange) → Legal l → (a : ExchangeIn start l e) → e.observes ≡ true → eqb a.request.method 1 ≡ true
+observing-get l e legal a is =
     let wants = unreplied (wants_in (before l e.opening) (at l e.opening)) (replies l e.opening) (a.observes ∙ is) in
-    let may = wants-may (before l e.opening) a.conn a.ask a.note a.request a.opens (sym (ap (wants_in (before l e.opening)) a.stands) ∙ wants) in
-    (and_parts (eqb a.request.method 1) _ (and_parts (is_get a.request) _ may).0).0
+    (and_parts (eqb a.request.method 1) _ (reads-get l e.opening _ legal a.opening wants)).0
   where
     unreplied : (b : Bool) (ss : List Reply) → unless_replied b ss ≡ true → b ≡ true
     unreplied b [] f = f

@@ -1,5 +1,8 @@
 -- What is kept of an exchange is of the kind that its request asks for, and was begun anew three times at most.
 use Rattle.std.proofs.Common.{◌≡◌, ◌≢◌, ℕ, ◌+◌, ◌≤◌, Bool, true, false, cond, eqb, List, [], ◌∷◌, ◌++◌, length, Option, Some, Ok, Err, refl, sym, ap, subst, ◌∙◌, arith}
+use Rattle.exchange_model.proofs.Lists.{all-map}
+use Rattle.history_laws.specs.Observing.{Watch, watches}
+use Rattle.observe_share.specs.declared.registration.Registration.{Registration}
 use Rattle.std.specs.Prelude.{fold, is_some}
 use Rattle.std.specs.List.{AllByRecursion}
 use Rattle.std.proofs.lemmas.Bool.{eq-eqb, eqb-false, false≢true}
@@ -15,19 +18,19 @@ use Rattle.ask_model.specs.Requests.{CoapRequest}
 use Rattle.ask_model.specs.Sharing.{asked_key}
 use Rattle.history_laws.specs.Readings.{Noted}
 use Rattle.history_laws.specs.Responses.{is_tellable}
-use Rattle.history_laws.specs.Exchanges.{replies}
+use Rattle.history_laws.specs.Exchanges.{heard_for}
 use Rattle.history_laws.specs.Progress.{Reply, NotUnderstood, Progress, Fetches, Gives, Ends, anew, answered_so, fetched_by, first_progress, progress, step}
-use Rattle.history_laws.proofs.CallerLemmas.{all-more, eqb-apart, eqb-same, some-is}
+use Rattle.history_laws.proofs.CallerLemmas.{all-more, eqb-apart, eqb-same, some-is, watches-fit, WatchFits}
 use Rattle.history_links.specs.Agrees.{Start}
 use Rattle.exchange_model.specs.declared.kept.Exchange.{Exchange}
 use Rattle.exchange_model.specs.declared.kept.Work.{Work}
 use Rattle.exchange_model.specs.declared.kept.Work.TheVariants as W
 use Rattle.exchange_model.specs.State.{State}
-use Rattle.exchange_model.specs.Reads.{ExchangeIn, got_in}
+use Rattle.exchange_model.specs.Reads.{ExchangeIn, got_in, held_of}
 use Rattle.exchange_model.specs.Growing.{IsFewTimes, IsWorkOf}
 use Rattle.exchange_model.specs.Keeping.{Kept}
-use Rattle.exchange_model.specs.Steps.{IsDigested, asked_in, progress_with}
-use Rattle.exchange_model.proofs.Outrun.{asked-here}
+use Rattle.exchange_model.specs.Matters.{IsDigested, asked_in, progress_with}
+use Rattle.exchange_model.proofs.Outrun.{asked-here, asked-by}
 
 abbrev IsFor : CoapRequest → Progress → Type 0
 IsFor q (Fetches k p got) = (eqb q.method 1 ≡ true) × (k ≤ 3)
@@ -88,7 +91,7 @@ comes-get q w got more r restarts pieces of few is =
     by (W.Gives upload) of few = (eqb-apart q.method 1 of.0, of.1)
 
 pub work-of : {start : Start} (l : List Noted) (e : Exchange) (a : ExchangeIn start l e) → IsWorkOf a.request e.work × IsFewTimes e.work
-work-of l e a = by e.work (subst (IsFor a.request) a.progress (for-progress a.request (replies l e.opening)))
+work-of l e a = by e.work (subst (IsFor a.request) a.progress (for-progress a.request (heard_for l e.opening)))
   where
     get : (n : ℕ) → eqb n 1 ≡ false → n ≢ 1
     get n other same = false≢true (sym other ∙ subst (λ (k : ℕ). eqb k 1 ≡ true) (sym same) refl)
@@ -100,8 +103,8 @@ work-of l e a = by e.work (subst (IsFor a.request) a.progress (for-progress a.re
 -- Each was asked for, and what is kept of it is what that asks for.
 abbrev pub IsAskedIn : State → Exchange → Type 0
 IsAskedIn S e =
-    (is_some (asked_in S.entries e.opening) ≡ true)
-    × ((q : CoapRequest) → asked_in S.entries e.opening ≡ Some q → IsWorkOf q e.work)
+    (is_some (asked_in S.entries e.ask) ≡ true)
+    × ((q : CoapRequest) → asked_in S.entries e.ask ≡ Some q → IsWorkOf q e.work)
 
 pub all-asked-for : (S : State) → Kept S → AllByRecursion (IsAskedIn S) S.exchanges
 all-asked-for S k =
@@ -126,3 +129,14 @@ pub restarts-few : (S : State) → Kept S → AllByRecursion (λ (e : Exchange).
 restarts-few S k =
     let l = k.reading in let r = k.rests.reads in
     all-more (ExchangeIn r.start l) (λ (e : Exchange). IsFewTimes e.work) (λ (e : Exchange) a. (work-of l e a).1) S.exchanges r.exchanges_are
+
+-- What is observed was asked for by an ask that stands in the entries.
+pub all-watched-for : (S : State) → Kept S → AllByRecursion (λ (w : Registration). is_some (asked_in S.entries w.opening) ≡ true) S.watches
+all-watched-for S k =
+    let l = k.reading in let r = k.rests.reads in
+    subst (AllByRecursion (λ (w : Registration). is_some (asked_in S.entries w.opening) ≡ true)) r.watches_are
+    (all-map held_of (λ (w : Registration). is_some (asked_in S.entries w.opening) ≡ true) (watches l)
+    (all-more (WatchFits l) _ (λ (w : Watch) a.
+    let it = a.for_it in
+    ap (λ (v : Option CoapRequest). is_some v)
+    (asked-by l S r w.held.opening it.conn it.ask a.exchange.request (record { moment = a.exchange.since; note = it.note; stands = it.stands }) it.sense)) (watches l) (watches-fit l r.legal)))

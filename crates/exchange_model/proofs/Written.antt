@@ -10,7 +10,7 @@ use Rattle.observe_share.specs.declared.registration.Registration.{Registration}
 use Rattle.observe_share.specs.declared.notice.Notice.{Notice as Told}
 use Rattle.observe_share.specs.declared.notice.Notice.TheVariants.{Update, Other}
 use Rattle.observe_share.specs.Watches.{counted, counts_for, first_changed, in_place, without}
-use Rattle.history_laws.specs.Readings.{Noted, Says, Observation, Unobserved, Registers, Updates, Outdates, Cancels, Notice}
+use Rattle.history_laws.specs.Readings.{Noted, Says, Observation, Unobserved, Registers, Updates, Outdates, Cancels, Notice, Starts}
 use Rattle.history_laws.specs.Transmissions.{FirstSending, first_at}
 use Rattle.history_laws.specs.Exchanges.{Begun}
 use Rattle.history_laws.specs.Observing.{Watch, held_by, is_current, is_under, notice_in, registered, registered_of, told_by, watch_for, watches, watches_by}
@@ -20,7 +20,8 @@ use Rattle.exchange_model.specs.declared.kept.Exchange.{Exchange}
 use Rattle.exchange_model.specs.State.{State}
 use Rattle.exchange_model.specs.Watching.{is_written_by}
 use Rattle.exchange_model.specs.Reads.{held_of, Reads}
-use Rattle.exchange_model.specs.Steps.{asked_in, is_written_late}
+use Rattle.exchange_model.specs.Matters.{asked_in}
+use Rattle.exchange_model.specs.Hearing.{is_written_late}
 use Rattle.exchange_model.proofs.Outrun.{EndsThose}
 use Rattle.exchange_model.proofs.Unwritten.{current-after, watches-current}
 use Rattle.exchange_model.proofs.Watches.{map-filtered, or-no}
@@ -84,6 +85,7 @@ told-stand l t p b m (Some i) notice legal follows = by notice.observation refl
     by Registers e = new (registering l t m i (is.observation ∙ e))
     by Updates e = changed
     by Outdates e = changed
+    by (Starts ask request) e = changed
     by Cancels e = changed
 
 -- What ends at an entry, and is a write to its place, ends it.
@@ -103,5 +105,5 @@ none-dropped [] = refl
 none-dropped (r ∷ rs) = ap (λ (ss : List Registration). r ∷ ss) (none-dropped rs)
 
 pub one-written : (S : State) (e : Exchange) (rs : List Registration)
-    → without (is_written_late S.entries (e ∷ [])) rs ≡ without (is_written_by (asked_in S.entries e.opening)) rs
-one-written S e rs = filter_agree _ _ (λ r. ap not (or-no (is_written_by (asked_in S.entries e.opening) r))) rs
+    → without (is_written_late S.entries (e ∷ [])) rs ≡ without (is_written_by (asked_in S.entries e.ask)) rs
+one-written S e rs = filter_agree _ _ (λ r. ap not (or-no (is_written_by (asked_in S.entries e.ask) r))) rs

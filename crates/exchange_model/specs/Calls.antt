@@ -1,14 +1,14 @@
 -- What each call does: an input, and all that is due because of it.
-use Rattle.std.specs.Prelude.{◌≡◌, ℕ, Bool, false, ◌&&◌, ◌||◌, ◌==◌, nat_lt, nat_le, List, [], ◌∷◌, ◌++◌, length, map, filter, filter_map, fold, Option, Some, None, option_map, is_some, unwrap_or, Result, Ok, Err, if◌then◌else◌}
+use Rattle.std.specs.Prelude.{◌≡◌, ℕ, Bool, false, ◌&&◌, ◌||◌, ◌==◌, nat_le, List, [], ◌∷◌, ◌++◌, length, map, filter, filter_map, fold, Option, Some, None, option_map, is_some, unwrap_or, Result, Ok, Err, if◌then◌else◌}
 use Rattle.std.specs.List.{find, list_any}
 use Rattle.std.specs.Option.{option_map_or}
-use Rattle.limits.specs.declared.TheConstants.{MAX_DATAGRAM_LEN, MAX_EXCHANGES, MAX_MESSAGE_IDS, MAX_WAITING}
+use Rattle.limits.specs.declared.TheConstants.{MAX_DATAGRAM_LEN}
 use Rattle.coap_codec.specs.Spelling.{Content}
 use Rattle.coap_codec.specs.Reading.{message_at}
 use Rattle.coap_codec.specs.declared.fault.CodecFault.{CodecFault}
 use Rattle.uri_map.specs.declared.peer.Peer.{Peer}
 use Rattle.message_layer.specs.Values.{LinkState}
-use Rattle.message_layer.specs.Sending.{due_of, mids_in_use}
+use Rattle.message_layer.specs.Sending.{due_of}
 use Rattle.message_layer.specs.Hearing.{is_repeat, replies, reset_for, verdict_of}
 use Rattle.message_layer.specs.declared.state.Outstanding.{Outstanding}
 use Rattle.message_layer.specs.declared.state.Waiting.{Waiting}
@@ -30,7 +30,10 @@ use Rattle.history_laws.specs.Progress.{numbers, Ending, Whole, Renewed, NotUnde
 use Rattle.exchange_model.specs.declared.kept.Exchange.{Exchange}
 use Rattle.exchange_model.specs.declared.kept.Reader.{Reader}
 use Rattle.exchange_model.specs.State.{PeerLink, State, link_of}
-use Rattle.exchange_model.specs.Steps.{asks, answers, begins, joins, asked_in, recalls, confirms, hears_nothing, Numbers, Matter, Goes, Over, matter_of, hears, sends_first, sends_copy, expires, timed_out, passes}
+pub use Rattle.exchange_model.specs.Matters.{has_place}
+use Rattle.exchange_model.specs.Steps.{asks, answers, begins, joins, recalls, confirms, hears_nothing, sends_first, sends_copy}
+use Rattle.exchange_model.specs.Matters.{asked_in, Matter, Goes, Starts, Over, matter_of}
+use Rattle.exchange_model.specs.Hearing.{Numbers, hears, expires, timed_out, passes}
 
 -- The message that waits first goes out where nothing is outstanding (RFC 7252 section 4.7).
 abbrev pub next_by : ℕ → Peer → Option Outstanding → List Waiting → State → State
@@ -46,16 +49,9 @@ abbrev pub refused : ℕ → ℕ → Ask → Cause → State → State
 refused t c a cause S =
     answers t c (length S.entries) (Fault cause (length S.entries)) (asks t c a S)
 
--- a place among the open exchanges, one among the messages that wait at the endpoint, and an ID
-abbrev pub has_place : ℕ → Peer → State → Bool
-has_place t p S =
-    nat_lt (length S.exchanges) MAX_EXCHANGES
-    && (nat_lt (length (link_of S.links p).waiting) MAX_WAITING
-    && nat_lt (mids_in_use t (link_of S.links p)) MAX_MESSAGE_IDS)
-
 -- the open exchange that a GET joins: that of an equal one, where no write has outrun it
 abbrev pub is_joined : List Written → CoapRequest → Exchange → Bool
-is_joined ws q e = e.current && option_map_or (asks_same q) (asked_in ws e.opening) false
+is_joined ws q e = e.current && option_map_or (asks_same q) (asked_in ws e.ask) false
 
 abbrev pub joined : CoapRequest → State → Option Exchange
 joined q S = find (is_joined S.entries q) S.exchanges
@@ -106,8 +102,9 @@ tells t S x = answers t x.reader.conn x.reader.ask x.grounds S
 abbrev pub is_reader_of : Exchange → Reader → Bool
 is_reader_of e r = r.opening == e.opening
 
--- on which grounds the reader is told that its exchange ended so, by the entry with this number: the latest first
--- sending is named where it took too long, or the ask itself where nothing was sent
+-- on which grounds the reader is told that its exchange ended so, by the entry with this number:
+-- the latest first sending is named where it took too long, or the ask itself where nothing was
+-- sent
 abbrev pub grounds_for : Ending → ℕ → Option ℕ → Reader → Grounds
 grounds_for (Whole w rs) n sending r = Live (numbers rs)
 grounds_for (Renewed s u) n sending r = Live (s.list ++ u.number ∷ [])
@@ -159,9 +156,11 @@ heard t p d n S =
     if is_some (link_of S.links p).last_mid && nat_le (length d) MAX_DATAGRAM_LEN
     then reads_so t p d n (message_at d) S else S
 
--- The exchange that goes on by the datagram, and how: where it brings a new message that is a reply to it.
+-- The exchange that goes on by the datagram, or begins, and how: where it brings a new message that
+-- is a reply to it, or the first piece of an update.
 abbrev pub goes_with : Matter → Option (Exchange × Progress)
 goes_with (Goes e progress) = Some (e, progress)
+goes_with (Starts r e progress) = Some (e, progress)
 goes_with matter = None
 
 abbrev pub goes_as : ℕ → Peer → Result Content CodecFault → State → Option (Exchange × Progress)

@@ -30,7 +30,9 @@ use Rattle.journal_book.specs.Entries.{Kept, Fault, Deed, Asks, Sends, Hears, Pa
 use Rattle.exchange_model.specs.declared.kept.Exchange.{Exchange}
 use Rattle.exchange_model.specs.Watching.{is_one_of, is_renewed_by, tokens_of, touched_for}
 use Rattle.exchange_model.specs.State.{PeerLink, State, link_of, with_link}
-use Rattle.exchange_model.specs.Steps.{entered, exchange_for, reader_for, joins, left_by, Numbers, Matter, Nothing, matter_of, more_by, issued_by, exchanges_by, gone_by, kept_for, pieces_by, stale_for, stales_by, store_by, watches_by, is_of_none, is_stale_of_none, is_unwatched, retired, given_out, went_out, timed_out, goes_on, is_gone}
+use Rattle.exchange_model.specs.Steps.{entered, exchange_for, reader_for, joins, kept_for, stale_for, given_out, went_out}
+use Rattle.exchange_model.specs.Matters.{left_by, Matter, Nothing, matter_of}
+use Rattle.exchange_model.specs.Hearing.{Numbers, more_by, issued_by, exchanges_by, gone_by, pieces_by, stales_by, store_by, watches_by, is_of_none, is_stale_of_none, is_unwatched, retired, timed_out, goes_on, is_gone}
 use Rattle.exchange_model.specs.Calls.{Telling, told_for, told_late, has_place, served_in, IsAlone, joined, asked, heard, something_due, ticked}
 use Rattle.exchange_model.specs.Keeping.{MayStep, IsNumbered, MayGoOn}
 
@@ -116,8 +118,8 @@ answer_of x = Answers x.reader.conn x.reader.ask x.grounds
 abbrev pub confirm : Peer → List ℕ → Deed
 confirm p bytes = Sends p bytes None
 
--- the message that goes out next: the first that waits, where what was outstanding has ended; and the one that is
--- taken in the same step, where nothing waits and nothing is outstanding
+-- the message that goes out next: the first that waits, where what was outstanding has ended; and
+-- the one that is taken in the same step, where nothing waits and nothing is outstanding
 abbrev pub is_free : Verdict → LinkState → Bool
 is_free v s = v.ends || not (is_some s.outstanding)
 
@@ -125,8 +127,8 @@ abbrev pub next_out : Verdict → LinkState → Option Waiting → Option Waitin
 next_out v s None = in_turn v.ends s.waiting
 next_out v s (Some w) = in_turn (is_free v s) (s.waiting ++ w ∷ [])
 
--- What a message is to the exchanges and to what is observed, what is observed after it, the tokens under which
--- nothing is expected any more, and the message that an exchange goes on with.
+-- What a message is to the exchanges and to what is observed, what is observed after it, the tokens
+-- under which nothing is expected any more, and the message that an exchange goes on with.
 pub record Effect : Type 0 where
   pub matter : Matter
   pub watches : List Registration

@@ -17,7 +17,9 @@ use Rattle.exchange_model.specs.declared.kept.Reader.{Reader}
 use Rattle.exchange_model.specs.declared.kept.Work.{Work}
 use Rattle.exchange_model.specs.declared.kept.Work.TheVariants as W
 use Rattle.exchange_model.specs.State.{State, conns_after}
-use Rattle.exchange_model.specs.Steps.{shuts, seals, stale_in, Numbers}
+use Rattle.exchange_model.specs.Steps.{shuts, seals}
+use Rattle.exchange_model.specs.Matters.{stale_in}
+use Rattle.exchange_model.specs.Hearing.{Numbers}
 use Rattle.exchange_model.specs.Calls.{is_reader_of}
 use Rattle.exchange_model.specs.Room.{KeptInRoom}
 use Rattle.exchange_model.specs.Sealing.{opens_in_room, asks_in_room, hears_in_room, late, ticks_in_room}
@@ -94,7 +96,8 @@ HasNoClient ws = AllByRecursion (λ (w : Written). by_client w.deed ≡ false) w
 
 abbrev pub HearsAnswer : Type 0
 HearsAnswer =
-    (t : ℕ) (p : Peer) (d : List ℕ) (n : Numbers) (S : State) (x : Adds t S (hears_in_room t p d n S))
+    (t : ℕ) (p : Peer) (d : List ℕ) (n : Numbers) (S : State)
+    (x : Adds t S (hears_in_room t p d n S))
     → HasNoClient x.more
 
 abbrev pub TicksAnswer : Type 0
@@ -120,7 +123,8 @@ RiseByAsk (x ∷ xs) = AllByRecursion (λ (y : Reader). x.ask < y.ask) xs × Ris
 abbrev pub ReadersRise : Type 0
 ReadersRise = (S : State) → KeptInRoom S → RiseByAsk S.readers
 
--- What is kept of a GET is what it fetches, and of any other request how much of its body was taken.
+-- What is kept of a GET is what it fetches, and of any other request how much of its body was
+-- taken.
 abbrev pub IsWorkOf : CoapRequest → Work → Type 0
 IsWorkOf q (W.Fetches restarts pieces) = q.method ≡ 1
 IsWorkOf q (W.Gives upload) = (q.method ≢ 1) × (upload.len ≡ length q.body)
@@ -205,8 +209,8 @@ pub record IsKeptIn (S : State) (s : Stored) : Type 0 where
   pub renewed : s.response
       ≡ record response { format = s.response.format; max_age = s.response.max_age }
 
--- What is renewed was kept so, and the last of its list is the 2.03 by which it was renewed: at that
--- moment.
+-- What is renewed was kept so, and the last of its list is the 2.03 by which it was renewed: at
+-- that moment.
 pub record IsRenewedIn (S : State) (p : Pair) : Type 0 where
   pub kept : Stored
   pub was : IsKeptIn S kept
@@ -220,7 +224,8 @@ pub record IsRenewedIn (S : State) (p : Pair) : Type 0 where
 
 abbrev pub StoreHeard : Type 0
 StoreHeard =
-    (S : State) → KeptInRoom S → AllByRecursion (λ (p : Pair). IsHeardIn S p ⊎ IsRenewedIn S p) S.store
+    (S : State) → KeptInRoom S
+    → AllByRecursion (λ (p : Pair). IsHeardIn S p ⊎ IsRenewedIn S p) S.store
 
 -- So was what an open exchange asks about.
 abbrev pub StalesHeard : Type 0

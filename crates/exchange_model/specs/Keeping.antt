@@ -19,7 +19,8 @@ use Rattle.history_laws.specs.Justified.{Stands}
 use Rattle.observe_share.specs.declared.registration.Registration.{Registration}
 use Rattle.exchange_model.specs.declared.kept.Exchange.{Exchange}
 use Rattle.exchange_model.specs.State.{State, link_of}
-use Rattle.exchange_model.specs.Steps.{opens, shuts, seals, asks_so, Numbers}
+use Rattle.exchange_model.specs.Steps.{opens, shuts, seals, asks_so}
+use Rattle.exchange_model.specs.Hearing.{Numbers}
 use Rattle.exchange_model.specs.Resting.{LinkRests, Rests, HasConn}
 use Rattle.exchange_model.specs.Calls.{has_place, IsAlone, asked, goes_by, heard, ticked}
 
@@ -101,7 +102,8 @@ AsksKeeps =
 -- Where an exchange goes on by the datagram, its next message may follow.
 abbrev pub MayGoOn : ℕ → Peer → List ℕ → Numbers → State → Type 0
 MayGoOn t p d n S =
-    (e : Exchange) (progress : Progress) → goes_by t p d S ≡ Some (e, progress) → IsContinued e progress n S
+    (e : Exchange) (progress : Progress) → goes_by t p d S ≡ Some (e, progress)
+    → IsContinued e progress n S
 
 abbrev pub HearsKeeps : Type 0
 HearsKeeps =
@@ -112,8 +114,8 @@ HearsKeeps =
 abbrev pub TicksKeeps : Type 0
 TicksKeeps = (t : ℕ) (S : State) → MayStep t S → Kept (ticked t S)
 
--- After a tick nothing is due at its moment: no copy, no message that waits, no end of an exchange, and
--- no watch for what nobody asks any more.
+-- After a tick nothing is due at its moment: no copy, no message that waits, no end of an exchange,
+-- and no watch for what nobody asks any more.
 pub record IsDone (t : ℕ) (S : State) : Type 0 where
   pub links : (p : Peer) → LinkRests t (link_of S.links p)
   pub in_time : AllByRecursion (λ (e : Exchange). t < e.since + MAX_TRANSMIT_WAIT) S.exchanges

@@ -30,8 +30,10 @@ use Rattle.history_links.specs.Agrees.{due}
 use Rattle.history_links.specs.Steps.{MaySend, copy, first, heard, reset}
 use Rattle.exchange_model.specs.State.{State, link_of}
 use Rattle.exchange_model.specs.Reads.{Reads}
-use Rattle.exchange_model.specs.Calls.{served_in}
-use Rattle.exchange_model.specs.Steps.{opens, asks, answers, shuts, seals, asked_in, asks_so, begins, kept_for, opening_note, recalls, joins, confirms, hears_nothing, sends_first, sends_copy, Numbers, Goes, matter_of, hears, passes}
+use Rattle.exchange_model.specs.Calls.{goes_with, served_in}
+use Rattle.exchange_model.specs.Steps.{opens, asks, answers, shuts, seals, asks_so, begins, kept_for, opening_note, recalls, joins, confirms, hears_nothing, sends_first, sends_copy}
+use Rattle.exchange_model.specs.Matters.{asked_in, matter_of}
+use Rattle.exchange_model.specs.Hearing.{Numbers, hears, passes}
 use Rattle.exchange_model.specs.declared.kept.Exchange.{Exchange}
 use Rattle.history_laws.specs.Progress.{Progress, next_message}
 
@@ -76,7 +78,8 @@ AnswersLeads =
 abbrev pub AsksLeads : Type 0
 AsksLeads =
     (l : List Noted) (t c : ℕ) (a : Ask) (S : State)
-    → Before l t S → MayCome l → MayAsk l c → AskNote l t a.sense Plain → UnservedNote l t a.sense Plain
+    → Before l t S → MayCome l → MayAsk l c → AskNote l t a.sense Plain
+    → UnservedNote l t a.sense Plain
     → Leads l (noted t (Asks c a) Plain) (asks t c a S)
 
 -- A GET is served what is stored, while that is fresh.
@@ -90,7 +93,8 @@ RecallsLeads =
 abbrev pub JoinsLeads : Type 0
 JoinsLeads =
     (l : List Noted) (t c : ℕ) (a : Ask) (q : CoapRequest) (o : ℕ) (S : State)
-    → Before l t S → MayCome l → MayAsk l c → a.sense ≡ Requests q → MissesAlone l t q → H.joins l q ≡ Some o
+    → Before l t S → MayCome l → MayAsk l c → a.sense ≡ Requests q → MissesAlone l t q
+    → H.joins l q ≡ Some o
     → Leads l (noted t (Asks c a) (Joins o)) (joins t c a o S)
 
 -- Any other opens an exchange, and its message waits last. It asks about what is stored for it and
@@ -100,10 +104,12 @@ BeginsLeads =
     (l : List Noted) (t c : ℕ) (a : Ask) (q : CoapRequest) (token text : List ℕ) (word : ℕ)
     (S : State)
     → Before l t S → MayCome l → MayAsk l c
-    → a.sense ≡ Requests q → MissesAlone l t q → H.joins l q ≡ None → has_room l t q ≡ true → length q.body ≤ MAX_BODY_LEN
+    → a.sense ≡ Requests q → MissesAlone l t q → H.joins l q ≡ None → has_room l t q ≡ true
+    → length q.body ≤ MAX_BODY_LEN
     → Spells (opening_message (asks_so t a q S) q 0 token) text
     → length token ≡ 8 → token_number token ≡ S.issued
-    → Leads l (noted t (Asks c a) (opening_note q (kept_for t a q S))) (begins t c a q token text word S)
+    → Leads l (noted t (Asks c a) (opening_note q (kept_for t a q S)))
+    (begins t c a q token text word S)
 
 -- The message that waits first at an endpoint goes out where nothing is outstanding there.
 abbrev pub FirstLeads : Type 0
@@ -158,10 +164,10 @@ GarbledLeads =
     → ((m : Content) → Spells m d → ⊥)
     → Heeds l (noted t (Hears p d) Garbled) (reset p (reset_for d)) (hears_nothing t p d S)
 
--- Where an exchange goes on by it, its next message is spelled under the next token.
+-- Where an exchange goes on by it, or begins, its next message is spelled under the next token.
 pub record IsContinued (e : Exchange) (progress : Progress) (n : Numbers) (S : State) : Type 0 where
   pub request : CoapRequest
-  pub asked : asked_in S.entries e.opening ≡ Some request
+  pub asked : asked_in S.entries e.ask ≡ Some request
   pub message : Content
   pub next : next_message Plainly request progress 0 n.token ≡ Some message
   pub spelled : Spells message n.text
@@ -172,7 +178,8 @@ abbrev pub HearsLeads : Type 0
 HearsLeads =
     (l : List Noted) (t : ℕ) (p : Peer) (d : List ℕ) (m : Content) (n : Numbers) (S : State)
     → MayHear l t p d S → Spells m d → repeated l t p m ≡ None → can_be_remembered l t p m ≡ true
-    → ((e : Exchange) (progress : Progress) → matter_of t p m (verdict_on t p m S) S ≡ Goes e progress
+    → ((e : Exchange) (progress : Progress)
+    → goes_with (matter_of t p m (verdict_on t p m S) S) ≡ Some (e, progress)
     → IsContinued e progress n S)
     → Heeds l (heard l t p d m) (due p m.mid (verdict_on t p m S).reply) (hears t p d m n S)
 

@@ -2,6 +2,8 @@ pub mod Watching
 pub mod State
 pub mod Reads
 pub mod Steps
+pub mod Matters
+pub mod Hearing
 pub mod Resting
 pub mod Backing
 pub mod Rotating

@@ -12,16 +12,15 @@ use Rattle.resp_cache.specs.Stores.{is_of}
 use Rattle.resp_cache.specs.declared.pair.Pair.{Pair}
 use Rattle.ask_model.specs.Requests.{CoapRequest}
 use Rattle.ask_model.specs.Sharing.{asked_key, asked_place, is_get}
-use Rattle.ask_model.specs.Views.{Ask}
 use Rattle.journal_book.specs.Entries.{Deed, Opens, Asks}
 use Rattle.history_laws.specs.Numbering.{token_number}
 use Rattle.history_laws.specs.Joining.{outrun}
 use Rattle.history_laws.specs.Storing.{IsStored, IsUse, IsUnused, IsCrowdedOut, first_in}
-use Rattle.history_laws.specs.Readings.{Noted, Note, Begins, Renews, Joins, entries, at, newest, noted}
+use Rattle.history_laws.specs.Readings.{Noted, Note, Begins, Renews, Joins, entries, newest}
 use Rattle.history_laws.specs.Connections.{is_sealed, opened, has_opened}
 use Rattle.history_laws.specs.Transmissions.{FirstSending, firsts, first_at, sent_last, bears_token}
 use Rattle.history_laws.specs.Progress.{Reply, numbers, progress}
-use Rattle.history_laws.specs.Exchanges.{Begun, begun, issued, kept, opens_by, rank, replies, waits_for, open_exchanges}
+use Rattle.history_laws.specs.Exchanges.{Begun, begun, ask_behind, heard_for, issued, kept, rank, replies, waits_for, open_exchanges}
 use Rattle.history_laws.specs.Justified.{Legal, IsNextConn}
 use Rattle.history_laws.specs.Observing.{Watch, asked_last, observes, outdated, watches}
 use Rattle.history_links.specs.Agrees.{Start, Agrees}
@@ -31,7 +30,8 @@ use Rattle.exchange_model.specs.declared.kept.Piece.{Piece}
 use Rattle.exchange_model.specs.declared.kept.Reader.{Reader}
 use Rattle.exchange_model.specs.declared.kept.Stale.{Stale}
 use Rattle.exchange_model.specs.State.{State, link_of, conns_after, readers_after}
-use Rattle.exchange_model.specs.Steps.{got_by, numbers_of, progress_with, stale_in}
+use Rattle.exchange_model.specs.Matters.{numbers_of, progress_with, stale_in}
+use Rattle.exchange_model.specs.Hearing.{got_by}
 
 -- the connections that are open, each with its ask that waits
 abbrev pub conns_of : List Noted → List Conn
@@ -68,7 +68,7 @@ got_for None rs = []
 got_for (Some b) rs = got_by (progress b.request rs)
 
 abbrev pub got_in : List Noted → ℕ → List Reply
-got_in l o = got_for (begun l o) (replies l o)
+got_in l o = got_for (begun l o) (heard_for l o)
 
 -- No notification that counts for the key came since the first of these replies.
 abbrev pub IsNewest : List Noted → CacheKey → List Reply → Bool → Type 0
@@ -100,14 +100,11 @@ pub record ExchangeIn (start : Start) (l : List Noted) (e : Exchange) : Type 0 w
   pub newest : is_get request ≡ true → IsNewest l (asked_key request) (got_in l e.opening) e.newest
   pub newest_kept : (s : Stored) → kept_in l e.opening ≡ Some s
       → outdated l (asked_key request) (first_in s.list) ≡ not e.newest
-  pub progress : progress request (replies l e.opening) ≡ progress_with e.work (got_in l e.opening)
+  pub progress : progress request (heard_for l e.opening) ≡ progress_with e.work
+      (got_in l e.opening)
   pub short : length request.body ≤ MAX_BODY_LEN
   pub digests : digests_of (asked_key request) ≡ e.digests
-  pub conn : ℕ
-  pub ask : Ask
-  pub note : Note
-  pub opens : opens_by note ≡ Some request
-  pub stands : at l e.opening ≡ Some (noted e.since (Asks conn ask) note)
+  pub behind : ask_behind l e.opening ≡ e.ask
 
 -- The pieces are the replies by which the open exchanges go on.
 pub record PiecesIn (l : List Noted) (es : List Exchange) (xs : List Piece) : Type 0 where

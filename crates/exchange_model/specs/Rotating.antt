@@ -19,7 +19,9 @@ use Rattle.journal_book.specs.Entries.{Mark, Ground, Past, Done, Sent, Heard, do
 use Rattle.history_laws.specs.Hearing.{is_such}
 use Rattle.exchange_model.specs.declared.kept.Exchange.{Exchange}
 use Rattle.exchange_model.specs.State.{PeerLink, State}
-use Rattle.exchange_model.specs.Steps.{asked_in, is_past, is_piece_at}
+use Rattle.exchange_model.specs.Steps.{is_piece_at}
+use Rattle.exchange_model.specs.Matters.{asked_in}
+use Rattle.exchange_model.specs.Hearing.{is_past}
 use Rattle.exchange_model.specs.Backing.{backing}
 use Rattle.exchange_model.specs.Keeping.{Kept}
 use Rattle.exchange_model.specs.Room.{KeptInRoom}
@@ -121,7 +123,7 @@ are_few ws = nat_le (length ws) MAX_COPIES && nat_le (sum_by entry_size ws) MAX_
 -- renewed isn't. A write to its place that is open yet has no end in the journal, and may have
 -- changed what was read.
 abbrev pub writes_at : List Written → Place → Exchange → Bool
-writes_at ws place e = option_map_or (writes_to place) (asked_in ws e.opening) false
+writes_at ws place e = option_map_or (writes_to place) (asked_in ws e.ask) false
 
 abbrev pub may_carry : ℕ → State → Pair → Bool
 may_carry t S p =
@@ -247,7 +249,8 @@ RotatesKeeps = (t : ℕ) (S : State) → Kept S → S.moment ≤ t → fault_of 
 
 abbrev pub RotatesInRoom : Type 0
 RotatesInRoom =
-    (t : ℕ) (S : State) → KeptInRoom S → S.moment ≤ t → fault_of t S ≡ None → KeptInRoom (turned t S)
+    (t : ℕ) (S : State) → KeptInRoom S → S.moment ≤ t → fault_of t S ≡ None
+    → KeptInRoom (turned t S)
 
 -- Each link gave out all before it, and so it has after it.
 abbrev pub RotatesDrained : Type 0

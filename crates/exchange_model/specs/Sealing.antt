@@ -10,7 +10,8 @@ use Rattle.journal_book.specs.Entries.{Deed, Answers, Written}
 use Rattle.exchange_model.specs.declared.kept.Reader.{Reader}
 use Rattle.exchange_model.specs.declared.kept.Exchange.{Exchange}
 use Rattle.exchange_model.specs.State.{State}
-use Rattle.exchange_model.specs.Steps.{opens, shuts, seals, is_past, Numbers}
+use Rattle.exchange_model.specs.Steps.{opens, shuts, seals}
+use Rattle.exchange_model.specs.Hearing.{is_past, Numbers}
 use Rattle.exchange_model.specs.Resting.{HasConn}
 use Rattle.exchange_model.specs.Calls.{has_place, IsAlone, asked, goes_by, is_reader_of, tells, told_late, heard, ticked}
 use Rattle.exchange_model.specs.Keeping.{start, IsProper, IsNumbered, MayGoOn}

@@ -25,7 +25,8 @@ touched t (Refuses cause status) rs = rs
 abbrev pub is_renewed_by : CoapRequest → Registration → Bool
 is_renewed_by q r = is_get q && is_of (asked_key q) r
 
--- Its first message asks to observe where its server may be observed, and fewer others are than may be.
+-- Its first message asks to observe where its server may be observed, and fewer others are than may
+-- be.
 abbrev pub wants : Ask → CoapRequest → List Registration → Bool
 wants a q rs = may_observe a.rules q && nat_lt (length (without (is_renewed_by q) rs)) most_watches
 
@@ -45,10 +46,12 @@ registration_of t m e (Some q) = record {
   asked = e.asked;
 } ∷ []
 
-abbrev pub registered : ℕ → Content → Exchange → Option CoapRequest → List Registration → List Registration
+abbrev pub registered : ℕ → Content → Exchange → Option CoapRequest → List Registration
+    → List Registration
 registered t m e asked rs = if registers m e rs then rs ++ registration_of t m e asked else rs
 
--- A CON or NON under the token of one is a notification, which counts where it is newer (RFC 7641 section 3.4).
+-- A CON or NON under the token of one is a notification, which counts where it is newer (RFC 7641
+-- section 3.4).
 abbrev pub counts_to : ℕ → Content → Registration → Bool
 counts_to t m r = is_such m.kind && counts_for (notice_in m) t r
 

@@ -4,7 +4,8 @@ use Rattle.history_laws.specs.Readings.{entries}
 use Rattle.history_laws.specs.Worked.{server, ask_for, host, token, con, empty_ack}
 use Rattle.history_laws.specs.WorkedMessages.{get_light, put_light, get_bytes, content_bytes, changed_bytes, all_answered, given_up}
 use Rattle.exchange_model.specs.State.{State}
-use Rattle.exchange_model.specs.Steps.{opens, Numbers}
+use Rattle.exchange_model.specs.Steps.{opens}
+use Rattle.exchange_model.specs.Hearing.{Numbers}
 use Rattle.exchange_model.specs.Calls.{asked, heard, ticked}
 use Rattle.exchange_model.specs.Keeping.{start}
 
@@ -28,7 +29,8 @@ unused = numbers 2 []
 -- The GET goes out again, an ACK lets the PUT go, and the response comes by itself.
 abbrev pub one_answered : State
 one_answered =
-    heard 5000 server content_bytes unused (heard 2100 server (empty_ack 0) unused (ticked 2000 one_waits))
+    heard 5000 server content_bytes unused
+    (heard 2100 server (empty_ack 0) unused (ticked 2000 one_waits))
 
 -- It comes again, the PUT goes out again, and its response comes.
 abbrev pub both_answered : State

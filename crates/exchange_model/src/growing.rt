@@ -52,8 +52,8 @@ pub fn connections_rise()
     ensures rise { ConnsRise }
 {}
 
-/// What is stored was heard whole, in entries of the journal, or in those that it has copies of; so was
-/// what open exchanges ask about.
+/// What is stored was heard whole, in entries of the journal, or in those that it has copies of; so
+/// was what open exchanges ask about.
 pub fn stored_was_heard()
     ensures stored { StoreHeard }
     ensures kept { StalesHeard }

@@ -18,6 +18,9 @@ pub struct Conn {
 #[derive(Clone, Copy)]
 pub struct Exchange {
     pub opening: u32,
+    /// the ask that it goes back to: its opening, or where a notification opened it, the ask by
+    /// which the proxy became an observer (RFC 7641 section 3.2)
+    pub ask: u32,
     /// what its latest message is sent under (RFC 7252 section 5.3.1)
     pub token: Token,
     /// the moment of its opening
@@ -57,8 +60,8 @@ pub enum Work {
     Gives(Upload),
 }
 
-/// A reply by which an open exchange goes on, by the number of the entry in which it was heard: a piece
-/// that it has fetched, or the answer to one of its body.
+/// A reply by which an open exchange goes on, by the number of the entry in which it was heard: a
+/// piece that it has fetched, or the answer to one of its body.
 #[derive(Clone, Copy)]
 pub struct Piece {
     /// the entry that opened the exchange
@@ -66,8 +69,9 @@ pub struct Piece {
     pub number: u32,
 }
 
-/// A stored response that isn't fresh any more, and has an ETag: the exchange that this entry opened asks
-/// whether it is valid still, and nothing has come to that yet (RFC 7252 section 5.6.2).
+/// A stored response that isn't fresh any more, and has an ETag: the exchange that this entry
+/// opened asks whether it is valid still, and nothing has come to that yet (RFC 7252 section
+/// 5.6.2).
 #[derive(Drop)]
 pub struct Stale {
     /// the entry that opened the exchange

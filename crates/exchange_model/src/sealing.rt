@@ -33,8 +33,8 @@ pub fn ticks_keep_room()
     ensures sealed { SealedAnswers }
 {}
 
-/// A journal that begins with copies of one that is given out stands, is within its limits, and says
-/// what the state after the turn says.
+/// A journal that begins with copies of one that is given out stands, is within its limits, and
+/// says what the state after the turn says.
 pub fn rotation_keeps()
     ensures keeps { RotatesKeeps }
     ensures room { RotatesInRoom }
