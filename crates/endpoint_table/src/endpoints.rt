@@ -158,6 +158,19 @@ impl Endpoints {
         }
     }
 
+    /// Whether the link of the endpoint, of which something was asked before, has a place for a
+    /// message.
+    pub fn check(&self, peer: &Peer, moment: u64) -> Result<(), LinkFault>
+        requires early { moment ≤ LAST_MOMENT }
+        requires known { is_some (link_of self.now.links peer.now).last_mid ≡ true }
+        ensures { IsSubmitted moment (link_of self.now.links peer.now) result }
+    {
+        match self.hints.look_up(&self.rows, peer) {
+            Some(place) => rows::check_at(&self.rows, place, moment),
+            None => unreachable!(),
+        }
+    }
+
     /// Prepares that the link of the endpoint takes a message after the datagram that was prepared
     /// at this moment: one that is spelled already, as a CON under message ID 0. It waits after all
     /// that waits once the datagram was heard, and is sent at once where nothing is outstanding

@@ -225,6 +225,16 @@ pub fn prepare_heard_at(
     prepare_heard(&mut rows[place], datagram, moment)
 }
 
+/// Whether the link in this place has a place for a message.
+pub fn check_at(rows: &[Endpoint], place: usize, moment: u64) -> Result<(), LinkFault>
+    requires place { place < length rows.now }
+    requires early { moment ≤ LAST_MOMENT }
+    ensures { (p : PeerValue) → IsFirstAt p (map peer_link rows.now) place
+        → IsSubmitted moment (link_of (map peer_link rows.now) p) result }
+{
+    rows[place].link.check(moment)
+}
+
 /// Prepares that the link in this place takes a message after the datagram that was prepared.
 pub fn prepare_more_at(
     rows: &[Endpoint],

@@ -83,6 +83,15 @@ impl Link {
         Ok(())
     }
 
+    /// Whether there is a place for a message: among those that wait, and a message ID that isn't in
+    /// use (RFC 7252 sections 4.4, 4.7).
+    pub fn check(&self, moment: u64) -> Result<(), LinkFault>
+        requires { moment ≤ LAST_MOMENT }
+        ensures { IsSubmitted moment self.now.state result }
+    {
+        sending::check(&self.state, moment)
+    }
+
     /// Prepares to take a message that is already encoded, as a CON under message ID 0. It
     /// allocates all that `submit_prepared` needs, and changes nothing else.
     pub fn prepare_submit(
