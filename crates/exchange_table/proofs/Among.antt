@@ -16,7 +16,8 @@ use Rattle.ask_model.specs.Requests.{CoapRequest, Sense, Requests, Refuses}
 use Rattle.ask_model.specs.Sharing.{asked_key, asked_place, is_get, place_written}
 use Rattle.journal_book.specs.Entries.{Written}
 use Rattle.exchange_model.specs.declared.kept.Exchange.{Exchange}
-use Rattle.exchange_model.specs.Steps.{IsDigested, asked_in, outdated_by, reads_key, request_in}
+use Rattle.exchange_model.specs.Matters.{IsDigested, asked_in, is_reading, reads_key, request_in}
+use Rattle.exchange_model.specs.Hearing.{outdated_by}
 use Rattle.exchange_table.specs.declared.marks.Mark.{Mark}
 use Rattle.exchange_table.specs.Marks.{AreMarked, has_digest, key_in, mark_by, place_in}
 use Rattle.exchange_table.specs.Outrunning.{only_at, outdates, outrun_with}
@@ -162,11 +163,11 @@ halves-apart a b is = elim (eqb_tells a b) [
 
 pub outrun-settles : (w : Option CoapRequest) (ws : List Written) → Settles (outrun_with w ws)
 outrun-settles w ws = record {
-  once = λ e. once e (outdates w (asked_in ws e.opening)) refl;
-  opening = λ e. opening e (outdates w (asked_in ws e.opening));
+  once = λ e. once e (outdates w (asked_in ws e.ask)) refl;
+  opening = λ e. opening e (outdates w (asked_in ws e.ask));
 }
   where
-    once : (e : Exchange) (b : Bool) → outdates w (asked_in ws e.opening) ≡ b
+    once : (e : Exchange) (b : Bool) → outdates w (asked_in ws e.ask) ≡ b
         → outrun_with w ws (cond b (record e { current = false }) e) ≡ cond b (record e { current = false }) e
     once e true is = ap (λ (c : Bool). cond c (record e { current = false }) (record e { current = false })) is
     once e false is = ap (λ (c : Bool). cond c (record e { current = false }) e) is
@@ -179,14 +180,14 @@ pub outrun-others : (ws : List Written) (sense : Sense) (k : CacheKey) (es : Lis
     → AllByRecursion (λ (e : Exchange). eqb (place_in e.digests) (place_in (digests_of k)) ≡ false → outrun_with (request_in sense) ws e ≡ e) es
 outrun-others ws sense k es at digested =
     all-more (IsDigested ws) (λ (e : Exchange). eqb (place_in e.digests) (place_in (digests_of k)) ≡ false → outrun_with (request_in sense) ws e ≡ e)
-    (λ e h is. ap (λ (b : Bool). cond b (record e { current = false }) e) (no sense at e h is (asked_in ws e.opening) refl)) es digested
+    (λ e h is. ap (λ (b : Bool). cond b (record e { current = false }) e) (no sense at e h is (asked_in ws e.ask) refl)) es digested
   where
     written : (r : CoapRequest) (b : Bool) → Some k.place ≡ cond b None (Some (asked_place r)) → k.place ≡ asked_place r
     written r true e = absurd (none-some k.place (sym e))
     written r false e = some-is k.place (asked_place r) e
 
     no : (s : Sense) → Some k.place ≡ place_written s → (e : Exchange) → IsDigested ws e → eqb (place_in e.digests) (place_in (digests_of k)) ≡ false
-        → (v : Option CoapRequest) → asked_in ws e.opening ≡ v → outdates (request_in s) v ≡ false
+        → (v : Option CoapRequest) → asked_in ws e.ask ≡ v → outdates (request_in s) v ≡ false
     no (Refuses cause status) so e h is None asks = refl
     no (Refuses cause status) so e h is (Some q) asks = refl
     no (Requests r) so e h is None asks = refl
@@ -201,11 +202,11 @@ outrun-others ws sense k es at digested =
 
 pub outdated-settles : (ws : List Written) (key : CacheKey) → Settles (outdated_by ws key)
 outdated-settles ws key = record {
-  once = λ e. once e (option_map_or (reads_key key) (asked_in ws e.opening) false) refl;
-  opening = λ e. opening e (option_map_or (reads_key key) (asked_in ws e.opening) false);
+  once = λ e. once e (option_map_or (reads_key key) (asked_in ws e.ask) false) refl;
+  opening = λ e. opening e (option_map_or (reads_key key) (asked_in ws e.ask) false);
 }
   where
-    once : (e : Exchange) (b : Bool) → option_map_or (reads_key key) (asked_in ws e.opening) false ≡ b
+    once : (e : Exchange) (b : Bool) → option_map_or (reads_key key) (asked_in ws e.ask) false ≡ b
         → outdated_by ws key (cond b (record e { newest = false }) e) ≡ cond b (record e { newest = false }) e
     once e true is = ap (λ (c : Bool). cond c (record e { newest = false }) (record e { newest = false })) is
     once e false is = ap (λ (c : Bool). cond c (record e { newest = false }) e) is
@@ -214,17 +215,21 @@ outdated-settles ws key = record {
     opening e true = refl
     opening e false = refl
 
-pub outdated-others : (ws : List Written) (key : CacheKey) (es : List Exchange) → AllByRecursion (IsDigested ws) es
-    → AllByRecursion (λ (e : Exchange). eqb (key_in e.digests) (key_in (digests_of key)) ≡ false → outdated_by ws key e ≡ e) es
-outdated-others ws key es digested =
-    all-more (IsDigested ws) (λ (e : Exchange). eqb (key_in e.digests) (key_in (digests_of key)) ≡ false → outdated_by ws key e ≡ e)
-    (λ e h is. ap (λ (b : Bool). cond b (record e { newest = false }) e) (no e h is (asked_in ws e.opening) refl)) es digested
+-- what has another digest doesn't read what is under the key
+pub not-reading : (ws : List Written) (key : CacheKey) (e : Exchange) → IsDigested ws e
+    → eqb (key_in e.digests) (key_in (digests_of key)) ≡ false → is_reading ws key e ≡ false
+not-reading ws key e h is = no (asked_in ws e.ask) refl
   where
-    no : (e : Exchange) → IsDigested ws e → eqb (key_in e.digests) (key_in (digests_of key)) ≡ false
-        → (v : Option CoapRequest) → asked_in ws e.opening ≡ v → option_map_or (reads_key key) v false ≡ false
-    no e h is None asks = refl
-    no e h is (Some q) asks =
+    no : (v : Option CoapRequest) → asked_in ws e.ask ≡ v → option_map_or (reads_key key) v false ≡ false
+    no None asks = refl
+    no (Some q) asks =
         let whole : eqb e.digests.key (digests_of key).key ≡ false = halves-apart e.digests.key (digests_of key).key is in
         let other : same_key (asked_key q) key ≡ false =
         sym (keys_told_by (asked_key q) key e.digests (digests_of key) (sym (h q asks)) refl (apart e.digests.key (digests_of key).key whole)) ∙ whole in
         ap (λ (b : Bool). is_get q && b) other ∙ and-false (is_get q)
+
+pub outdated-others : (ws : List Written) (key : CacheKey) (es : List Exchange) → AllByRecursion (IsDigested ws) es
+    → AllByRecursion (λ (e : Exchange). eqb (key_in e.digests) (key_in (digests_of key)) ≡ false → outdated_by ws key e ≡ e) es
+outdated-others ws key es digested =
+    all-more (IsDigested ws) (λ (e : Exchange). eqb (key_in e.digests) (key_in (digests_of key)) ≡ false → outdated_by ws key e ≡ e)
+    (λ e h is. ap (λ (b : Bool). cond b (record e { newest = false }) e) (not-reading ws key e h is)) es digested

@@ -12,7 +12,9 @@ use Rattle.history_laws.proofs.CallerLemmas.{all-filter, all-more, all-push}
 use Rattle.exchange_model.proofs.CallerLemmas.{not-under}
 use Rattle.exchange_model.specs.declared.kept.Exchange.{Exchange}
 use Rattle.exchange_model.specs.declared.kept.Work.{Work}
-use Rattle.exchange_model.specs.Steps.{continued, goes_so, got_by, is_other, is_under, newest_by, went_out, work_by}
+use Rattle.exchange_model.specs.Steps.{is_under, went_out}
+use Rattle.exchange_model.specs.Matters.{is_other, work_by}
+use Rattle.exchange_model.specs.Hearing.{continued, goes_so, got_by, newest_by}
 use Rattle.exchange_table.specs.declared.index.Named.{Named}
 use Rattle.exchange_table.specs.Places.{RiseBy, IsNowhere, IsOnlyAt}
 use Rattle.exchange_table.specs.Tables.{IsIndexed, IsLatest, IsNewest, has_number, is_named, is_opened_at, name_of, named_anew, opening_in, opening_under, number_in, number_of, opening_of, carried_on, went_on}

@@ -13,7 +13,7 @@ use Rattle.ask_model.proofs.CallerLemmas.{same-key}
 use Rattle.journal_book.specs.Entries.{Written}
 use Rattle.exchange_model.specs.declared.kept.Exchange.{Exchange}
 use Rattle.exchange_model.specs.Calls.{is_joined}
-use Rattle.exchange_model.specs.Steps.{IsDigested, asked_in}
+use Rattle.exchange_model.specs.Matters.{IsDigested, asked_in}
 use Rattle.exchange_table.specs.declared.marks.Mark.{Mark}
 use Rattle.exchange_table.specs.Joining.{is_joined_by, is_joined_marked}
 use Rattle.exchange_table.specs.Marks.{AreMarked, has_digest, key_in, mark_by}
@@ -86,8 +86,8 @@ and-first : (b c : Bool) → (b && c) ≡ true → b ≡ true
 and-first true c h = refl
 and-first false c h = absurd (false≢true h)
 
-same-of : (ws : List Written) (q : CoapRequest) (e : Exchange) → is_joined ws q e ≡ true → (v : Option CoapRequest) → asked_in ws e.opening ≡ v
-    → (r : CoapRequest) × (asked_in ws e.opening ≡ Some r) × (asks_same q r ≡ true)
+same-of : (ws : List Written) (q : CoapRequest) (e : Exchange) → is_joined ws q e ≡ true → (v : Option CoapRequest) → asked_in ws e.ask ≡ v
+    → (r : CoapRequest) × (asked_in ws e.ask ≡ Some r) × (asks_same q r ≡ true)
 same-of ws q e h None is = absurd (false≢true (sym (ap (λ (v : Option CoapRequest). option_map_or (asks_same q) v false) is) ∙ and-second e.current _ h))
 same-of ws q e h (Some r) is = (r, is, sym (ap (λ (v : Option CoapRequest). option_map_or (asks_same q) v false) is) ∙ and-second e.current _ h)
 
@@ -103,7 +103,7 @@ of-digest ws (Requests q) key es is a =
   where
     one : (e : Exchange) → IsDigested ws e → is_joined ws q e ≡ true → eqb (key_in e.digests) (key_in (digests_of key)) ≡ true
     one e digested h =
-        let r = same-of ws q e h (asked_in ws e.opening) refl in
+        let r = same-of ws q e h (asked_in ws e.ask) refl in
         let same : asked_key r.0 ≡ key = sym (same-key q r.0 r.2) ∙ get-read q key (is_get q) is in
         same-as (key_in e.digests) (key_in (digests_of key))
         (ap key_in (sym (digested r.0 r.1)) ∙ ap (λ (k : CacheKey). key_in (digests_of k)) same)
@@ -137,4 +137,4 @@ unread ws s (e ∷ es) none = rw (other s none) (unread ws s es none)
 
     other : (s : Sense) → key_read s ≡ None → is_joined_by ws s e ≡ false
     other (Refuses cause status) is = refl
-    other (Requests q) is = ap (λ (b : Bool). e.current && b) (nothing q (asked_in ws e.opening) (no-get q (is_get q) is)) ∙ and-false e.current
+    other (Requests q) is = ap (λ (b : Bool). e.current && b) (nothing q (asked_in ws e.ask) (no-get q (is_get q) is)) ∙ and-false e.current

@@ -7,7 +7,8 @@ use Rattle.std.proofs.lemmas.Bool.Decides.{eqb_tells}
 use Rattle.std.proofs.lemmas.Slice.Eq.{bytes_eq-Decides}
 use Rattle.history_laws.proofs.CallerLemmas.{all-filter, all-more}
 use Rattle.exchange_model.specs.declared.kept.Exchange.{Exchange}
-use Rattle.exchange_model.specs.Steps.{is_other, is_under}
+use Rattle.exchange_model.specs.Steps.{is_under}
+use Rattle.exchange_model.specs.Matters.{is_other}
 use Rattle.exchange_table.specs.declared.index.Named.{Named}
 use Rattle.exchange_table.specs.Places.{RiseBy}
 use Rattle.exchange_table.specs.Tables.{IsIndexed, has_number, is_opened_at, is_under_none, name_of, number_of, opening_of}

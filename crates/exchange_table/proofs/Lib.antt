@@ -9,4 +9,5 @@ mod Owning
 mod Marking
 mod Joined
 mod Among
+mod AnyRead
 mod Leaving

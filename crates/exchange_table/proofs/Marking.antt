@@ -12,7 +12,9 @@ use Rattle.cache_key.specs.Keys.{CacheKey}
 use Rattle.journal_book.specs.Entries.{Written}
 use Rattle.exchange_model.specs.declared.kept.Exchange.{Exchange}
 use Rattle.exchange_model.specs.declared.kept.Work.{Work}
-use Rattle.exchange_model.specs.Steps.{asked_in, is_under, outdated_by, outrun_by, outruns, reads_key, went_out}
+use Rattle.exchange_model.specs.Steps.{is_under, went_out}
+use Rattle.exchange_model.specs.Matters.{asked_in, outrun_by, outruns, reads_key}
+use Rattle.exchange_model.specs.Hearing.{outdated_by}
 use Rattle.exchange_table.specs.declared.index.Named.{Named}
 use Rattle.exchange_table.specs.declared.marks.Mark.{Mark}
 use Rattle.exchange_table.specs.Groups.{AreGrouped}
@@ -78,14 +80,14 @@ on-marks token next work first n e = by (is_under token e)
     by false = refl
 
 pub outdated-marks : (ws : List Written) (key : CacheKey) → KeepsMarks (outdated_by ws key)
-outdated-marks ws key n e = by (option_map_or (reads_key key) (asked_in ws e.opening) false)
+outdated-marks ws key n e = by (option_map_or (reads_key key) (asked_in ws e.ask) false)
   where
     by : (b : Bool) → mark_by n (cond b (record e { newest = false }) e) ≡ mark_by n e
     by true = refl
     by false = refl
 
 pub left-marks : (ws : List Written) (over : List Exchange) → KeepsMarks (outrun_by ws over)
-left-marks ws over n e = by (list_any (outruns ws (asked_in ws e.opening)) over)
+left-marks ws over n e = by (list_any (outruns ws (asked_in ws e.ask)) over)
   where
     by : (b : Bool) → mark_by n (cond b (record e { current = false }) e) ≡ mark_by n e
     by true = refl

@@ -8,7 +8,8 @@ use Rattle.std.proofs.lemmas.List.Sums.{length-filter, count_by-le-length}
 use Rattle.history_laws.proofs.CallerLemmas.{all-more}
 use Rattle.exchange_model.specs.declared.kept.Exchange.{Exchange}
 use Rattle.exchange_model.specs.declared.kept.Piece.{Piece}
-use Rattle.exchange_model.specs.Steps.{is_of_none, is_piece_of}
+use Rattle.exchange_model.specs.Matters.{is_piece_of}
+use Rattle.exchange_model.specs.Hearing.{is_of_none}
 use Rattle.exchange_table.specs.Fetched.{AreOwned, is_not_of, is_number, is_of_another, itself}
 use Rattle.exchange_table.specs.Places.{RiseBy, IsNowhere, IsOnlyAt}
 use Rattle.exchange_table.specs.Tables.{is_opened_at}

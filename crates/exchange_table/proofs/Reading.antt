@@ -8,7 +8,9 @@ use Rattle.ask_model.specs.Requests.{CoapRequest, Sense, Requests, Refuses}
 use Rattle.ask_model.specs.Sharing.{asked_key, is_get, key_read}
 use Rattle.journal_book.specs.Entries.{Written}
 use Rattle.exchange_model.specs.declared.kept.Exchange.{Exchange}
-use Rattle.exchange_model.specs.Steps.{asked_in, outdated_by, read_at, reads_key, request_in}
+use Rattle.exchange_model.specs.Steps.{read_at}
+use Rattle.exchange_model.specs.Matters.{asked_in, is_reading, reads_key, request_in}
+use Rattle.exchange_model.specs.Hearing.{outdated_by}
 use Rattle.exchange_table.specs.Places.{IsNowhere, IsOnlyAt}
 use Rattle.exchange_table.specs.Tables.{is_opened_at, name_of}
 use Rattle.exchange_table.proofs.Standing.{map-none, map-only, only-is}
@@ -26,7 +28,7 @@ read-only t o es i d h = map-only (is_opened_at o) (read_at t o) es i d (not-rea
     ∙ ap (set es i) (ap (λ (b : Bool). record (get_or es i d) { asked = cond b t (get_or es i d).asked }) (only-is (is_opened_at o) es i d h))
 
 pub outdated-names : (ws : List Written) (key : CacheKey) (e : Exchange) → name_of (outdated_by ws key e) ≡ name_of e
-outdated-names ws key e = by (option_map_or (reads_key key) (asked_in ws e.opening) false)
+outdated-names ws key e = by (option_map_or (reads_key key) (asked_in ws e.ask) false)
   where
     by : (b : Bool) → name_of (cond b (record e { newest = false }) e) ≡ name_of e
     by true = refl
@@ -59,21 +61,16 @@ reads-none (Requests q) key e = by (is_get q) e
     by true h = absurd (none-some (asked_key q) h)
     by false h = refl
 
-pub outdated-if : (ws : List Written) (key : CacheKey) (e : Exchange) (sense : Sense) (b : Bool)
-    → request_in sense ≡ asked_in ws e.opening → option_map_or (reads_key key) (request_in sense) false ≡ b
-    → cond b (record e { newest = false }) e ≡ outdated_by ws key e
-outdated-if ws key e sense b is so =
-    ap (λ (v : Bool). cond v (record e { newest = false }) e)
-    (sym so ∙ ap (λ (q : Option CoapRequest). option_map_or (reads_key key) q false) is)
+pub is-read : (ws : List Written) (key read : CacheKey) (e : Exchange) (sense : Sense) (b : Bool)
+    → request_in sense ≡ asked_in ws e.ask → Some read ≡ key_read sense → same_key key read ≡ b
+    → b ≡ is_reading ws key e
+is-read ws key read e sense b is at so =
+    sym so ∙ sym (reads-so sense read key at) ∙ ap (λ (q : Option CoapRequest). option_map_or (reads_key key) q false) is
 
-pub outdated-reads : (ws : List Written) (key read : CacheKey) (e : Exchange) (sense : Sense) (b : Bool)
-    → request_in sense ≡ asked_in ws e.opening → Some read ≡ key_read sense → same_key key read ≡ b
-    → cond b (record e { newest = false }) e ≡ outdated_by ws key e
-outdated-reads ws key read e sense b is at so = outdated-if ws key e sense b is (reads-so sense read key at ∙ so)
-
-pub outdated-other : (ws : List Written) (key : CacheKey) (e : Exchange) (sense : Sense)
-    → request_in sense ≡ asked_in ws e.opening → None ≡ key_read sense → e ≡ outdated_by ws key e
-outdated-other ws key e sense is none = outdated-if ws key e sense false is (reads-none sense key none)
+pub is-not-read : (ws : List Written) (key : CacheKey) (e : Exchange) (sense : Sense)
+    → request_in sense ≡ asked_in ws e.ask → None ≡ key_read sense → false ≡ is_reading ws key e
+is-not-read ws key e sense is none =
+    sym (reads-none sense key none) ∙ ap (λ (q : Option CoapRequest). option_map_or (reads_key key) q false) is
 
 -- One more of a list is mapped in its place.
 pub mapped-more : {X : Type 0} (f : X → X) (old : List X) (i : ℕ) (d : X) → i < length old

@@ -3,7 +3,7 @@ use Rattle.std.specs.Prelude.{◌≡◌, ℕ, Bool, not, ◌==◌, List}
 use Rattle.std.specs.List.{list_any}
 use Rattle.exchange_model.specs.declared.kept.Exchange.{Exchange}
 use Rattle.exchange_model.specs.declared.kept.Piece.{Piece}
-use Rattle.exchange_model.specs.Steps.{is_piece_of}
+use Rattle.exchange_model.specs.Matters.{is_piece_of}
 use Rattle.exchange_table.specs.Places.{RiseBy}
 use Rattle.exchange_table.specs.Tables.{is_opened_at}
 

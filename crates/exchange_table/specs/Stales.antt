@@ -1,7 +1,7 @@
 -- What open exchanges ask about.
 use Rattle.std.specs.Prelude.{ℕ, Bool, not, List}
 use Rattle.exchange_model.specs.declared.kept.Stale.{Stale}
-use Rattle.exchange_model.specs.Steps.{is_stale_of}
+use Rattle.exchange_model.specs.Matters.{is_stale_of}
 
 -- in the order of the openings, and whether one more can be noted without memory
 pub record StalesValue : Type 0 where

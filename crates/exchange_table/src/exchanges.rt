@@ -3,14 +3,16 @@
 ghost use Rattle.std.specs.Prelude.{◌≡◌, ◌∷◌, ◌++◌, [], Bool, true, false, filter, find, length, map, not, IfOk, OnErr, OnOk};
 ghost use Rattle.std.specs.Option.{option_copied};
 ghost use Rattle.exchange_model.specs.declared.kept.Exchange.{Exchange as Row};
-ghost use Rattle.std.specs.List.{AllByRecursion};
-ghost use Rattle.exchange_model.specs.Steps.{IsDigested, is_other, is_under, left_by, outdated_by, read_at, went_out};
+ghost use Rattle.std.specs.List.{AllByRecursion, list_any};
+ghost use Rattle.exchange_model.specs.Steps.{is_under, read_at, went_out};
+ghost use Rattle.exchange_model.specs.Matters.{IsDigested, is_other, is_reading, left_by};
+ghost use Rattle.exchange_model.specs.Hearing.{outdated_by};
 ghost use Rattle.exchange_table.specs.Joining.{is_joined_by};
 ghost use Rattle.exchange_table.specs.Tables.{IsLatest, IsNewest, is_under_none, went_on};
 
 use crate::index::{self, Named};
 use crate::marks::{self, Mark};
-use crate::{joining, outrunning, rows};
+use crate::{joining, keyed, outrunning, rows};
 use ask_model::Mapped;
 use cache_key::{Digests, Key};
 use coap_codec::Token;
@@ -89,6 +91,15 @@ impl Exchanges {
             ≡ find (is_joined_by journal.now.entries mapped.now.sense) self.now.exchanges }
     {
         joining::joined(&self.rows, &self.keys, journal, mapped)
+    }
+
+    /// Whether any of them reads what is under the key. No other is looked at than those whose keys
+    /// have its digest.
+    pub fn is_read<R: Relation>(&self, journal: &Journal<R>, key: &Key) -> bool
+        requires { AllByRecursion (IsDigested journal.now.entries) self.now.exchanges }
+        ensures { result ≡ list_any (is_reading journal.now.entries key.now) self.now.exchanges }
+    {
+        keyed::is_read(&self.rows, &self.keys, journal, key)
     }
 
     /// Makes room for one more, so that opening it takes no memory.

@@ -1,7 +1,8 @@
 //! The pieces that open exchanges have fetched.
 
 ghost use Rattle.std.specs.Prelude.{◌≡◌, ◌≤◌, ◌∷◌, ◌++◌, [], true, false, filter, vec_capacity, vec_len, IfOk, OnErr, OnOk};
-ghost use Rattle.exchange_model.specs.Steps.{is_of_none, is_piece_of};
+ghost use Rattle.exchange_model.specs.Matters.{is_piece_of};
+ghost use Rattle.exchange_model.specs.Hearing.{is_of_none};
 ghost use Rattle.std.specs.List.{list_any};
 ghost use Rattle.exchange_table.specs.Fetched.{AreOwned, is_not_of};
 ghost use Rattle.exchange_table.specs.Places.{RiseBy};

@@ -5,7 +5,7 @@ ghost use Rattle.std.specs.List.{AllByRecursion};
 ghost use Rattle.std.specs.Option.{option_copied};
 ghost use Rattle.cache_key.specs.Digests.{digests_of};
 ghost use Rattle.cache_key.specs.Keys.{key_of};
-ghost use Rattle.exchange_model.specs.Steps.{IsDigested};
+ghost use Rattle.exchange_model.specs.Matters.{IsDigested};
 ghost use Rattle.exchange_table.specs.Joining.{is_joined_at, is_joined_by, is_joined_marked};
 ghost use Rattle.exchange_table.specs.Marks.{AreMarked, key_in};
 ghost use Rattle.exchange_table.specs.Places.{RiseBy};
@@ -27,14 +27,14 @@ fn is_joined<R: Relation>(exchange: &Exchange, journal: &Journal<R>, mapped: &Ma
     if !exchange.current {
         return false;
     }
-    match asked(journal, exchange.opening) {
+    match asked(journal, exchange.ask) {
         Some(other) => mapped.asks_same(other),
         None => false,
     }
 }
 
 /// The row that the entry with this number opened.
-fn row_at(rows: &[Exchange], opening: u32) -> Option<&Exchange>
+pub fn row_at(rows: &[Exchange], opening: u32) -> Option<&Exchange>
     requires { RiseBy opening_of rows.now }
     ensures { option_copied result ≡ find (is_opened_at opening) rows.now }
 {

@@ -17,6 +17,7 @@ mod fetched;
 mod groups;
 mod index;
 mod joining;
+mod keyed;
 mod marks;
 mod outrunning;
 mod owners;

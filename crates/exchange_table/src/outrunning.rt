@@ -4,12 +4,14 @@ ghost use Rattle.std.specs.Prelude.{◌≡◌, ◌∷◌, [], map, option_and_th
 ghost use Rattle.std.specs.List.{AllByRecursion};
 ghost use Rattle.cache_key.specs.Digests.{digests_of};
 ghost use Rattle.cache_key.specs.Keys.{key_of};
-ghost use Rattle.exchange_model.specs.Steps.{IsDigested, asked_in, left_by, outdated_by, request_in};
+ghost use Rattle.exchange_model.specs.Matters.{IsDigested, asked_in, left_by, request_in};
+ghost use Rattle.exchange_model.specs.Hearing.{outdated_by};
 ghost use Rattle.exchange_table.specs.Marks.{AreMarked, key_in, place_in};
 ghost use Rattle.exchange_table.specs.Outrunning.{only_at, outrun_with};
 ghost use Rattle.exchange_table.specs.Places.{RiseBy};
 ghost use Rattle.exchange_table.specs.Tables.{opening_of};
 
+use crate::keyed::reads;
 use crate::marks::{Mark, half_of, marked};
 use crate::places::opening_place;
 use ask_model::Mapped;
@@ -33,7 +35,7 @@ pub fn asked<R: Relation>(journal: &Journal<R>, ask: u32) -> Option<&Mapped<R>>
 fn outrun_row<R: Relation>(row: &mut Exchange, journal: &Journal<R>, write: &Mapped<R>)
     ensures { row.new ≡ outrun_with (request_in write.now.sense) journal.now.entries row.old }
 {
-    if let Some(other) = asked(journal, row.opening) {
+    if let Some(other) = asked(journal, row.ask) {
         if write.outdates(other) {
             row.current = false;
         }
@@ -76,7 +78,7 @@ pub fn outrun<R: Relation>(
     requires digested { AllByRecursion (IsDigested journal.now.entries) rows.old }
     ensures { rows.new ≡ left_by journal.now.entries (ended.now ∷ []) rows.old }
 {
-    let Some(write) = asked(journal, ended.opening) else {
+    let Some(write) = asked(journal, ended.ask) else {
         return;
     };
     let Some(place) = write.writing() else {
@@ -92,13 +94,8 @@ pub fn outrun<R: Relation>(
 fn outdate_row<R: Relation>(row: &mut Exchange, journal: &Journal<R>, key: &Key)
     ensures { row.new ≡ outdated_by journal.now.entries key.now row.old }
 {
-    let Some(mapped) = asked(journal, row.opening) else {
-        return;
-    };
-    if let Some(reading) = mapped.reading() {
-        if key.is_of(&reading) {
-            row.newest = false;
-        }
+    if reads(row, journal, key) {
+        row.newest = false;
     }
 }
 

@@ -3,7 +3,8 @@
 ghost use Rattle.std.specs.Prelude.{◌≡◌, [], Some, true, filter, find, map, vec_capacity, vec_len};
 ghost use Rattle.std.specs.Option.{option_copied};
 ghost use Rattle.exchange_model.specs.Calls.{read_by};
-ghost use Rattle.exchange_model.specs.Steps.{is_other, is_under, read_at, went_out};
+ghost use Rattle.exchange_model.specs.Steps.{is_under, read_at, went_out};
+ghost use Rattle.exchange_model.specs.Matters.{is_other};
 ghost use Rattle.exchange_table.specs.Marks.{IsTable};
 ghost use Rattle.exchange_table.specs.Places.{RiseBy};
 ghost use Rattle.exchange_table.specs.Tables.{IsIndexed, IsNewest, carried_on, is_under_none, opening_of, went_on};

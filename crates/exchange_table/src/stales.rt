@@ -3,7 +3,8 @@
 ghost use Rattle.std.specs.Prelude.{◌≡◌, ◌≤◌, ◌<◌, ◌∷◌, ◌++◌, [], None, true, false, filter, length, nat_lt, option_copied, vec_capacity, vec_len, IfOk, IfSome, OnErr, OnOk};
 ghost use Rattle.std.specs.List.{AllByRecursion};
 ghost use Rattle.exchange_model.specs.declared.kept.Stale.{Stale as StaleValue};
-ghost use Rattle.exchange_model.specs.Steps.{is_stale_of, is_stale_of_none, stale_in};
+ghost use Rattle.exchange_model.specs.Matters.{is_stale_of, stale_in};
+ghost use Rattle.exchange_model.specs.Hearing.{is_stale_of_none};
 ghost use Rattle.exchange_table.specs.Places.{RiseBy, IsOnlyAt, IsNowhere};
 ghost use Rattle.exchange_table.specs.Stales.{asked_in, is_about_another};
 ghost use Rattle.exchange_table.specs.Tables.{opening_of};

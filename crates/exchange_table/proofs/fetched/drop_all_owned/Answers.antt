@@ -1,7 +1,7 @@
 use Rattle.std.proofs.Common.{◌≤◌, ℕ, List, length, sym, ap, subst, arith}
 use Rattle.std.specs.Prelude.{filter}
 use Rattle.exchange_model.specs.declared.kept.Piece.{Piece}
-use Rattle.exchange_model.specs.Steps.{is_of_none}
+use Rattle.exchange_model.specs.Hearing.{is_of_none}
 use Rattle.exchange_table.specs.Fetched.{AreOwned, is_of_another}
 use Rattle.exchange_table.proofs.Owning.{none-over, owned-all}
 use Rattle.exchange_table.proofs.fetched.drop_all_owned.Goals as goal

@@ -6,7 +6,7 @@ use Rattle.std.proofs.lemmas.Bool.Decides.{eqb_tells}
 use Rattle.std.proofs.lemmas.Fn.{filter_same}
 use Rattle.exchange_model.specs.declared.kept.Exchange.{Exchange}
 use Rattle.exchange_model.specs.declared.kept.Piece.{Piece}
-use Rattle.exchange_model.specs.Steps.{is_of_none}
+use Rattle.exchange_model.specs.Hearing.{is_of_none}
 use Rattle.exchange_table.specs.Tables.{is_opened_at}
 use Rattle.exchange_table.proofs.fetched.drop_pieces_of_all.Goals as goal
 

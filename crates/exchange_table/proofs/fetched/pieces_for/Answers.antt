@@ -1,5 +1,5 @@
 use Rattle.std.proofs.Common.{refl, sym}
-use Rattle.exchange_model.specs.Steps.{is_piece_of}
+use Rattle.exchange_model.specs.Matters.{is_piece_of}
 use Rattle.exchange_table.proofs.Owning.{none-left, none-owned}
 use Rattle.exchange_table.proofs.fetched.pieces_for.Goals as goal
 

@@ -1,7 +1,7 @@
 use Rattle.std.proofs.Common.{ℕ, List, map, sym, ap, subst, ◌∙◌, arith}
 use Rattle.std.specs.Prelude.{filter}
 use Rattle.cache_key.specs.Digests.{digests_of}
-use Rattle.exchange_model.specs.Steps.{outdated_by}
+use Rattle.exchange_model.specs.Hearing.{outdated_by}
 use Rattle.exchange_table.specs.declared.marks.Mark.{Mark}
 use Rattle.exchange_table.specs.Marks.{has_digest, key_in}
 use Rattle.exchange_table.specs.Places.{RiseBy}

@@ -1,5 +1,5 @@
 use Rattle.std.proofs.Common.{◌≡◌, map, take}
-use Rattle.exchange_model.specs.Steps.{outdated_by}
+use Rattle.exchange_model.specs.Hearing.{outdated_by}
 use Rattle.exchange_table.proofs.Among.{among}
 use Rattle.exchange_table.proofs.outrunning.outdate.Given as goal
 

@@ -1,5 +1,5 @@
 use Rattle.std.proofs.Common.{refl, set, sym, ap, ◌∙◌}
-use Rattle.exchange_model.specs.Steps.{outdated_by}
+use Rattle.exchange_model.specs.Hearing.{outdated_by}
 use Rattle.exchange_table.proofs.Among.{at-nowhere, at-only}
 use Rattle.exchange_table.proofs.outrunning.outdate_at.Goals as goal
 

@@ -3,7 +3,7 @@ use Rattle.std.specs.Prelude.{filter, option_and_then, option_map}
 use Rattle.cache_key.specs.Digests.{digests_of}
 use Rattle.cache_key.specs.Keys.{key_of}
 use Rattle.ask_model.specs.Requests.{CoapRequest}
-use Rattle.exchange_model.specs.Steps.{request_in}
+use Rattle.exchange_model.specs.Matters.{request_in}
 use Rattle.exchange_table.specs.declared.marks.Mark.{Mark}
 use Rattle.exchange_table.specs.Marks.{has_digest, place_in}
 use Rattle.exchange_table.specs.Outrunning.{outrun_with}

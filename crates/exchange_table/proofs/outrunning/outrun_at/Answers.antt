@@ -1,5 +1,5 @@
 use Rattle.std.proofs.Common.{refl, set, sym, ap, ◌∙◌}
-use Rattle.exchange_model.specs.Steps.{request_in}
+use Rattle.exchange_model.specs.Matters.{request_in}
 use Rattle.exchange_table.specs.Outrunning.{outrun_with}
 use Rattle.exchange_table.proofs.Among.{at-nowhere, at-only}
 use Rattle.exchange_table.proofs.outrunning.outrun_at.Goals as goal

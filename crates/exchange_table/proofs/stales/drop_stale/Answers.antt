@@ -1,6 +1,6 @@
 use Rattle.std.proofs.Common.{◌≡◌, refl, sym, subst, ◌∙◌, arith}
 use Rattle.std.specs.Prelude.{filter}
-use Rattle.exchange_model.specs.Steps.{is_stale_of}
+use Rattle.exchange_model.specs.Matters.{is_stale_of}
 use Rattle.exchange_table.specs.Places.{RiseBy, IsOnlyAt, IsNowhere}
 use Rattle.exchange_table.specs.Stales.{asked_in, is_about_another}
 use Rattle.exchange_table.proofs.Standing.{filter-none, filter-only, rise-filter}

@@ -6,7 +6,7 @@ use Rattle.std.proofs.lemmas.Bool.Decides.{eqb_tells}
 use Rattle.std.proofs.lemmas.Fn.{filter_same}
 use Rattle.exchange_model.specs.declared.kept.Exchange.{Exchange}
 use Rattle.exchange_model.specs.declared.kept.Stale.{Stale}
-use Rattle.exchange_model.specs.Steps.{is_stale_of_none}
+use Rattle.exchange_model.specs.Hearing.{is_stale_of_none}
 use Rattle.exchange_table.specs.Places.{RiseBy}
 use Rattle.exchange_table.specs.Stales.{asked_in}
 use Rattle.exchange_table.specs.Tables.{is_opened_at}

@@ -1,6 +1,6 @@
 use Rattle.std.proofs.Common.{option_map, rules, refl, sym, ap}
 use Rattle.exchange_model.specs.declared.kept.Stale.{Stale}
-use Rattle.exchange_model.specs.Steps.{is_stale_of}
+use Rattle.exchange_model.specs.Matters.{is_stale_of}
 use Rattle.exchange_table.proofs.Standing.{find-only, find-none}
 use Rattle.exchange_table.proofs.stales.stale_of.Goals as goal
 

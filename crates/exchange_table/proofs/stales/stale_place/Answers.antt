@@ -2,7 +2,7 @@ use Rattle.std.proofs.Common.{ℕ, length, ltb, ltb-true, ltb-false, rules, sym}
 use Rattle.std.proofs.lemmas.Bool.{eq-eqb, eqb-true, ne_eqb}
 use Rattle.std.proofs.lemmas.List.Sorted.{IsPartitionedBy-ltb, IsPartitionPoint-from_clause}
 use Rattle.exchange_model.specs.declared.kept.Stale.{Stale}
-use Rattle.exchange_model.specs.Steps.{is_stale_of}
+use Rattle.exchange_model.specs.Matters.{is_stale_of}
 use Rattle.exchange_table.specs.Stales.{asked_in}
 use Rattle.exchange_table.proofs.Standing.{Tells, non-decreasing, none-past, none-there, only-at}
 use Rattle.exchange_table.proofs.stales.stale_place.Goals as goal

@@ -1,7 +1,7 @@
 use Rattle.std.proofs.Common.{◌≡◌, List, [], ◌∷◌, sym, ap, subst, length, map, ◌∙◌, arith}
 use Rattle.std.proofs.lemmas.List.{length-map}
 use Rattle.exchange_model.specs.declared.kept.Exchange.{Exchange}
-use Rattle.exchange_model.specs.Steps.{outrun_by}
+use Rattle.exchange_model.specs.Matters.{outrun_by}
 use Rattle.exchange_table.specs.Marks.{IsTable}
 use Rattle.exchange_table.proofs.Indexed.{index-map}
 use Rattle.exchange_table.proofs.Marking.{left-marks, table-map}
