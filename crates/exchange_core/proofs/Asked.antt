@@ -8,7 +8,7 @@ use Rattle.observe_share.specs.declared.registration.Registration.{Registration}
 use Rattle.observe_share.specs.declared.notice.Notice as Shared
 use Rattle.observe_share.specs.declared.notice.Notice.TheVariants.{Update, Other}
 use Rattle.observe_share.specs.Watches.{counted, counts_for, first_changed, in_place}
-use Rattle.history_laws.specs.Readings.{Noted, Note, Begins, Renews, Joins, Says, Observation, Unobserved, Registers, Updates, Outdates, Cancels, newest}
+use Rattle.history_laws.specs.Readings.{Noted, Note, Begins, Renews, Joins, Says, Observation, Unobserved, Registers, Updates, Outdates, Starts, Cancels, newest}
 use Rattle.history_laws.specs.Transmissions.{FirstSending, first_at}
 use Rattle.history_laws.specs.Exchanges.{Begun, begun}
 use Rattle.history_laws.specs.Observing.{Watch, asked_again, asked_by, asked_last, asked_last_by, current_by, held_by, idles, is_current, is_for, is_under, notice_in, registered, registered_of, told_by, watches, watches_by}
@@ -79,6 +79,7 @@ module _ (last : ℕ) where
   told-early l t i m Registers early all = all-join Early (watches l) (registered l t i m (first_at l i)) all (registered-early l t i m early)
   told-early l t i m Updates early all = changed-early (is_under m.token) m t (watches l) all
   told-early l t i m Outdates early all = changed-early (is_under m.token) m t (watches l) all
+  told-early l t i m (Starts ask request) early all = changed-early (is_under m.token) m t (watches l) all
   told-early l t i m Cancels early all = changed-early (is_under m.token) m t (watches l) all
 
   asked-early : (t : ℕ) (s : Sense) (n : Note) (ws : List Watch) → t ≤ last → AllByRecursion Early ws → AllByRecursion Early (asked_by t s n ws)

@@ -39,7 +39,8 @@ use Rattle.exchange_core.specs.declared.fault.AskFault.TheVariants as F
 use Rattle.exchange_core.specs.Values.{CoreValue, stepped}
 use Rattle.exchange_core.specs.Calls.{AsksSo, IsAsked}
 use Rattle.exchange_model.specs.declared.kept.Exchange.{Exchange}
-use Rattle.exchange_model.specs.Steps.{joins, Numbers}
+use Rattle.exchange_model.specs.Steps.{joins}
+use Rattle.exchange_model.specs.Hearing.{Numbers}
 use Rattle.exchange_table.specs.Joining.{is_joined_by}
 use Rattle.exchange_core.specs.Joining.{MayJoin, joined_for}
 use Rattle.exchange_core.specs.Recalling.{MayRecall, recalled, served_for}

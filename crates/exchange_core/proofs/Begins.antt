@@ -28,7 +28,8 @@ use Rattle.message_layer.specs.Values.{LinkState}
 use Rattle.exchange_model.specs.declared.kept.Exchange.{Exchange}
 use Rattle.exchange_model.specs.declared.kept.Reader.{Reader}
 use Rattle.exchange_model.specs.State.{PeerLink, State, link_of, with_link}
-use Rattle.exchange_model.specs.Steps.{as_pieces, asks_so, entered, given_out, if_tagged, kept_for, seals, stale_for as kept_as, Numbers}
+use Rattle.exchange_model.specs.Steps.{as_pieces, asks_so, entered, given_out, if_tagged, kept_for, seals, stale_for as kept_as}
+use Rattle.exchange_model.specs.Hearing.{Numbers}
 use Rattle.exchange_model.specs.Calls.{asked, has_place}
 use Rattle.exchange_model.specs.Keeping.{IsProper, IsNumbered}
 use Rattle.exchange_model.specs.Room.{fits, KeptInRoom}

@@ -12,7 +12,8 @@ use Rattle.resp_cache.specs.Stores.{is_elsewhere}
 use Rattle.resp_cache.specs.declared.pair.Pair.{Pair}
 use Rattle.exchange_model.specs.declared.kept.Exchange.{Exchange}
 use Rattle.exchange_model.specs.State.{State}
-use Rattle.exchange_model.specs.Steps.{asked_in, put_by, retired, settled, settled_by}
+use Rattle.exchange_model.specs.Matters.{asked_in}
+use Rattle.exchange_model.specs.Hearing.{put_by, retired, settled, settled_by}
 use Rattle.exchange_model.specs.Rotating.{Backed, backed, backed_if, few_of, taken, writes_at}
 use Rattle.journal_copies.specs.Carrying.{backed_in, few_in}
 use Rattle.exchange_core.specs.Renewing.{AreAskable, is_as_heard}
@@ -48,7 +49,7 @@ abbrev is_unwritten : List Written → List Exchange → Pair → Bool
 is_unwritten ws es p = not (list_any (writes_at ws p.key.place) es)
 
 settled-none : (ws : List Written) (e : Exchange) (ps : List Pair) → settled ws (Some e) None ps ≡ filter (spares ws e) ps
-settled-none ws e ps = by (asked_in ws e.opening)
+settled-none ws e ps = by (asked_in ws e.ask)
   where
     so : (q : CoapRequest) (m : Bool) (read : Bool)
         → cond m (cond read (put_by None (asked_key q) ps) ps) (filter (is_elsewhere (asked_place q)) ps)

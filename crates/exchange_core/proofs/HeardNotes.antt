@@ -17,7 +17,7 @@ use Rattle.blockwise.specs.declared.upload.Answered.{Answered}
 use Rattle.blockwise.specs.declared.upload.Answered.TheVariants as A
 use Rattle.observe_share.specs.declared.registration.Registration.{Registration}
 use Rattle.observe_share.specs.declared.notice.Notice.{Notice}
-use Rattle.observe_share.specs.declared.notice.Notice.TheVariants.{Other}
+use Rattle.observe_share.specs.declared.notice.Notice.TheVariants.{Other, Update}
 use Rattle.observe_share.specs.Watches as Watches
 use Rattle.observe_share.specs.Watches.{counts_for}
 use Rattle.resp_cache.specs.Stored.{Stored}
@@ -44,7 +44,9 @@ use Rattle.exchange_model.specs.declared.kept.Work.{Work}
 use Rattle.exchange_model.specs.declared.kept.Work.TheVariants as W
 use Rattle.exchange_model.specs.Keeping.{Kept}
 use Rattle.exchange_model.specs.State.{State, link_of}
-use Rattle.exchange_model.specs.Steps.{Matter, Nothing, Tells, Goes, Over, Numbers, comes_to, fetched_in, found_in, gone_by, got_by, has_next_place, is_piece_of, is_under, newest_by, numbers_of, progress_with, replied, reply_at, tells_of, told_alone, watches_by}
+use Rattle.exchange_model.specs.Steps.{is_under, reply_at}
+use Rattle.exchange_model.specs.Matters.{Matter, Nothing, Tells, Starts, Goes, Over, comes_to, fetched_in, has_next_place, is_piece_of, numbers_of, progress_with, replied, may_start, starting, tells_of, told_alone, told_so}
+use Rattle.exchange_model.specs.Hearing.{Numbers, gone_by, got_by, newest_by, watches_by}
 use Rattle.exchange_model.proofs.CallerLemmas.{asks-get, fetched-count, reset-notes}
 use Rattle.exchange_progress.specs.Coming.{IsOnward, first_got}
 use Rattle.exchange_core.specs.declared.matter.Going.{Going}
@@ -62,6 +64,7 @@ use Rattle.exchange_core.proofs.MatterBy.{answer-stands, comes-by, goes-exchange
 abbrev pub exchange_of : RustMatter → Option Exchange
 exchange_of M.Nothing = None
 exchange_of (M.Tells k) = None
+exchange_of (M.Starts k) = None
 exchange_of (M.Goes g) = Some g.exchange
 exchange_of (M.Over e ended) = Some e
 
@@ -69,12 +72,14 @@ exchange_of (M.Over e ended) = Some e
 abbrev pub IsOf : Matter → Exchange → Type 0
 IsOf Nothing e = ⊥
 IsOf (Tells r found) e = ⊥
+IsOf (Starts r f u) e = ⊥
 IsOf (Goes f u) e = f ≡ e
 IsOf (Over f how) e = f ≡ e
 
 is-of : (n : ℕ) (new : Numbers) (k : RustMatter) (x : Matter) (e : Exchange) → IsMatter n new k x → exchange_of k ≡ Some e → IsOf x e
 is-of n new M.Nothing x e i h = absurd (none-some e h)
 is-of n new (M.Tells k) x e i h = absurd (none-some e h)
+is-of n new (M.Starts k) x e i h = absurd (none-some e h)
 is-of n new (M.Goes g) x e i h = subst (λ (y : Matter). IsOf y e) (sym i.1) (some-is g.exchange e h)
 is-of n new (M.Over f ended) x e i h = subst (λ (y : Matter). IsOf y e) (sym i.1) (some-is f e h)
 
@@ -85,20 +90,34 @@ replied-of false f e (Fetches restarts pieces got) h = h
 replied-of true f e (Gives upload got) h = h
 replied-of false f e (Gives upload got) h = h
 
-tells-none : (t : ℕ) (m : Content) (S : State) (v : Option Registration) (e : Exchange) → IsOf (tells_of t m S v) e → ⊥
-tells-none t m S None e h = h
-tells-none t m S (Some r) e h = by (is_such m.kind && counts_for (notice_in m) t r) h
+told-none : (t : ℕ) (p : Peer) (S : State) (r : Registration) (v : Notice) (u : Progress) (e : Exchange) → IsOf (told_so t p S r v u) e → ⊥
+told-none t p S r (Other v) u e h = h
+told-none t p S r (Update v) (Ends how) e h = h
+told-none t p S r (Update v) (Fetches restarts pieces got) e h = by (may_start t p r S) h
   where
-    by : (b : Bool) → IsOf (cond b (Tells r (found_in t S (notice_in m) r.opening (as_first (length S.entries) 0 m))) Nothing) e → ⊥
+    by : (b : Bool) → IsOf (cond b (Starts r (starting t p r (Fetches restarts pieces got) S) (Fetches restarts pieces got)) (Tells r None)) e → ⊥
+    by true k = k
+    by false k = k
+told-none t p S r (Update v) (Gives upload got) e h = by (may_start t p r S) h
+  where
+    by : (b : Bool) → IsOf (cond b (Starts r (starting t p r (Gives upload got) S) (Gives upload got)) (Tells r None)) e → ⊥
     by true k = k
     by false k = k
 
-alone-none : (t : ℕ) (said : Told) (S : State) (e : Exchange) → IsOf (matter_alone t said S) e → ⊥
-alone-none t (response m) S e h = tells-none t m S (find (Watches.is_under m.token) S.watches) e h
-alone-none t no_news S e h = h
-alone-none t (was_reset of) S e h = h
-alone-none t (timed_out of) S e h = h
-alone-none t was_dropped S e h = h
+tells-none : (t : ℕ) (p : Peer) (m : Content) (S : State) (v : Option Registration) (e : Exchange) → IsOf (tells_of t p m S v) e → ⊥
+tells-none t p m S None e h = h
+tells-none t p m S (Some r) e h = by (is_such m.kind && counts_for (notice_in m) t r) h
+  where
+    by : (b : Bool) → IsOf (cond b (told_so t p S r (notice_in m) (as_first (length S.entries) 0 m)) Nothing) e → ⊥
+    by true k = told-none t p S r (notice_in m) (as_first (length S.entries) 0 m) e k
+    by false k = k
+
+alone-none : (t : ℕ) (p : Peer) (said : Told) (S : State) (e : Exchange) → IsOf (matter_alone t p said S) e → ⊥
+alone-none t p (response m) S e h = tells-none t p m S (find (Watches.is_under m.token) S.watches) e h
+alone-none t p no_news S e h = h
+alone-none t p (was_reset of) S e h = h
+alone-none t p (timed_out of) S e h = h
+alone-none t p was_dropped S e h = h
 
 -- It answers that.
 abbrev pub AnswersIt : Told → List ℕ → State → Exchange → Type 0
@@ -114,8 +133,8 @@ of-answer t p x said S e h = by (is_alone said x.token S.exchanges) h
     found None is k = absurd k
     found (Some a) is k = (a, is, replied-of place a.exchange e a.progress k)
 
-    by : (b : Bool) → IsOf (cond b (matter_alone t said S) (matter_for t p x said S)) e → AnswersIt said x.token S e
-    by true k = absurd (alone-none t said S e k)
+    by : (b : Bool) → IsOf (cond b (matter_alone t p said S) (matter_for t p x said S)) e → AnswersIt said x.token S e
+    by true k = absurd (alone-none t p said S e k)
     by false k = found (answer_in said x.token S) refl k
 
 stands : (said : Told) (token : List ℕ) (S : State) (e : Exchange) → AnswersIt said token S e → Contains S.exchanges e
@@ -134,6 +153,7 @@ reads-in t p x said S n new k kept i = by k i
     by : (f : RustMatter) → IsMatter n new f (matter_told t p x said S) → ReadsIn S.entries f
     by M.Nothing j = tt
     by (M.Tells y) j = tt
+    by (M.Starts y) j = tt
     by (M.Goes g) j = one (M.Goes g) g.exchange refl j
     by (M.Over e ended) j = one (M.Over e ended) e refl j
 
@@ -251,9 +271,9 @@ goes-answer t p x said S e u h = by (is_alone said x.token S.exchanges) h
     found None is k = absurd (cc (k))
     found (Some a) is k = let both = replied-goes place a.exchange e a.progress u k in (a, is, both.0, both.1)
 
-    by : (b : Bool) → cond b (matter_alone t said S) (matter_for t p x said S) ≡ Goes e u
+    by : (b : Bool) → cond b (matter_alone t p said S) (matter_for t p x said S) ≡ Goes e u
         → (a : Answer) × (answer_in said x.token S ≡ Some a) × (a.exchange ≡ e) × (a.progress ≡ u)
-    by true k = absurd (alone-none t said S e (subst (λ (y : Matter). IsOf y e) (sym k) refl))
+    by true k = absurd (alone-none t p said S e (subst (λ (y : Matter). IsOf y e) (sym k) refl))
     by false k = found (answer_in said x.token S) refl k
 
 first-by : (S : State) (g : Going) (u : Progress) (m : Content) → Kept S → IsOnward g.onward u → Contains S.exchanges g.exchange → u ≡ comes_to m S g.exchange
@@ -290,6 +310,7 @@ pub first-so : (t : ℕ) (p : Peer) (x : Heeding) (said : Told) (S : State) (n :
     → IsMatter n new k (matter_told t p x said S) → IsFirstSo S.pieces k (matter_told t p x said S)
 first-so t p x said S n new M.Nothing kept i = tt
 first-so t p x said S n new (M.Tells v) kept i = tt
+first-so t p x said S n new (M.Starts v) kept i = tt
 first-so t p x said S n new (M.Over e ended) kept i = tt
 first-so t p x said S n new (M.Goes g) kept i =
     let a = goes-answer t p x said S g.exchange i.0 i.1 in
@@ -305,6 +326,7 @@ first-so t p x said S n new (M.Goes g) kept i =
 nothing-noted : (n : ℕ) (new : Numbers) (k : RustMatter) (x : Matter) (notice : Notice) (m : Content) → IsMatter n new k x → x ≡ Nothing → IsNotedIn notice m k
 nothing-noted n new M.Nothing x notice m i e = tt
 nothing-noted n new (M.Tells y) x notice m i e = absurd (cc (sym e ∙ i.1))
+nothing-noted n new (M.Starts y) x notice m i e = absurd (cc (sym e ∙ i.2))
 nothing-noted n new (M.Goes g) x notice m i e = absurd (cc (sym e ∙ i.1))
 nothing-noted n new (M.Over f ended) x notice m i e = absurd (cc (sym e ∙ i.1))
 
@@ -315,6 +337,7 @@ noted-same m token e = record { update = refl; notice = λ h. refl; token = λ h
 exchange-noted : (n : ℕ) (new : Numbers) (k : RustMatter) (x : Matter) (e : Exchange) (m : Content) → IsMatter n new k x → IsOf x e → e.token ≡ m.token → IsNotedIn (notice_in m) m k
 exchange-noted n new M.Nothing x e m i of under = tt
 exchange-noted n new (M.Tells y) x e m i of under = absurd (subst (λ (v : Matter). IsOf v e) i.1 of)
+exchange-noted n new (M.Starts y) x e m i of under = absurd (subst (λ (v : Matter). IsOf v e) i.2 of)
 exchange-noted n new (M.Goes g) x e m i of under =
     noted-same m g.exchange.token (ap (λ (y : Exchange). y.token) (subst (λ (v : Matter). IsOf v e) i.1 of) ∙ under)
 exchange-noted n new (M.Over f ended) x e m i of under =
@@ -325,14 +348,15 @@ reset-noted : (n : ℕ) (new : Numbers) (k : RustMatter) (x : Matter) (e : Excha
     → IsNotedIn (Other None) m k
 reset-noted n new M.Nothing x e m i of none = tt
 reset-noted n new (M.Tells y) x e m i of none = absurd (subst (λ (v : Matter). IsOf v e) i.1 of)
+reset-noted n new (M.Starts y) x e m i of none = absurd (subst (λ (v : Matter). IsOf v e) i.2 of)
 reset-noted n new (M.Goes g) x e m i of none = record { update = none; notice = λ h. absurd (false≢true h); token = λ h. absurd (false≢true h) }
 reset-noted n new (M.Over f ended) x e m i of none = record { update = none; notice = λ h. absurd (false≢true h); token = λ h. absurd (false≢true h) }
 
 -- to a watch
-watch-noted : (t n : ℕ) (new : Numbers) (k : RustMatter) (m : Content) (S : State) (v : Option Registration) → find (Watches.is_under m.token) S.watches ≡ v
-    → IsMatter n new k (tells_of t m S v) → IsNotedIn (notice_in m) m k
-watch-noted t n new k m S None at i = nothing-noted n new k Nothing (notice_in m) m i refl
-watch-noted t n new k m S (Some r) at i = by (is_such m.kind && counts_for (notice_in m) t r) i
+watch-noted : (t n : ℕ) (p : Peer) (new : Numbers) (k : RustMatter) (m : Content) (S : State) (v : Option Registration) → find (Watches.is_under m.token) S.watches ≡ v
+    → IsMatter n new k (tells_of t p m S v) → IsNotedIn (notice_in m) m k
+watch-noted t n p new k m S None at i = nothing-noted n new k Nothing (notice_in m) m i refl
+watch-noted t n p new k m S (Some r) at i = by (is_such m.kind && counts_for (notice_in m) t r) i
   where
     under : r.token ≡ m.token
     under = (bytes_eq-Decides r.token m.token).0 (find-some (Watches.is_under m.token) S.watches r at).1
@@ -343,11 +367,32 @@ watch-noted t n new k m S (Some r) at i = by (is_such m.kind && counts_for (noti
       where
         watch-is : (p q : Registration) (f g : Option Stored) → Tells p f ≡ Tells q g → p ≡ q
         watch-is p q f g e = cc
+    tells (M.Starts y) found h = absurd (cc (h.2))
     tells (M.Goes g) found h = absurd (cc (h.1))
     tells (M.Over f ended) found h = absurd (cc (h.1))
 
-    by : (b : Bool) → IsMatter n new k (cond b (Tells r (found_in t S (notice_in m) r.opening (as_first (length S.entries) 0 m))) Nothing) → IsNotedIn (notice_in m) m k
-    by true h = tells k _ h
+    starts : (j : RustMatter) (e : Exchange) (u : Progress) → is_update (notice_in m) ≡ true → IsMatter n new j (Starts r e u) → IsNotedIn (notice_in m) m j
+    starts M.Nothing e u up h = tt
+    starts (M.Tells y) e u up h = absurd (cc (h.1))
+    starts (M.Starts y) e u up h = (refl, up, h.4 ∙ (ap (λ (q : Registration). q.token) (sym (watch-is r h.0 e _ u h.1 h.2)) ∙ under))
+      where
+        watch-is : (p q : Registration) (f g : Exchange) (u v : Progress) → Starts p f u ≡ Starts q g v → p ≡ q
+        watch-is p q f g u v e = cc
+    starts (M.Goes g) e u up h = absurd (cc (h.1))
+    starts (M.Over f ended) e u up h = absurd (cc (h.1))
+
+    either : (b : Bool) (u : Progress) → is_update (notice_in m) ≡ true → IsMatter n new k (cond b (Starts r (starting t p r u S) u) (Tells r None)) → IsNotedIn (notice_in m) m k
+    either true u up h = starts k (starting t p r u S) u up h
+    either false u up h = tells k None h
+
+    so : (v : Notice) → notice_in m ≡ v → (u : Progress) → IsMatter n new k (told_so t p S r v u) → IsNotedIn (notice_in m) m k
+    so (Other v) is u h = tells k None h
+    so (Update v) is (Ends how) h = tells k _ h
+    so (Update v) is (Fetches restarts pieces got) h = either (may_start t p r S) (Fetches restarts pieces got) (ap is_update is) h
+    so (Update v) is (Gives upload got) h = either (may_start t p r S) (Gives upload got) (ap is_update is) h
+
+    by : (b : Bool) → IsMatter n new k (cond b (told_so t p S r (notice_in m) (as_first (length S.entries) 0 m)) Nothing) → IsNotedIn (notice_in m) m k
+    by true h = so (notice_in m) refl (as_first (length S.entries) 0 m) h
     by false h = nothing-noted n new k Nothing (notice_in m) m h refl
 
 replied-is : (place : Bool) (e : Exchange) (u : Progress) → IsOf (replied place e u) e
@@ -359,15 +404,15 @@ replied-is false e (Gives upload got) = refl
 
 -- by the news that a link has of it
 pub noted-by : (t n : ℕ) (p : Peer) (new : Numbers) (k : RustMatter) (m : Content) (place : Bool) (S : State) (v : News) → (verdict_of t (link_of S.links p) m).news ≡ v
-    → IsMatter n new k (cond (is_alone (says v m) m.token S.exchanges) (matter_alone t (says v m) S) (matter_with place (answer_in (says v m) m.token S)))
+    → IsMatter n new k (cond (is_alone (says v m) m.token S.exchanges) (matter_alone t p (says v m) S) (matter_with place (answer_in (says v m) m.token S)))
     → IsNotedIn (notice_told (says v m)) m k
 noted-by t n p new k m place S N.Quiet is i = nothing-noted n new k Nothing (Other None) m i refl
 noted-by t n p new k m place S N.Lost is i = nothing-noted n new k Nothing (Other None) m i refl
 noted-by t n p new k m place S N.Response is i = by (find (is_under m.token) S.exchanges) refl i
   where
     by : (v : Option Exchange) → find (is_under m.token) S.exchanges ≡ v
-        → IsMatter n new k (cond (is_none v) (told_alone t N.Response m S) (matter_with place (replied_to v (comes_or_renews m S)))) → IsNotedIn (notice_in m) m k
-    by None at h = watch-noted t n new k m S (find (Watches.is_under m.token) S.watches) refl h
+        → IsMatter n new k (cond (is_none v) (told_alone t p N.Response m S) (matter_with place (replied_to v (comes_or_renews m S)))) → IsNotedIn (notice_in m) m k
+    by None at h = watch-noted t n p new k m S (find (Watches.is_under m.token) S.watches) refl h
     by (Some e) at h =
         exchange-noted n new k (replied place e (comes_or_renews m S e)) e m h (replied-is place e (comes_or_renews m S e))
         ((bytes_eq-Decides e.token m.token).0 (find-some (is_under m.token) S.exchanges e at).1)
@@ -408,7 +453,7 @@ module _ (t word : ℕ) (p : Peer) (d : List ℕ) (S : State) (link : LinkValue)
           let news : (verdict_of t (link_of S.links p) m).news ≡ h.heeding.verdict.news =
           sym (ap (λ (v : Verdict). v.news) (read.verdict ∙ ap (λ (u : LinkState). verdict_of t u m) at)) in
           let matter = subst (λ (token : List ℕ). IsMatter (length S.entries) made.numbers k (cond (is_alone (says h.heeding.verdict.news m) token S.exchanges)
-          (matter_alone t (says h.heeding.verdict.news m) S) (matter_with place (answer_in (says h.heeding.verdict.news m) token S)))) read.token
+          (matter_alone t p (says h.heeding.verdict.news m) S) (matter_with place (answer_in (says h.heeding.verdict.news m) token S)))) read.token
           (subst (λ (u : Told). IsMatter (length S.entries) made.numbers k (matter_told t p h.heeding u S)) read.up made.is) in
           let noted = subst (λ (v : Notice). IsNotedIn v m k) (sym (is ∙ ap notice_told read.up))
           (noted-by t (length S.entries) p made.numbers k m place S h.heeding.verdict.news news matter) in

@@ -23,7 +23,9 @@ use Rattle.history_laws.specs.Progress.{Progress}
 use Rattle.observe_share.specs.declared.registration.Registration.{Registration}
 use Rattle.exchange_model.specs.declared.kept.Exchange.{Exchange}
 use Rattle.exchange_model.specs.State.{State, link_of}
-use Rattle.exchange_model.specs.Steps.{Matter, Nothing, Numbers, answered_in, has_next_place, matter_by, seals}
+use Rattle.exchange_model.specs.Steps.{seals}
+use Rattle.exchange_model.specs.Matters.{Matter, Nothing, answered_in, has_next_place, matter_by}
+use Rattle.exchange_model.specs.Hearing.{Numbers}
 use Rattle.exchange_model.specs.Calls.{goes_as, goes_by, goes_with, heard, repeats}
 use Rattle.exchange_model.specs.Room.{fits, KeptInRoom}
 use Rattle.exchange_model.specs.Sealing.{hears_in_room}
@@ -100,7 +102,7 @@ goes-not t p d S taken lost e u goes = by (link_of S.links p).last_mid taken.kno
     news : (m : Content) (v : News) → (verdict_of t s m).news ≡ v → says v m ≡ was_dropped → goes_as t p (Ok m) S ≡ Some (e, u) → ⊥
     news m N.Lost is told g =
         either-none (repeats t s m) _ e u
-        (ap (λ (w : News). matter_by t w (has_next_place t p (verdict_of t s m) S) m S (answered_in (ended_token w m.token) S.exchanges)) is) g
+        (ap (λ (w : News). matter_by t p w (has_next_place t p (verdict_of t s m) S) m S (answered_in (ended_token w m.token) S.exchanges)) is) g
     news m N.Quiet is told g = quiet-told told
     news m N.Response is told g = response-told m told
     news m (N.Reset token) is told g = reset-told token told
@@ -143,11 +145,13 @@ sealed-so t word p d token S gs os fresh sealed =
     }
 
 -- The next token was issued after those of all others.
-pub newest-in : (S : State) → Kept S → (m : ℕ) (k : RustMatter) (x : Matter) (new : Numbers) → IsMatter m new k x → token_number new.token ≡ S.issued → IsNewestIn k S.exchanges
-newest-in S kept m M.Nothing x new i number = tt
-newest-in S kept m (M.Tells y) x new i number = tt
-newest-in S kept m (M.Over e ended) x new i number = tt
-newest-in S kept m (M.Goes g) x new i number =
+pub newest-in : (S : State) → Kept S → (k : RustMatter) (x : Matter) (new : Numbers) → IsMatter (length S.entries) new k x → token_number new.token ≡ S.issued
+    → IsNewestIn k S.exchanges
+newest-in S kept M.Nothing x new i number = tt
+newest-in S kept (M.Tells y) x new i number = tt
+newest-in S kept (M.Starts y) x new i number = latest S y.going.exchange kept i.7 (ap token_number i.9 ∙ number)
+newest-in S kept (M.Over e ended) x new i number = tt
+newest-in S kept (M.Goes g) x new i number =
     subst (λ (token : List ℕ). IsNewest token S.exchanges) (sym i.3)
     (latest S (record g.exchange { opening = length S.entries; token = new.token }) kept refl number).token
 

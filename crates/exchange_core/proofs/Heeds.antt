@@ -23,7 +23,8 @@ use Rattle.history_laws.specs.Progress.{Progress}
 use Rattle.observe_share.specs.declared.registration.Registration.{Registration}
 use Rattle.exchange_model.specs.declared.kept.Exchange.{Exchange}
 use Rattle.exchange_model.specs.State.{PeerLink, State, link_of, with_link}
-use Rattle.exchange_model.specs.Steps.{Matter, Nothing, Tells, Goes, Over, Numbers, exchanges_by, gone_by, has_next_place, issued_by, matter_of, more_by, pieces_by, stales_by, store_by, watches_by}
+use Rattle.exchange_model.specs.Matters.{Matter, Nothing, Tells, Goes, Over, has_next_place, matter_of}
+use Rattle.exchange_model.specs.Hearing.{Numbers, exchanges_by, gone_by, issued_by, more_by, pieces_by, stales_by, store_by, watches_by}
 use Rattle.exchange_model.specs.Calls.{goes_as, goes_by, goes_with, heard, repeats, told_for}
 use Rattle.exchange_model.specs.Entering.{Effect, awaits_no_more, entered_all, first_deeds, going_as, sent_as, answer_of, confirm, heeded, next_out, taken_with, garbled, no_effect, IsMid, Comes}
 use Rattle.exchange_model.specs.Keeping.{MayGoOn}
@@ -45,6 +46,7 @@ use Rattle.exchange_core.proofs.MatterBy.{matter-told}
 more-same : (n : ℕ) (new : Numbers) (k : RustMatter) (x : Matter) → IsMatter n new k x → more_by new x ≡ waiting_in (more_in k)
 more-same n new M.Nothing x i = ap (more_by new) i
 more-same n new (M.Tells y) x i = ap (more_by new) i.1
+more-same n new (M.Starts y) x i = ap (more_by new) i.2 ∙ ap Some (sym i.10)
 more-same n new (M.Goes g) x i = ap (more_by new) i.1 ∙ ap Some (sym i.4)
 more-same n new (M.Over e ended) x i = ap (more_by new) i.1
 
@@ -141,10 +143,10 @@ matter-is t p d S link h m at read =
     let x = h.heeding in
     let b : Bool = has_next_place t p x.verdict S in
     let by : List ℕ → Matter = λ token.
-    cond (is_alone (says x.verdict.news m) token S.exchanges) (matter_alone t (says x.verdict.news m) S) (matter_with b (answer_in (says x.verdict.news m) token S)) in
+    cond (is_alone (says x.verdict.news m) token S.exchanges) (matter_alone t p (says x.verdict.news m) S) (matter_with b (answer_in (says x.verdict.news m) token S)) in
     ap (λ (u : Told). matter_told t p x u S) read.up
     ∙ (ap by read.token
-    ∙ (sym (matter-told t x.verdict.news m b S)
+    ∙ (sym (matter-told t p x.verdict.news m b S)
     ∙ ap (λ (v : Verdict). matter_of t p m v S) (read.verdict ∙ ap (λ (u : LinkState). verdict_of t u m) at)))
 
 pub nothing-is : (t : ℕ) (p : Peer) (d : List ℕ) (S : State) (s : LinkState) (h : Hearing) (e : CodecFault) → IsRead t d s (Err e) h
@@ -168,27 +170,19 @@ mid-is : (k : Option ℕ) (mid : ℕ) → mid ≡ unread_mid k → IsMid k mid
 mid-is None mid e = tt
 mid-is (Some n) mid e = e
 
--- The exchange goes on by it that the message answers.
+-- The exchange goes on by it that the message answers, or begins.
 
-goes-is : (x : Matter) (e : Exchange) (u : Progress) → goes_with x ≡ Some (e, u) → x ≡ Goes e u
-goes-is Nothing e u h = absurd cc
-goes-is (Tells r found) e u h = absurd cc
-goes-is (Over f how) e u h = absurd cc
-goes-is (Goes f v) e u h =
-    let same = some-is (f, v) (e, u) h in
-    ap (λ (y : Exchange × Progress). Goes y.0 y.1) same
-
-new-goes : (b : Bool) (x : Matter) (e : Exchange) (u : Progress) → cond b None (goes_with x) ≡ Some (e, u) → x ≡ Goes e u
+new-goes : (b : Bool) (x : Matter) (e : Exchange) (u : Progress) → cond b None (goes_with x) ≡ Some (e, u) → goes_with x ≡ Some (e, u)
 new-goes true x e u h = absurd cc
-new-goes false x e u h = goes-is x e u h
+new-goes false x e u h = h
 
 pub goes-matter : (t : ℕ) (p : Peer) (d : List ℕ) (S : State) (link : LinkValue) (h : Hearing) → IsHearing t d link h → link.state ≡ link_of S.links p
-    → (e : Exchange) (u : Progress) → goes_by t p d S ≡ Some (e, u) → matter_told t p h.heeding (told h.up) S ≡ Goes e u
+    → (e : Exchange) (u : Progress) → goes_by t p d S ≡ Some (e, u) → goes_with (matter_told t p h.heeding (told h.up) S) ≡ Some (e, u)
 goes-matter t p d S link h i at e u goes = by (message_at d) i.is goes
   where
-    by : (r : Result Content CodecFault) → IsRead t d link.state r h → goes_as t p r S ≡ Some (e, u) → matter_told t p h.heeding (told h.up) S ≡ Goes e u
+    by : (r : Result Content CodecFault) → IsRead t d link.state r h → goes_as t p r S ≡ Some (e, u) → goes_with (matter_told t p h.heeding (told h.up) S) ≡ Some (e, u)
     by (Err f) read g = absurd cc
-    by (Ok m) read g = matter-is t p d S link h m at read ∙ new-goes (repeats t (link_of S.links p) m) _ e u g
+    by (Ok m) read g = ap goes_with (matter-is t p d S link h m at read) ∙ new-goes (repeats t (link_of S.links p) m) _ e u g
 
 some-of : (v : Option (Exchange × Progress)) → is_some v ≡ true → (y : Exchange × Progress) × (v ≡ Some y)
 some-of None e = absurd cc

@@ -7,7 +7,8 @@ use Rattle.ask_model.specs.Sizes.{capped}
 use Rattle.journal_book.specs.Entries.{Asks, entry_size}
 use Rattle.exchange_model.specs.declared.kept.Reader.{Reader}
 use Rattle.exchange_model.specs.State.{State}
-use Rattle.exchange_model.specs.Steps.{joins, read_at, seals, Numbers}
+use Rattle.exchange_model.specs.Steps.{joins, read_at, seals}
+use Rattle.exchange_model.specs.Hearing.{Numbers}
 use Rattle.exchange_model.specs.Entering.{IsDrained}
 use Rattle.exchange_model.specs.Room.{fits, KeptInRoom}
 use Rattle.exchange_model.specs.Sealing.{asks_in_room}

@@ -44,4 +44,5 @@ mod Idles
 mod Restoring
 mod Watched
 mod Notified
+mod Started
 mod HeardNotes

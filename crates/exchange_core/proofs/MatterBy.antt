@@ -10,7 +10,8 @@ use Rattle.ask_model.specs.Requests.{CoapRequest, Sense, Requests, Refuses, Plai
 use Rattle.journal_book.specs.Entries.{Written}
 use Rattle.message_layer.specs.Values.{LinkValue, Told, no_news, response, was_reset, timed_out, was_dropped}
 use Rattle.message_layer.specs.Hearing.{says}
-use Rattle.message_layer.specs.Prepared.{IsUnnumberedCon}
+use Rattle.message_layer.specs.Prepared.{IsUnnumberedCon, MayFollow}
+use Rattle.exchange_model.specs.Calls.{goes_with}
 use Rattle.message_layer.specs.declared.prepared.Heeding.{Heeding}
 use Rattle.message_layer.specs.declared.prepared.Submission.{Submission}
 use Rattle.message_layer.specs.declared.verdict.News.{News}
@@ -24,7 +25,9 @@ use Rattle.exchange_model.specs.declared.kept.Exchange.{Exchange}
 use Rattle.exchange_model.specs.declared.kept.Work.{Work}
 use Rattle.exchange_model.specs.declared.kept.Work.TheVariants as W
 use Rattle.exchange_model.specs.State.{State}
-use Rattle.exchange_model.specs.Steps.{Nothing, Goes, Over, Numbers, answered_in, asked_in, comes_to, fetched_in, has_next_place, is_under, matter_by, progress_with, replied, reply_at, request_in, stale_in, told_alone, unless_valid}
+use Rattle.exchange_model.specs.Steps.{is_under, reply_at}
+use Rattle.exchange_model.specs.Matters.{Matter, Nothing, Goes, Over, answered_in, asked_in, comes_to, fetched_in, has_next_place, matter_by, progress_with, replied, request_in, stale_in, told_alone, unless_valid}
+use Rattle.exchange_model.specs.Hearing.{Numbers}
 use Rattle.exchange_model.specs.Laws.{IsContinued}
 use Rattle.exchange_progress.specs.Coming.{IsComing, IsEnded, block_in, comes_by, is_fetched}
 use Rattle.exchange_model.specs.Growing.{IsWorkOf}
@@ -36,9 +39,10 @@ use Rattle.exchange_progress.specs.declared.coming.Ended.{Ended}
 use Rattle.exchange_progress.specs.declared.coming.Ended.TheVariants as How
 use Rattle.exchange_progress.specs.declared.coming.Onward.{Onward}
 use Rattle.exchange_core.specs.declared.matter.Answered.{Answered}
+use Rattle.exchange_core.specs.declared.matter.Matter.{Matter as RustMatter}
 use Rattle.exchange_core.specs.declared.matter.Matter.TheVariants as M
 use Rattle.exchange_core.specs.Notifying.{is_alone, matter_alone}
-use Rattle.exchange_core.specs.Matters.{Answer, IsAnswered, IsAskedFor, IsFewTimes, IsNextFor, IsNextToken, IsPrepared, answer_in, comes_or_renews, matter_for, matter_with, replied_to}
+use Rattle.exchange_core.specs.Matters.{Answer, IsAnswered, IsAskedFor, IsFewTimes, IsMatter, IsNextFor, IsNextToken, IsPrepared, more_in, answer_in, comes_or_renews, matter_for, matter_with, replied_to}
 use Rattle.exchange_core.specs.Renewing.{unless_confirmed}
 
 -- it is the same as by the news
@@ -54,19 +58,19 @@ unless-valid (Some s) m S e place u = by (confirms s.response.etag m)
     by true = refl
     by false = refl
 
-pub matter-told : (t : ℕ) (v : News) (m : Content) (b : Bool) (S : State)
-    → matter_by t v b m S (answered_in (ended_token v m.token) S.exchanges)
-    ≡ cond (is_alone (says v m) m.token S.exchanges) (matter_alone t (says v m) S) (matter_with b (answer_in (says v m) m.token S))
-matter-told t N.Quiet m b S = refl
-matter-told t N.Lost m b S = refl
-matter-told t N.Response m b S = by (find (is_under m.token) S.exchanges)
+pub matter-told : (t : ℕ) (p : Peer) (v : News) (m : Content) (b : Bool) (S : State)
+    → matter_by t p v b m S (answered_in (ended_token v m.token) S.exchanges)
+    ≡ cond (is_alone (says v m) m.token S.exchanges) (matter_alone t p (says v m) S) (matter_with b (answer_in (says v m) m.token S))
+matter-told t p N.Quiet m b S = refl
+matter-told t p N.Lost m b S = refl
+matter-told t p N.Response m b S = by (find (is_under m.token) S.exchanges)
   where
-    by : (v : Option Exchange) → matter_by t N.Response b m S v ≡ cond (is_none v) (told_alone t N.Response m S) (matter_with b (replied_to v (comes_or_renews m S)))
+    by : (v : Option Exchange) → matter_by t p N.Response b m S v ≡ cond (is_none v) (told_alone t p N.Response m S) (matter_with b (replied_to v (comes_or_renews m S)))
     by None = refl
     by (Some e) = unless-valid (stale_in e.opening S.stales) m S e b (comes_to m S e)
-matter-told t (N.Reset of) m b S = by (find (is_under of) S.exchanges)
+matter-told t p (N.Reset of) m b S = by (find (is_under of) S.exchanges)
   where
-    by : (v : Option Exchange) → matter_by t (N.Reset of) b m S v ≡ matter_with b (replied_to v (λ e. Ends Reset))
+    by : (v : Option Exchange) → matter_by t p (N.Reset of) b m S v ≡ matter_with b (replied_to v (λ e. Ends Reset))
     by None = refl
     by (Some e) = refl
 
@@ -115,11 +119,23 @@ reset-some n of token S e x is ended = (Ends Reset, ap (λ (v : Option Exchange)
 
 -- what is prepared of it
 
-nothing-goes : (e : Exchange) (u : Progress) → Nothing ≡ Goes e u → ⊥
-nothing-goes e u h = cc
+-- What neither goes on nor begins has no next message.
+still-goes : (x : Matter) (e : Exchange) (u : Progress) → goes_with x ≡ None → goes_with x ≡ Some (e, u) → ⊥
+still-goes x e u still h = none-some (e, u) (sym still ∙ h)
 
-over-goes : (f e : Exchange) (how : Ending) (u : Progress) → Over f how ≡ Goes e u → ⊥
-over-goes f e how u h = cc
+pub prepared-still : (t word : ℕ) (link : LinkValue) (x : Heeding) (S : State) (token : List ℕ) (k : RustMatter) (matter : Matter) → IsNextToken word token S
+    → goes_with matter ≡ None → more_in k ≡ None → ((new : Numbers) → IsMatter (length S.entries) new k matter)
+    → IsPrepared t word link x S k matter
+prepared-still t word link x S token k matter fresh still none is =
+    let n : Numbers = record { token = token; text = []; word = word } in
+    record {
+      numbers = n;
+      worded = fresh;
+      is = is n;
+      continued = λ e u h. absurd (still-goes matter e u still h);
+      short = λ e u h. absurd (still-goes matter e u still h);
+      follows = subst (MayFollow t link x) (sym none) tt;
+    }
 
 pub goes-exchange : (f e : Exchange) (v u : Progress) → Goes f v ≡ Goes e u → f ≡ e
 goes-exchange f e v u h = cc
@@ -185,7 +201,7 @@ turned-with false e (W.Fetches restarts pieces) got is = refl
 turned-with false e (W.Gives upload) got is = refl
 turned-with true e w got is = absurd (false≢true (sym is))
 
-next-with : (q : CoapRequest) (w : Work) (got : List Reply) (token : List ℕ) → next_message Plainly q (progress_with w got) 0 token ≡ Some (block_message q (block_in w) 0 token)
+pub next-with : (q : CoapRequest) (w : Work) (got : List Reply) (token : List ℕ) → next_message Plainly q (progress_with w got) 0 token ≡ Some (block_message q (block_in w) 0 token)
 next-with q (W.Fetches restarts pieces) got token = plain (block_after pieces)
   where
     plain : (b : Option Block) → Some (asking Plainly q b 0 token) ≡ Some (block_message q b 0 token)
@@ -200,25 +216,12 @@ module _ (t word : ℕ) (p : Peer) (link : LinkValue) (x : Heeding) (told : Told
   pub prepared-nothing : IsAnswered (length S.entries) None (answer_in told x.token S) → IsPrepared t word link x S M.Nothing (matter_for t p x told S)
   prepared-nothing none =
       let is : matter_for t p x told S ≡ Nothing = ap (matter_with place) none in
-      record {
-        numbers = record { token = token; text = []; word = word };
-        worded = fresh;
-        is = is;
-        continued = λ e u h. absurd (nothing-goes e u (sym is ∙ h));
-        short = λ e u h. absurd (nothing-goes e u (sym is ∙ h));
-        follows = tt;
-      }
+      prepared-still t word link x S token M.Nothing (matter_for t p x told S) fresh (ap goes_with is) refl (λ new. is)
 
   over-by : (e : Exchange) (ended : Ended) (how : Ending) → matter_for t p x told S ≡ Over e how → IsEnded (length S.entries) ended how
       → IsPrepared t word link x S (M.Over e ended) (matter_for t p x told S)
-  over-by e ended how is ends = record {
-    numbers = record { token = token; text = []; word = word };
-    worded = fresh;
-    is = (how, is, ends);
-    continued = λ f u h. absurd (over-goes e f how u (sym is ∙ h));
-    short = λ f u h. absurd (over-goes e f how u (sym is ∙ h));
-    follows = tt;
-  }
+  over-by e ended how is ends =
+      prepared-still t word link x S token (M.Over e ended) (matter_for t p x told S) fresh (ap goes_with is) refl (λ new. (how, is, ends))
 
   pub prepared-ends : (e : Exchange) (ended : Ended) → IsAnswered (length S.entries) (Some (record { exchange = e; coming = Comes.Ends ended })) (answer_in told x.token S)
       → IsPrepared t word link x S (M.Over e ended) (matter_for t p x told S)
@@ -231,7 +234,7 @@ module _ (t word : ℕ) (p : Peer) (link : LinkValue) (x : Heeding) (told : Told
       over-by e How.Turned Turned (ap (matter_with place) h.1 ∙ (ap (replied place e) h.2.is ∙ turned-with place e o.work h.2.got full)) refl
 
   pub prepared-goes : (e : Exchange) (o : Onward) (q : CoapRequest) (s : Submission) → AllByRecursion IsFewTimes S.exchanges → AllByRecursion (IsAskedFor S.entries) S.exchanges
-      → place ≡ true → asked_in S.entries e.opening ≡ Some q
+      → place ≡ true → asked_in S.entries e.ask ≡ Some q
       → IsNextFor t word link x q o.block token s
       → IsAnswered (length S.entries) (Some (record { exchange = e; coming = Comes.Goes o })) (answer_in told x.token S)
       → IsPrepared t word link x S (M.Goes (record { exchange = e; onward = o; token = token; submission = s })) (matter_for t p x told S)
@@ -254,7 +257,7 @@ module _ (t word : ℕ) (p : Peer) (link : LinkValue) (x : Heeding) (told : Told
         worded = record { word_is = refl; token_size = fresh.token_size; number = fresh.number; random = fresh.random };
         is = (u, is, record { got = h.2.got; is = refl; block = h.2.block; anew = h.2.anew; fetches = h.2.fetches }, refl, next.prepared.waiting);
         continued = λ f v k.
-            subst (λ (w : Progress). IsContinued f w n S) (goes-progress e f u v (sym is ∙ k)) (subst (λ (g : Exchange). IsContinued g u n S) (goes-exchange e f u v (sym is ∙ k)) made);
+            subst (λ (y : Exchange × Progress). IsContinued y.0 y.1 n S) (some-is (e, u) (f, v) (sym (ap goes_with is) ∙ k)) made;
         short = λ f v k. next.short;
         follows = next.prepared.ready;
       }
@@ -296,12 +299,12 @@ sent-unnumbered (Refuses cause status) block token text sent = absurd (some-none
 -- the request of the exchange that is answered
 
 pub asked-for : (n : ℕ) (told : Told) (token : List ℕ) (S : State) (a : Answered) → AllByRecursion (IsAskedFor S.entries) S.exchanges → IsAnswered n (Some a) (answer_in told token S)
-    → is_some (asked_in S.entries a.exchange.opening) ≡ true
+    → is_some (asked_in S.entries a.exchange.ask) ≡ true
 asked-for n told token S a all h =
     (all-of (IsAskedFor S.entries) S.exchanges a.exchange all (answer-stands told token S (record { exchange = a.exchange; progress = h.0 }) h.1)).0
 
-pub request-of : (ws : List Written) (e : Exchange) → is_some (asked_in ws e.opening) ≡ true → (q : CoapRequest) × (asked_in ws e.opening ≡ Some q)
-request-of ws e some = by (asked_in ws e.opening) some
+pub request-of : (ws : List Written) (e : Exchange) → is_some (asked_in ws e.ask) ≡ true → (q : CoapRequest) × (asked_in ws e.ask ≡ Some q)
+request-of ws e some = by (asked_in ws e.ask) some
   where
     by : (v : Option CoapRequest) → is_some v ≡ true → (q : CoapRequest) × (v ≡ Some q)
     by None h = absurd (false≢true h)

@@ -3,7 +3,7 @@ use Rattle.std.proofs.Common.{◌≡◌, ℕ, zero, suc, suc, ◌+◌, ◌<◌, 
 use Rattle.std.specs.List.{AllByRecursion, list_any}
 use Rattle.journal_book.specs.Entries.{Written}
 use Rattle.exchange_model.specs.declared.kept.Exchange.{Exchange}
-use Rattle.exchange_model.specs.Steps.{IsDigested, asked_in, left_by, outrun_by, outruns}
+use Rattle.exchange_model.specs.Matters.{IsDigested, asked_in, left_by, outrun_by, outruns}
 
 any-last : {X : Type 0} (q : X → Bool) (xs : List X) (x : X) → list_any q (xs ++ x ∷ []) ≡ (list_any q xs || (q x || false))
 any-last q [] x = refl
@@ -17,10 +17,10 @@ any-last q (y ∷ xs) x = by (q y) (any-last q xs x)
 outrun-last : (ws : List Written) (over : List Exchange) (x e : Exchange)
     → outrun_by ws (over ++ x ∷ []) e ≡ outrun_by ws (x ∷ []) (outrun_by ws over e)
 outrun-last ws over x e =
-    ap (λ (b : Bool). cond b (record e { current = false }) e) (any-last (outruns ws (asked_in ws e.opening)) over x)
-    ∙ by (list_any (outruns ws (asked_in ws e.opening)) over) (outruns ws (asked_in ws e.opening) x || false) refl
+    ap (λ (b : Bool). cond b (record e { current = false }) e) (any-last (outruns ws (asked_in ws e.ask)) over x)
+    ∙ by (list_any (outruns ws (asked_in ws e.ask)) over) (outruns ws (asked_in ws e.ask) x || false) refl
   where
-    by : (b c : Bool) → (outruns ws (asked_in ws e.opening) x || false) ≡ c
+    by : (b c : Bool) → (outruns ws (asked_in ws e.ask) x || false) ≡ c
         → cond (b || c) (record e { current = false }) e ≡ outrun_by ws (x ∷ []) (cond b (record e { current = false }) e)
     by true true is = rw (is) refl
     by true false is = rw (is) refl
@@ -50,7 +50,7 @@ left-next ws over i x old now new lt at here last =
 -- They keep the digests of what they were opened for.
 pub digested-left : (ws : List Written) (over es : List Exchange) → AllByRecursion (IsDigested ws) es → AllByRecursion (IsDigested ws) (left_by ws over es)
 digested-left ws over [] a = tt
-digested-left ws over (e ∷ es) a = (by (list_any (outruns ws (asked_in ws e.opening)) over), digested-left ws over es a.1)
+digested-left ws over (e ∷ es) a = (by (list_any (outruns ws (asked_in ws e.ask)) over), digested-left ws over es a.1)
   where
     by : (b : Bool) → IsDigested ws (cond b (record e { current = false }) e)
     by true = a.0

@@ -19,7 +19,8 @@ use Rattle.journal_book.specs.Views.{ask_of}
 use Rattle.history_laws.proofs.CallerLemmas.{some-is}
 use Rattle.reply_reading.specs.Findings.{Tells}
 use Rattle.exchange_model.specs.State.{State}
-use Rattle.exchange_model.specs.Steps.{seals, Numbers}
+use Rattle.exchange_model.specs.Steps.{seals}
+use Rattle.exchange_model.specs.Hearing.{Numbers}
 use Rattle.exchange_model.specs.Calls.{IsAlone, asked, served_in}
 use Rattle.exchange_model.specs.Entering.{entered_all, IsDrained}
 use Rattle.exchange_model.specs.Growing.{IsHeardIn, IsRenewedIn}

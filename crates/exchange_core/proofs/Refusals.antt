@@ -8,7 +8,8 @@ use Rattle.observe_share.specs.declared.registration.Registration.{Registration}
 use Rattle.exchange_model.specs.State.{State}
 use Rattle.exchange_model.specs.Watching.{touched}
 use Rattle.exchange_model.specs.Entering.{refusal_deeds, entered_all}
-use Rattle.exchange_model.specs.Steps.{seals, Numbers}
+use Rattle.exchange_model.specs.Steps.{seals}
+use Rattle.exchange_model.specs.Hearing.{Numbers}
 use Rattle.exchange_model.specs.Calls.{asked}
 use Rattle.exchange_model.specs.Room.{fits}
 use Rattle.exchange_model.specs.Sealing.{in_room, asks_in_room}

@@ -1,6 +1,6 @@
 -- What the end of an exchange does to the store, and a datagram to the other tables, is what the step says.
-use Rattle.std.proofs.Common.{◌≡◌, ℕ, Bool, true, false, cond, eqb, List, [], ◌∷◌, ◌++◌, map, Option, Some, None, refl, sym, ap, subst, ◌∙◌, ◌||◌, arith, length-append}
-use Rattle.std.specs.Prelude.{filter, option_and_then, slice_get, take, ◌&&◌, ◌==◌, ◌-◌, is_none, length}
+use Rattle.std.proofs.Common.{◌≡◌, ℕ, ◌+◌, Bool, true, false, cond, eqb, List, [], ◌∷◌, ◌++◌, map, Option, Some, None, refl, sym, ap, subst, ◌∙◌, ◌||◌, arith, length-append}
+use Rattle.std.specs.Prelude.{filter, option_and_then, slice_get, take, ◌&&◌, ◌==◌, ◌-◌, is_none, is_some, length}
 use Rattle.std.specs.Option.{option_map_or}
 use Rattle.limits.specs.declared.TheConstants.{MAX_STORED}
 use Rattle.coap_codec.specs.declared.block.Block.{Block}
@@ -21,7 +21,8 @@ use Rattle.exchange_model.specs.declared.kept.Reader.{Reader}
 use Rattle.exchange_model.specs.declared.kept.Stale.{Stale}
 use Rattle.exchange_model.specs.declared.kept.Work.{Work}
 use Rattle.exchange_model.specs.declared.kept.Work.TheVariants as W
-use Rattle.exchange_model.specs.Steps.{Matter, Numbers, asked_in, content_by, exchanges_by, goes_so, got_by, is_of_other, issued_by, moment_in, newest_content, outdated_by, pieces_by, pieces_with, progress_with, put_by, renewed_by, retold, settled, settled_by, stales_by, store_by, work_by}
+use Rattle.exchange_model.specs.Matters.{Matter, asked_in, content_by, moment_in, progress_with, renewed_by, work_by}
+use Rattle.exchange_model.specs.Hearing.{Numbers, exchanges_by, goes_so, got_by, is_of_other, issued_by, newest_content, outdated_by, pieces_by, pieces_with, put_by, retold, settled, settled_by, stales_by, store_by}
 use Rattle.exchange_model.specs.Calls.{grounds_for}
 use Rattle.exchange_table.specs.Stales.{is_about_another}
 use Rattle.exchange_table.specs.Tables.{went_on}
@@ -31,6 +32,7 @@ use Rattle.exchange_progress.specs.declared.coming.Ended.{Ended}
 use Rattle.exchange_progress.specs.declared.coming.Ended.TheVariants as How
 use Rattle.exchange_core.specs.declared.matter.Going.{Going}
 use Rattle.exchange_core.specs.declared.matter.Notification.{Notification}
+use Rattle.exchange_core.specs.declared.matter.Starting.{Starting}
 use Rattle.exchange_core.specs.declared.matter.Matter.TheVariants as M
 use Rattle.exchange_core.specs.Hearing.{IsFirstBy, IsFirstSo, is_first}
 use Rattle.exchange_core.specs.Matters.{IsMatter}
@@ -71,7 +73,7 @@ settled-put : (ws : List Written) (e : Option Exchange) (f : Option Stored) (ps 
     → settled ws e f ps ≡ settled_with ws e (put_for ws e f) ps
 settled-put ws None f ps = refl
 settled-put ws (Some e) f ps =
-    by-request (asked_in ws e.opening) e.current f ps ∙ with-same ws (Some e) (put_for ws (Some e) f) ps
+    by-request (asked_in ws e.ask) e.current f ps ∙ with-same ws (Some e) (put_for ws (Some e) f) ps
 
 -- what is told, as it is stored
 
@@ -129,12 +131,12 @@ none-either true = refl
 none-either false = refl
 
 newest-told : (ws : List Written) (t n : ℕ) (e : Exchange) (how : Ending) (sending : Option ℕ) (r : Reader) → renews how ≡ false
-    → if_newest e (found_for how n sending r) (stored_for ws t e.opening (told_as how) (grounds_for how n sending r)) ≡ newest_content ws t e how
+    → if_newest e (found_for how n sending r) (stored_for ws t e.ask (told_as how) (grounds_for how n sending r)) ≡ newest_content ws t e how
 newest-told ws t n e (Whole w []) sending r old = both-none e.newest e.newest
 newest-told ws t n e (Renewed s u) sending r old = absurd (not-false old)
 newest-told ws t n e (Whole w (x ∷ [])) sending r old = refl
 newest-told ws t n e (Whole w (x ∷ y ∷ ys)) sending r old =
-    ap (λ (b : Bool). cond (b || e.newest) (content_by ws t e.opening (Whole w (x ∷ y ∷ ys))) None)
+    ap (λ (b : Bool). cond (b || e.newest) (content_by ws t e.ask (Whole w (x ∷ y ∷ ys))) None)
     (eqb-apart (length (numbers (x ∷ y ∷ ys))) 1 (λ (h : length (numbers (x ∷ y ∷ ys)) ≡ 1). omega (arith, h)))
 newest-told ws t n e NotUnderstood sending r old = none-either (is_newest_found e (found_for NotUnderstood n sending r))
 newest-told ws t n e Reset sending r old = none-either (is_newest_found e (found_for Reset n sending r))
@@ -142,9 +144,9 @@ newest-told ws t n e TimedOut sending r old = none-either (is_newest_found e (fo
 newest-told ws t n e Turned sending r old = none-either (is_newest_found e (found_for Turned n sending r))
 
 pub put-ended : (n t : ℕ) (ws : List Written) (e : Exchange) (f : Found) (how : Ending) → IsEnded n (How.Found f) how
-    → put_for ws (Some e) (if_newest e f (stored_for ws t e.opening f.told f.grounds)) ≡ put_for ws (Some e) (newest_content ws t e how)
+    → put_for ws (Some e) (if_newest e f (stored_for ws t e.ask f.told f.grounds)) ≡ put_for ws (Some e) (newest_content ws t e how)
 put-ended n t ws e f how i =
-    ap (λ (g : Found). put_for ws (Some e) (if_newest e g (stored_for ws t e.opening g.told g.grounds))) (i.0 None some_reader)
+    ap (λ (g : Found). put_for ws (Some e) (if_newest e g (stored_for ws t e.ask g.told g.grounds))) (i.0 None some_reader)
     ∙ ap (put_for ws (Some e)) (newest-told ws t n e how None some_reader i.1)
 
 -- what was renewed, as it is stored
@@ -177,6 +179,9 @@ stales-nothing n new x xs i = sym (ap (λ (y : Matter). stales_by y xs) i)
 
 pub stales-tell : (n : ℕ) (new : Numbers) (k : Notification) (x : Matter) (xs : List Stale) → IsMatter n new (M.Tells k) x → xs ≡ stales_by x xs
 stales-tell n new k x xs i = sym (ap (λ (y : Matter). stales_by y xs) i.1)
+
+pub stales-start : (n : ℕ) (new : Numbers) (k : Starting) (x : Matter) (xs : List Stale) → IsMatter n new (M.Starts k) x → xs ≡ stales_by x xs
+stales-start n new k x xs i = sym (ap (λ (y : Matter). stales_by y xs) i.2)
 
 pub stales-go : (n : ℕ) (new : Numbers) (g : Going) (x : Matter) (xs : List Stale) → IsMatter n new (M.Goes g) x
     → filter (is_about_another g.exchange.opening) xs ≡ stales_by x xs
@@ -215,6 +220,12 @@ stored-tells n t ws new k x put ps qs i is so =
     so k.found (is ∙ (ap (put_in ws t) i.1 ∙ ap (λ (key : CacheKey). pair_of (Some key) k.found) (sym i.2)))
     ∙ (ap (λ (key : CacheKey). retold key k.found ps) i.2 ∙ sym (ap (λ (y : Matter). store_by ws t y ps) i.1))
 
+pub stored-starts : (n t : ℕ) (ws : List Written) (new : Numbers) (k : Starting) (x : Matter) (put : Option Pair) (ps qs : List Pair) → IsMatter n new (M.Starts k) x
+    → put ≡ put_in ws t x → ((found : Option Stored) → put ≡ pair_of (Some k.key) found → qs ≡ retold k.key found ps) → qs ≡ store_by ws t x ps
+stored-starts n t ws new k x put ps qs i is so =
+    so None (is ∙ ap (put_in ws t) i.2)
+    ∙ (ap (λ (key : CacheKey). retold key None ps) i.3 ∙ sym (ap (λ (y : Matter). store_by ws t y ps) i.2))
+
 pub stored-nothing : (n t : ℕ) (ws : List Written) (new : Numbers) (x : Matter) (ps : List Pair) → IsMatter n new M.Nothing x → ps ≡ store_by ws t x ps
 stored-nothing n t ws new x ps i = sym (ap (λ (y : Matter). store_by ws t y ps) i)
 
@@ -242,6 +253,13 @@ pub exchanges-tell : (n : ℕ) (ws : List Written) (new : Numbers) (k : Notifica
 exchanges-tell n ws new k x es i =
     ap (λ (key : CacheKey). map (outdated_by ws key) es) i.2 ∙ sym (ap (λ (y : Matter). exchanges_by ws new.token y es) i.1)
 
+pub exchanges-start : (n : ℕ) (ws : List Written) (new : Numbers) (k : Starting) (x : Matter) (es : List Exchange) → IsMatter n new (M.Starts k) x
+    → map (outdated_by ws k.key) es ++ k.going.exchange ∷ [] ≡ exchanges_by ws new.token x es
+exchanges-start n ws new k x es i =
+    ap (λ (key : CacheKey). map (outdated_by ws key) es ++ k.going.exchange ∷ []) i.3
+    ∙ (ap (λ (token : List ℕ). map (outdated_by ws i.0.key) es ++ record k.going.exchange { token = token } ∷ []) i.9
+    ∙ sym (ap (λ (y : Matter). exchanges_by ws new.token y es) i.2))
+
 -- the pieces after it
 
 pub pieces-tell : (n : ℕ) (new : Numbers) (k : Notification) (x : Matter) (xs : List Piece) → IsMatter n new (M.Tells k) x → xs ≡ pieces_by n x xs
@@ -249,6 +267,17 @@ pieces-tell n new k x xs i = sym (ap (λ (y : Matter). pieces_by n y xs) i.1)
 
 pub issued-tells : (n : ℕ) (new : Numbers) (k : Notification) (x : Matter) (old : ℕ) → IsMatter n new (M.Tells k) x → old ≡ issued_by x old
 issued-tells n new k x old i = sym (ap (λ (y : Matter). issued_by y old) i.1)
+
+pub issued-starts : (n : ℕ) (new : Numbers) (k : Starting) (x : Matter) (old : ℕ) → IsMatter n new (M.Starts k) x → old + 1 ≡ issued_by x old
+issued-starts n new k x old i = sym (ap (λ (y : Matter). issued_by y old) i.2)
+
+got-with : (w : Work) (got : List Reply) → got_by (progress_with w got) ≡ got
+got-with (W.Fetches restarts pieces) got = refl
+got-with (W.Gives upload) got = refl
+
+some-named : (b : Option Block) → is_some b ≡ true → is_none b ≡ false
+some-named None e = absurd (cc e)
+some-named (Some b) e = refl
 
 pieces-got : (e : Exchange) (n : ℕ) (got : List Reply) (b : Option Block) (xs : List Piece) → is_none b ≡ is_none (first_got got)
     → (is_none b ≡ true → filter (is_of_other e) xs ≡ pieces_with e n got xs)
@@ -267,10 +296,14 @@ pieces-are : (n : ℕ) (new : Numbers) (g : Going) (x : Matter) (xs : List Piece
 pieces-are n new g x xs i =
     sym (ap (λ (y : Matter). pieces_by n y xs) i.1
     ∙ (ap (λ (u : Progress). pieces_with g.exchange n (got_by u) xs) i.2.is ∙ ap (λ (got : List Reply). pieces_with g.exchange n got xs) (got-with g.onward.work i.2.got)))
-  where
-    got-with : (w : Work) (got : List Reply) → got_by (progress_with w got) ≡ got
-    got-with (W.Fetches restarts pieces) got = refl
-    got-with (W.Gives upload) got = refl
+
+pub pieces-start : (n : ℕ) (new : Numbers) (k : Starting) (x : Matter) (xs : List Piece) → IsMatter n new (M.Starts k) x
+    → xs ++ record { opening = k.going.exchange.opening; number = n } ∷ [] ≡ pieces_by n x xs
+pieces-start n new k x xs i =
+    let e : Exchange = record k.going.exchange { token = [] } in
+    (pieces-got e n i.5.got k.going.onward.block xs i.5.anew).1 (some-named k.going.onward.block i.6)
+    ∙ sym (ap (λ (y : Matter). pieces_by n y xs) i.2
+    ∙ (ap (λ (u : Progress). pieces_with e n (got_by u) xs) i.5.is ∙ ap (λ (got : List Reply). pieces_with e n got xs) (got-with k.going.onward.work i.5.got)))
 
 pub pieces-next : (n : ℕ) (new : Numbers) (g : Going) (x : Matter) (xs : List Piece) (b : Block) → IsMatter n new (M.Goes g) x → g.onward.block ≡ Some b
     → xs ++ record { opening = g.exchange.opening; number = n } ∷ [] ≡ pieces_by n x xs

@@ -9,13 +9,13 @@ use Rattle.limits.specs.declared.TheConstants.{MAX_TRANSMIT_WAIT}
 use Rattle.history_laws.specs.Readings.{Noted, at, newest}
 use Rattle.history_laws.specs.Exchanges.{openings, is_going}
 use Rattle.history_laws.specs.Justified.{Legal}
-use Rattle.history_laws.proofs.CallerLemmas.{at-below, at-newest, openings-rising, Rising, rising-filter, some-is}
+use Rattle.history_laws.proofs.CallerLemmas.{at-below, at-newest, openings-rising, Rising, rising-filter, some-is, begun-opening}
 use Rattle.exchange_model.specs.declared.kept.Exchange.{Exchange}
 use Rattle.exchange_model.specs.State.{State}
 use Rattle.exchange_model.specs.Reads.{ExchangeIn, opening_of}
 use Rattle.exchange_model.specs.Due.{earlier, earliest, deadline}
 use Rattle.exchange_model.specs.Keeping.{Kept}
-use Rattle.exchange_model.specs.Steps.{is_past}
+use Rattle.exchange_model.specs.Hearing.{is_past}
 use Rattle.exchange_core.specs.Places.{OpenLater}
 use Rattle.exchange_core.proofs.TickDue.{earlier-assoc}
 
@@ -46,7 +46,7 @@ later-sinces : (start : Start) (l : List Noted) (e : Exchange) (es : List Exchan
     → AllByRecursion (λ (f : Exchange). e.since ≤ f.since) es
 later-sinces start l e [] legal i above all = tt
 later-sinces start l e (f ∷ fs) legal i above all =
-    (at-later l e.opening f.opening _ _ legal i.stands all.0.stands above.0, later-sinces start l e fs legal i above.1 all.1)
+    (at-later l e.opening f.opening _ _ legal (begun-opening l e.opening _ i.opening).2 (begun-opening l f.opening _ all.0.opening).2 above.0, later-sinces start l e fs legal i above.1 all.1)
 
 by-opening : (start : Start) (l : List Noted) (es : List Exchange) → Legal l → Rising (map opening_of es) → AllByRecursion (ExchangeIn start l) es → OpenLater es
 by-opening start l [] legal r all = tt

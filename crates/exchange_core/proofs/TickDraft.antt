@@ -2,7 +2,7 @@
 use Rattle.std.proofs.Common.{◌≡◌, ℕ, List, sym, ap, ◌∙◌}
 use Rattle.message_layer.specs.Calls.{is_among}
 use Rattle.exchange_model.specs.State.{State}
-use Rattle.exchange_model.specs.Steps.{is_gone}
+use Rattle.exchange_model.specs.Hearing.{is_gone}
 use Rattle.exchange_model.specs.Entering.{gone_tokens}
 use Rattle.exchange_model.proofs.CallerLemmas.{gone-tokens}
 

@@ -11,7 +11,7 @@ use Rattle.message_layer.specs.declared.state.Outstanding.{Outstanding}
 use Rattle.history_links.specs.Steps.{is_over as runs_out}
 use Rattle.exchange_model.specs.declared.kept.Exchange.{Exchange}
 use Rattle.exchange_model.specs.State.{State, link_of}
-use Rattle.exchange_model.specs.Steps.{is_past, expires, timed_out}
+use Rattle.exchange_model.specs.Hearing.{is_past, expires, timed_out}
 use Rattle.exchange_model.specs.Keeping.{Kept}
 use Rattle.exchange_model.proofs.CallerLemmas.{below, Few, few-copies}
 use Rattle.endpoint_table.specs.GivenUps.{given_up_by}

@@ -9,7 +9,8 @@ use Rattle.journal_book.specs.Entries.{Seals}
 use Rattle.exchange_model.specs.declared.kept.Exchange.{Exchange}
 use Rattle.exchange_model.specs.declared.kept.Reader.{Reader}
 use Rattle.exchange_model.specs.State.{State}
-use Rattle.exchange_model.specs.Steps.{is_past, seals}
+use Rattle.exchange_model.specs.Steps.{seals}
+use Rattle.exchange_model.specs.Hearing.{is_past}
 use Rattle.exchange_model.specs.Calls.{is_reader_of, read_by, timeout_for, told_late, something_due, ticked}
 use Rattle.exchange_model.specs.Due.{has_come, next_due}
 use Rattle.exchange_model.specs.Entering.{answer_of, entered_all, tick_deeds, IsDrained}

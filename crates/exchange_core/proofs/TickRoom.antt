@@ -8,7 +8,7 @@ use Rattle.history_laws.specs.Transmissions.{firsts, firsts_by}
 use Rattle.history_laws.specs.Sealing.{outstanding_count}
 use Rattle.history_laws.proofs.CallerLemmas.{entries-length}
 use Rattle.exchange_model.specs.State.{State}
-use Rattle.exchange_model.specs.Steps.{is_gone, timed_out}
+use Rattle.exchange_model.specs.Hearing.{is_gone, timed_out}
 use Rattle.exchange_model.specs.Calls.{told_late, something_due, ticked}
 use Rattle.exchange_model.specs.Entering.{all_deeds, answer_of, tick_deeds, IsDrained}
 use Rattle.exchange_model.specs.Keeping.{MayStep}

@@ -3,7 +3,8 @@ use Rattle.std.proofs.Common.{◌≡◌, ℕ, ◌≤◌, ◌<◌, cond, Bool, tr
 use Rattle.std.specs.Prelude.{filter}
 use Rattle.journal_book.specs.Entries.{Deed, Seals, Written}
 use Rattle.exchange_model.specs.State.{State}
-use Rattle.exchange_model.specs.Steps.{entered, is_past, seals}
+use Rattle.exchange_model.specs.Steps.{entered, seals}
+use Rattle.exchange_model.specs.Hearing.{is_past}
 use Rattle.exchange_model.specs.Calls.{told_late, ticked}
 use Rattle.exchange_model.specs.Entering.{entered_all, IsDrained}
 use Rattle.exchange_model.specs.Room.{fits, KeptInRoom}

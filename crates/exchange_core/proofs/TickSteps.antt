@@ -5,7 +5,9 @@ use Rattle.journal_book.specs.Entries.{Passes}
 use Rattle.message_layer.specs.Calls.{is_among}
 use Rattle.exchange_model.specs.declared.kept.Exchange.{Exchange}
 use Rattle.exchange_model.specs.State.{State}
-use Rattle.exchange_model.specs.Steps.{seals, passes, is_gone, is_of_none, is_stale_of_none, left_by, retired, timed_out, goes_on}
+use Rattle.exchange_model.specs.Steps.{seals}
+use Rattle.exchange_model.specs.Matters.{left_by}
+use Rattle.exchange_model.specs.Hearing.{passes, is_gone, is_of_none, is_stale_of_none, retired, timed_out, goes_on}
 use Rattle.exchange_model.specs.Calls.{tells, told_late, something_due, move_all, ticked}
 use Rattle.exchange_model.specs.Entering.{entered_all, all_going, sent_as, gone_tokens, link_after, tick_deeds, IsDrained}
 use Rattle.exchange_model.specs.Keeping.{MayStep}

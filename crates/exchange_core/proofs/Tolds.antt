@@ -20,7 +20,8 @@ use Rattle.exchange_model.specs.declared.kept.Work.{Work}
 use Rattle.exchange_model.specs.declared.kept.Work.TheVariants as W
 use Rattle.exchange_model.specs.declared.kept.Reader.{Reader}
 use Rattle.exchange_model.specs.State.{State, link_of}
-use Rattle.exchange_model.specs.Steps.{Matter, Nothing, Tells, Goes, Over, Numbers, hears, matter_of, moment_in}
+use Rattle.exchange_model.specs.Matters.{Matter, Nothing, Tells, Starts, Goes, Over, matter_of, moment_in}
+use Rattle.exchange_model.specs.Hearing.{Numbers, hears}
 use Rattle.exchange_model.specs.Calls.{is_reader_of, tell_of, told_for}
 use Rattle.exchange_model.specs.Entering.{answer_of}
 use Rattle.exchange_model.specs.Growing.{AreHeardAt, IsHeardAt, IsKeptIn, IsKnown, IsWorkOf}
@@ -45,6 +46,7 @@ each-same how n s (r ∷ rs) = ap (λ (ds : List Deed). answer_of (tell_of how n
 pub told-same : (n : ℕ) (x : Matter) (rs : List Reader) → map deed_of (told_of n x rs) ≡ map answer_of (told_for n x rs)
 told-same n Nothing rs = refl
 told-same n (Tells r found) rs = refl
+told-same n (Starts r e u) rs = refl
 told-same n (Goes e u) rs = refl
 told-same n (Over e how) rs = each-same how n e.sending (filter (is_reader_of e) rs)
 
@@ -52,6 +54,7 @@ told-same n (Over e how) rs = each-same how n e.sending (filter (is_reader_of e)
 pub told-few : (n : ℕ) (x : Matter) (rs : List Reader) → length (told_of n x rs) ≤ length rs
 told-few n Nothing rs = omega arith
 told-few n (Tells r found) rs = omega arith
+told-few n (Starts r e u) rs = omega arith
 told-few n (Goes e u) rs = omega arith
 told-few n (Over e how) rs =
     let map = length-map (filter (is_reader_of e) rs) (telling_for how n e.sending) in
@@ -208,5 +211,6 @@ module _ (t : ℕ) (p : Peer) (d : List ℕ) (S : State) (rest : List Deed) wher
         → AllByRecursion (IsTold S.entries drafted t) (told_of n x S.readers)
     all-told n Nothing is known_all = tt
     all-told n (Tells r found) is known_all = tt
+    all-told n (Starts r e u) is known_all = tt
     all-told n (Goes e u) is known_all = tt
     all-told n (Over e how) is known_all = each-told n e how (one-told n e how is) S.readers known_all

@@ -11,7 +11,8 @@ use Rattle.ask_model.specs.Requests.{CoapRequest, Sense, Requests, Refuses}
 use Rattle.ask_model.specs.Sharing.{asked_key, asked_place, is_get, key_read, place_written}
 use Rattle.journal_book.specs.Entries.{Written}
 use Rattle.exchange_model.specs.declared.kept.Exchange.{Exchange}
-use Rattle.exchange_model.specs.Steps.{asked_in, is_written_late, request_in}
+use Rattle.exchange_model.specs.Matters.{asked_in, request_in}
+use Rattle.exchange_model.specs.Hearing.{is_written_late}
 use Rattle.exchange_model.specs.Watching.{is_renewed_by, is_written_by, token_of, tokens_of}
 use Rattle.exchange_core.specs.Watching.{is_renewed_for, is_unwatched_by, may_watch}
 
@@ -104,11 +105,11 @@ drop-next (x ∷ xs) (suc i) d lt = drop-next xs i d (omega (arith, lt))
 
 pub written-next : (ws : List Written) (over : List Exchange) (i : ℕ) (e : Exchange) (old now new : List Registration)
     → i < length over → e ≡ get_or over i e → without (is_written_late ws (drop i over)) now ≡ without (is_written_late ws over) old
-    → new ≡ without (is_written_by (asked_in ws e.opening)) now
+    → new ≡ without (is_written_by (asked_in ws e.ask)) now
     → without (is_written_late ws (drop (i + 1) over)) new ≡ without (is_written_late ws over) old
 written-next ws over i e old now new lt at here last =
     ap (without (is_written_late ws (drop (i + 1) over))) last
-    ∙ sym (goes-either (is_written_by (asked_in ws e.opening)) (is_written_late ws (drop (i + 1) over)) now)
+    ∙ sym (goes-either (is_written_by (asked_in ws e.ask)) (is_written_late ws (drop (i + 1) over)) now)
     ∙ (ap (λ (es : List Exchange). without (is_written_late ws es) now)
     (ap (λ (k : ℕ). e ∷ drop k over) more ∙ (ap (λ (x : Exchange). x ∷ drop (suc i) over) at ∙ sym (drop-next over i e lt)))
     ∙ here)

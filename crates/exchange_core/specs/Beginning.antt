@@ -22,7 +22,8 @@ use Rattle.exchange_model.specs.declared.kept.Work.{Work}
 use Rattle.exchange_model.specs.declared.kept.Work.TheVariants as W
 use Rattle.exchange_model.specs.declared.kept.Reader.{Reader}
 use Rattle.exchange_model.specs.State.{State}
-use Rattle.exchange_model.specs.Steps.{first_work, seals, stale_for, Numbers}
+use Rattle.exchange_model.specs.Steps.{first_work, seals, stale_for}
+use Rattle.exchange_model.specs.Hearing.{Numbers}
 use Rattle.exchange_model.specs.Calls.{has_place}
 use Rattle.exchange_model.specs.Resting.{HasConn}
 use Rattle.exchange_model.specs.Room.{fits}
@@ -61,6 +62,7 @@ asked_digests (Refuses cause status) = record { place = 0; key = 0 }
 abbrev pub exchange_by : ℕ → List ℕ → Peer → Sense → Bool → Option FirstSending → ℕ → Exchange
 exchange_by t token p sense observes sent n = record {
   opening = n;
+  ask = n;
   token = token;
   since = t;
   peer = p;

@@ -7,7 +7,8 @@ use Rattle.ask_model.specs.Requests.{CoapRequest, Requests, opening_message}
 use Rattle.ask_model.specs.Views.{Ask}
 use Rattle.history_laws.specs.Numbering.{token_number}
 use Rattle.exchange_model.specs.State.{State, link_of}
-use Rattle.exchange_model.specs.Steps.{opens, shuts, asks_so, Numbers}
+use Rattle.exchange_model.specs.Steps.{opens, shuts, asks_so}
+use Rattle.exchange_model.specs.Hearing.{Numbers}
 use Rattle.exchange_model.specs.Resting.{HasConn}
 use Rattle.exchange_model.specs.Calls.{has_place, IsAlone, goes_by}
 use Rattle.exchange_model.specs.Keeping.{MayGoOn}

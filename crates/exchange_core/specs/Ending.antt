@@ -10,7 +10,8 @@ use Rattle.reply_reading.specs.Findings.{Found, Fails}
 use Rattle.exchange_model.specs.declared.kept.Exchange.{Exchange}
 use Rattle.exchange_model.specs.declared.kept.Reader.{Reader}
 use Rattle.exchange_model.specs.State.{State}
-use Rattle.exchange_model.specs.Steps.{is_past, moment_in}
+use Rattle.exchange_model.specs.Matters.{moment_in}
+use Rattle.exchange_model.specs.Hearing.{is_past}
 use Rattle.exchange_model.specs.Calls.{read_by, told_late}
 use Rattle.exchange_model.specs.Entering.{answer_of}
 use Rattle.exchange_core.specs.declared.ending.Telling.{Telling}

@@ -3,7 +3,7 @@ use Rattle.std.specs.Prelude.{ℕ, Bool, false, ◌&&◌, ◌||◌, List, Option
 use Rattle.std.specs.Str.{bytes_eq}
 use Rattle.exchange_model.specs.declared.kept.Exchange.{Exchange}
 use Rattle.exchange_model.specs.State.{PeerLink, link_of}
-use Rattle.exchange_model.specs.Steps.{is_past}
+use Rattle.exchange_model.specs.Hearing.{is_past}
 use Rattle.endpoint_table.specs.GivenUps.{given_at, given_up}
 use Rattle.endpoint_table.specs.declared.given_up.GivenUp.{GivenUp}
 

@@ -1,5 +1,5 @@
 -- What a datagram leaves of a core.
-use Rattle.std.specs.Prelude.{◌≡◌, ℕ, ◌+◌, ◌&&◌, ◌||◌, Bool, not, is_some, List, ◌∷◌, ◌++◌, length, map, Option, Some, None, option_to_list}
+use Rattle.std.specs.Prelude.{◌≡◌, ℕ, ◌+◌, ◌&&◌, ◌||◌, Bool, true, not, is_some, List, ◌∷◌, ◌++◌, length, map, Option, Some, None, option_to_list}
 use Rattle.std.specs.List.{list_any}
 use Rattle.uri_map.specs.declared.peer.Peer.{Peer}
 use Rattle.journal_book.specs.Entries.{Deed, Hears, Written}
@@ -13,12 +13,14 @@ use Rattle.history_laws.specs.Progress.{Progress}
 use Rattle.exchange_model.specs.declared.kept.Exchange.{Exchange}
 use Rattle.exchange_model.specs.declared.kept.Piece.{Piece}
 use Rattle.exchange_model.specs.State.{State, link_of, with_link}
-use Rattle.exchange_model.specs.Steps.{Matter, Goes, asked_in, exchanges_by, got_by, is_piece_of, issued_by, newest_by, pieces_by, stales_by, store_by, went_out}
+use Rattle.exchange_model.specs.Steps.{went_out}
+use Rattle.exchange_model.specs.Matters.{Matter, Goes, asked_in, is_piece_of}
+use Rattle.exchange_model.specs.Hearing.{exchanges_by, got_by, issued_by, newest_by, pieces_by, stales_by, store_by}
 use Rattle.exchange_model.specs.Calls.{told_for}
 use Rattle.exchange_model.specs.Entering.{Effect, answer_of, confirm, entered_all}
 use Rattle.exchange_model.specs.Watching.{is_written_by}
 use Rattle.endpoint_table.specs.Tables.{heeds}
-use Rattle.exchange_table.specs.Tables.{IsNewest}
+use Rattle.exchange_table.specs.Tables.{IsLatest, IsNewest}
 use Rattle.exchange_core.specs.declared.matter.Matter.{Matter as RustMatter}
 use Rattle.exchange_core.specs.declared.matter.Matter.TheVariants as M
 use Rattle.exchange_core.specs.declared.matter.Going.{Going}
@@ -46,10 +48,17 @@ abbrev pub hearing_deeds : Peer → List ℕ → Heeding → Option FirstSending
 hearing_deeds p d x next matter S =
     link_deeds p d x next ++ map answer_of (told_for (length S.entries) matter S.readers)
 
--- The token of a next message was issued after those of all others.
+-- The token of a next message was issued after those of all others; an exchange that begins is the
+-- latest.
 abbrev pub IsNewestIn : RustMatter → List Exchange → Type 0
 IsNewestIn (M.Goes g) es = IsNewest g.token es
+IsNewestIn (M.Starts s) es = IsLatest s.going.exchange es
 IsNewestIn k es = Unit {0}
+
+-- There is room for the exchange that begins, if one does.
+abbrev pub HasRoomFor : RustMatter → Bool → Type 0
+HasRoomFor (M.Starts s) room = room ≡ true
+HasRoomFor k room = Unit {0}
 
 -- An exchange goes on by the first of its replies.
 abbrev pub is_first : List Piece → Going → Bool
@@ -68,9 +77,10 @@ abbrev pub watches_after :
     → List Registration
 watches_after t ws notice M.Nothing more rs = rs
 watches_after t ws notice (M.Tells k) more rs = noticed k.token notice t rs
+watches_after t ws notice (M.Starts s) more rs = noticed s.watch notice t rs
 watches_after t ws notice (M.Goes g) more rs = rs ++ option_to_list more
 watches_after t ws notice (M.Over e ended) more rs =
-    without (is_written_by (asked_in ws e.opening)) (rs ++ option_to_list more)
+    without (is_written_by (asked_in ws e.ask)) (rs ++ option_to_list more)
 
 -- It is this: to the exchanges, and to what is observed.
 pub record IsEffect (t : ℕ) (k : RustMatter) (w : Watching) (x : Effect) (S : State) : Type 0 where

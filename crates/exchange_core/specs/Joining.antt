@@ -5,7 +5,8 @@ use Rattle.ask_model.specs.Requests.{Sense}
 use Rattle.ask_model.specs.Views.{Ask}
 use Rattle.exchange_model.specs.declared.kept.Exchange.{Exchange}
 use Rattle.exchange_model.specs.State.{State}
-use Rattle.exchange_model.specs.Steps.{joins, Numbers}
+use Rattle.exchange_model.specs.Steps.{joins}
+use Rattle.exchange_model.specs.Hearing.{Numbers}
 use Rattle.exchange_model.specs.Calls.{asked}
 use Rattle.exchange_model.specs.Room.{KeptInRoom}
 use Rattle.exchange_model.specs.Sealing.{in_room}

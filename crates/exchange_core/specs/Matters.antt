@@ -19,8 +19,10 @@ use Rattle.observe_share.specs.declared.registration.Registration.{Registration}
 use Rattle.exchange_model.specs.declared.kept.Exchange.{Exchange}
 use Rattle.exchange_model.specs.declared.kept.Reader.{Reader}
 use Rattle.exchange_model.specs.State.{State}
-use Rattle.exchange_model.specs.Steps.{Matter, Nothing, Tells, Goes, Over, Numbers, asked_in, comes_to, has_next_place, is_under, replied, stale_in}
-use Rattle.exchange_model.specs.Calls.{is_reader_of}
+use Rattle.exchange_model.specs.Steps.{is_under}
+use Rattle.exchange_model.specs.Matters.{Matter, Nothing, Tells, Starts, Goes, Over, asked_in, comes_to, has_next_place, replied, stale_in}
+use Rattle.exchange_model.specs.Hearing.{Numbers}
+use Rattle.exchange_model.specs.Calls.{goes_with, is_reader_of}
 use Rattle.exchange_model.specs.Growing.{IsFewTimes as WorkedFew, IsWorkOf}
 use Rattle.exchange_model.specs.Laws.{IsContinued}
 use Rattle.exchange_progress.specs.Coming.{IsComing, IsEnded, IsOnward, found_for, renews}
@@ -72,14 +74,23 @@ abbrev pub IsMatter : ℕ → Numbers → RustMatter → Matter → Type 0
 IsMatter n new M.Nothing x = x ≡ Nothing
 IsMatter n new (M.Tells k) x =
     (r : Registration) × (x ≡ Tells r k.found) × (k.key ≡ r.key) × (k.token ≡ r.token)
+IsMatter n new (M.Starts s) x =
+    (r : Registration) × (u : Progress)
+    × (x ≡ Starts r (record s.going.exchange { token = [] }) u)
+    × (s.key ≡ r.key) × (s.watch ≡ r.token)
+    × IsOnward s.going.onward u × (is_some s.going.onward.block ≡ true)
+    × (s.going.exchange.opening ≡ n)
+    × (s.going.token ≡ new.token) × (s.going.exchange.token ≡ new.token)
+    × (s.going.submission.waiting ≡ waits new.token new.text new.word)
 IsMatter n new (M.Goes g) x =
     (u : Progress) × (x ≡ Goes g.exchange u) × IsOnward g.onward u × (g.token ≡ new.token)
     × (g.submission.waiting ≡ waits new.token new.text new.word)
 IsMatter n new (M.Over e ended) x = (how : Ending) × (x ≡ Over e how) × IsEnded n ended how
 
--- the message that an exchange goes on with
+-- the message that an exchange goes on with, or begins with
 abbrev pub more_in : RustMatter → Option Submission
 more_in (M.Goes g) = Some g.submission
+more_in (M.Starts s) = Some s.going.submission
 more_in x = None
 
 -- The next message is for this block of what was asked for, or of its body, or for the first; it is
@@ -98,15 +109,16 @@ under token text word = record { token = token; text = text; word = word }
 abbrev pub IsNextToken : ℕ → List ℕ → State → Type 0
 IsNextToken word token S = IsWordedBy word (under token [] word) S
 
--- It is this; and where an exchange goes on, its next message is spelled under the next token, and
--- prepared after the datagram.
+-- It is this; and where an exchange goes on, or begins, its next message is spelled under the next
+-- token, and prepared after the datagram.
 pub record IsPrepared (t word : ℕ) (link : LinkValue) (x : Heeding) (S : State)
     (k : RustMatter) (matter : Matter) : Type 0 where
   pub numbers : Numbers
   pub worded : IsWordedBy word numbers S
   pub is : IsMatter (length S.entries) numbers k matter
-  pub continued : (e : Exchange) (u : Progress) → matter ≡ Goes e u → IsContinued e u numbers S
-  pub short : (e : Exchange) (u : Progress) → matter ≡ Goes e u
+  pub continued : (e : Exchange) (u : Progress) → goes_with matter ≡ Some (e, u)
+      → IsContinued e u numbers S
+  pub short : (e : Exchange) (u : Progress) → goes_with matter ≡ Some (e, u)
       → length numbers.text ≤ MAX_MESSAGE_LEN
   pub follows : MayFollow t link x (more_in k)
 
@@ -147,5 +159,5 @@ IsFewTimes e = WorkedFew e.work
 -- It was opened for a request that stands in the entries, and what is kept of it is for that.
 abbrev pub IsAskedFor : List Written → Exchange → Type 0
 IsAskedFor ws e =
-    (is_some (asked_in ws e.opening) ≡ true)
-    × ((q : CoapRequest) → asked_in ws e.opening ≡ Some q → IsWorkOf q e.work)
+    (is_some (asked_in ws e.ask) ≡ true)
+    × ((q : CoapRequest) → asked_in ws e.ask ≡ Some q → IsWorkOf q e.work)

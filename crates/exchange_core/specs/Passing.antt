@@ -2,7 +2,7 @@
 use Rattle.std.specs.Prelude.{ℕ, Bool, List, filter, map}
 use Rattle.exchange_model.specs.declared.kept.Exchange.{Exchange}
 use Rattle.exchange_model.specs.State.{State}
-use Rattle.exchange_model.specs.Steps.{is_of_none, is_stale_of_none, retired}
+use Rattle.exchange_model.specs.Hearing.{is_of_none, is_stale_of_none, retired}
 use Rattle.exchange_model.specs.Entering.{link_after}
 use Rattle.observe_share.specs.Watches.{without}
 use Rattle.exchange_core.specs.Drafts.{DraftValue}

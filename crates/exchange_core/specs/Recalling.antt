@@ -13,7 +13,7 @@ use Rattle.journal_book.specs.Views.{ask_of}
 use Rattle.history_laws.specs.Responses.{whole_fetched}
 use Rattle.reply_reading.specs.Findings.{Tells}
 use Rattle.exchange_model.specs.State.{State}
-use Rattle.exchange_model.specs.Steps.{Numbers}
+use Rattle.exchange_model.specs.Hearing.{Numbers}
 use Rattle.exchange_model.specs.Calls.{asked}
 use Rattle.exchange_model.specs.Entering.{entered_all}
 use Rattle.exchange_model.specs.Room.{KeptInRoom}

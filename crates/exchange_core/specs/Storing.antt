@@ -12,7 +12,8 @@ use Rattle.history_laws.specs.Responses.{Response}
 use Rattle.history_laws.specs.Storing.{content}
 use Rattle.reply_reading.specs.Findings.{Found, Told, Tells, Fails}
 use Rattle.exchange_model.specs.declared.kept.Exchange.{Exchange}
-use Rattle.exchange_model.specs.Steps.{Matter, Over, Tells as Notifies, asked_in, moment_in, newest_content, settled}
+use Rattle.exchange_model.specs.Matters.{Matter, Over, Tells as Notifies, asked_in, moment_in}
+use Rattle.exchange_model.specs.Hearing.{newest_content, settled}
 use Rattle.exchange_core.specs.Ending.{last_moment}
 
 -- the whole 2.05 that is told, if it is one
@@ -41,7 +42,7 @@ key_got q = if is_get q then Some (asked_key q) else None
 abbrev pub key_ended : List Written → Option Exchange → Option CacheKey
 key_ended ws None = None
 key_ended ws (Some e) =
-    if e.current then option_and_then key_got (asked_in ws e.opening) else None
+    if e.current then option_and_then key_got (asked_in ws e.ask) else None
 
 -- No notification that counts came since the first of the replies that are whole.
 abbrev pub is_newest_by : Bool → Grounds → Bool

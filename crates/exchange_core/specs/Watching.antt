@@ -9,7 +9,7 @@ use Rattle.ask_model.specs.Views.{Rules}
 use Rattle.journal_book.specs.Entries.{Written}
 use Rattle.history_laws.specs.Observing.{most_watches}
 use Rattle.exchange_model.specs.declared.kept.Exchange.{Exchange}
-use Rattle.exchange_model.specs.Steps.{is_written_late}
+use Rattle.exchange_model.specs.Hearing.{is_written_late}
 use Rattle.exchange_model.specs.Watching.{is_renewed_by}
 
 -- A request that opens an exchange ends what it observes.

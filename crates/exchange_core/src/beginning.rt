@@ -53,7 +53,7 @@ use transformers::Relation;
 use uri_map::Peer;
 
 /// The code of a GET (RFC 7252 section 12.1.1).
-const GET: u8 = 1;
+pub const GET: u8 = 1;
 
 /// What an ask comes to.
 #[derive(Drop)]
@@ -188,6 +188,7 @@ fn exchange_of<R: Relation>(
     };
     Exchange {
         opening,
+        ask: opening,
         token,
         since: moment,
         peer,

@@ -3,7 +3,7 @@
 ghost use Rattle.std.specs.Prelude.{◌≡◌, ◌≤◌, ◌^◌};
 ghost use Rattle.std.specs.List.{AllByRecursion};
 ghost use Rattle.exchange_model.specs.Due.{earlier, earliest, deadline, idle_from, next_due};
-ghost use Rattle.exchange_model.specs.Steps.{is_past};
+ghost use Rattle.exchange_model.specs.Hearing.{is_past};
 ghost use Rattle.exchange_table.specs.Places.{RiseBy};
 ghost use Rattle.exchange_table.specs.Tables.{opening_of};
 ghost use Rattle.exchange_core.specs.Due.{IsAskedEarly, IsSince, next_late, next_tick, read_deadline};

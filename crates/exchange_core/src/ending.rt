@@ -6,7 +6,7 @@ ghost use Rattle.journal_book.specs.Entries.{Deed, Written};
 ghost use Rattle.journal_book.specs.Views.{grounds_of};
 ghost use Rattle.history_laws.specs.Progress.{Ending};
 ghost use Rattle.exchange_model.specs.State.{State as CoreState};
-ghost use Rattle.exchange_model.specs.Steps.{moment_in};
+ghost use Rattle.exchange_model.specs.Matters.{moment_in};
 ghost use Rattle.exchange_progress.specs.Coming.{IsEnded, found_for, renews};
 ghost use Rattle.exchange_core.specs.Answering.{given_of};
 ghost use Rattle.exchange_core.specs.Asked.{IsAskIn};

@@ -5,7 +5,8 @@ ghost use Rattle.std.specs.List.{AllByRecursion};
 ghost use Rattle.limits.specs.declared.TheConstants.{LAST_MOMENT};
 ghost use Rattle.exchange_model.specs.declared.kept.Exchange.{Exchange as Row};
 ghost use Rattle.exchange_model.specs.Entering.{token_of};
-ghost use Rattle.exchange_model.specs.Steps.{IsDigested, is_past, left_by};
+ghost use Rattle.exchange_model.specs.Matters.{IsDigested, left_by};
+ghost use Rattle.exchange_model.specs.Hearing.{is_past};
 ghost use Rattle.exchange_core.specs.Expiring.{is_over, is_over_by, is_that};
 ghost use Rattle.exchange_core.specs.Places.{OpenLater};
 

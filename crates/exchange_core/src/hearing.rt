@@ -9,11 +9,12 @@ ghost use Rattle.message_layer.specs.Hearing.{listed};
 ghost use Rattle.message_layer.specs.Prepared.{IsHearing, MayFollow, MayHeed};
 ghost use Rattle.endpoint_table.specs.Tables.{link_at};
 ghost use Rattle.exchange_model.specs.State.{State as CoreState, link_of};
-ghost use Rattle.exchange_model.specs.Steps.{IsDigested, Matter as ModelMatter, Numbers, exchanges_by, issued_by, pieces_by, stales_by, store_by};
+ghost use Rattle.exchange_model.specs.Matters.{IsDigested, Matter as ModelMatter};
+ghost use Rattle.exchange_model.specs.Hearing.{Numbers, exchanges_by, issued_by, pieces_by, stales_by, store_by};
 ghost use Rattle.exchange_model.specs.Entering.{Effect, confirm};
 ghost use Rattle.exchange_core.specs.Calls.{HearsSo};
 ghost use Rattle.exchange_core.specs.Drafts.{Drafts, IsDrafted};
-ghost use Rattle.exchange_core.specs.Hearing.{IsEffect, IsFirstSo, IsNewestIn, first_number, hearing_deeds, is_first, link_deeds, note_next, tables_after, watches_after, with_heard};
+ghost use Rattle.exchange_core.specs.Hearing.{HasRoomFor, IsEffect, IsFirstSo, IsNewestIn, first_number, hearing_deeds, is_first, link_deeds, note_next, tables_after, watches_after, with_heard};
 ghost use Rattle.exchange_core.specs.Matters.{IsMatter, IsNextToken, TellsSo, more_in, next_in, told_of};
 ghost use Rattle.exchange_core.specs.Places.{IsOrdered};
 ghost use Rattle.exchange_core.specs.Sending.{IsTimed};
@@ -151,8 +152,8 @@ fn is_first(fetched: &Fetched, going: &Going) -> bool
     going.onward.block.is_some() && !fetched.has_any_of(going.exchange.opening)
 }
 
-/// The exchanges after the datagram: one goes on, or ends; where that was a write, GETs join those
-/// of its place no more.
+/// The exchanges after the datagram: one begins, goes on, or ends; where that was a write, GETs
+/// join those of its place no more.
 fn change_exchanges<R: Relation>(
     exchanges: &mut Exchanges,
     journal: &Journal<R>,
@@ -160,6 +161,7 @@ fn change_exchanges<R: Relation>(
     matter: &Matter,
 )
     requires newest { IsNewestIn matter.now exchanges.old.exchanges }
+    requires room { HasRoomFor matter.now exchanges.old.room }
     requires digests { AllByRecursion (IsDigested journal.now.entries) exchanges.old.exchanges }
     ensures { (n : ℕ) (new : Numbers) (x : ModelMatter) → IsMatter n new matter.now x
         → IsFirstSo fetched.now.pieces matter.now x
@@ -169,6 +171,10 @@ fn change_exchanges<R: Relation>(
     match matter {
         Matter::Nothing => {}
         Matter::Tells(told) => exchanges.outdate(journal, &told.key),
+        Matter::Starts(starting) => {
+            exchanges.outdate(journal, &starting.key);
+            exchanges.push_in_room(starting.going.exchange);
+        }
         Matter::Goes(going) => {
             let is_first = is_first(fetched, going);
             let work = going.onward.work;
@@ -209,6 +215,9 @@ fn change_pieces(fetched: &mut Fetched, matter: &Matter, number: u32)
 {
     match matter {
         Matter::Nothing | Matter::Tells(_) => {}
+        Matter::Starts(starting) => {
+            fetched.push_in_room(starting.going.exchange.opening, number);
+        }
         Matter::Goes(going) => match going.onward.block {
             Some(_) => fetched.push_in_room(going.exchange.opening, number),
             None => fetched.drop_of(going.exchange.opening),
@@ -223,7 +232,7 @@ fn change_stales(stales: &mut Stales, matter: &Matter)
         → stales.new.stales ≡ stales_by x stales.old.stales }
 {
     match matter {
-        Matter::Nothing | Matter::Tells(_) => {}
+        Matter::Nothing | Matter::Tells(_) | Matter::Starts(_) => {}
         Matter::Goes(going) => stales.drop_of(going.exchange.opening),
         Matter::Over(exchange, _) => stales.drop_of(exchange.opening),
     }
@@ -243,6 +252,7 @@ fn change_store<R: Relation>(
 {
     match matter {
         Matter::Tells(told) => retell(store, &told.key, put),
+        Matter::Starts(starting) => retell(store, &starting.key, put),
         Matter::Over(exchange, _) => settle(store, journal, exchange, put),
         _ => {}
     }
@@ -267,6 +277,9 @@ fn change_watches<R: Relation>(
         Matter::Tells(told) => {
             let _told = watches.notified(&told.token, notice, moment);
         }
+        Matter::Starts(starting) => {
+            let _told = watches.notified(&starting.watch, notice, moment);
+        }
         Matter::Goes(_) => register(watches, more),
         Matter::Over(exchange, _) => {
             register(watches, more);
@@ -282,7 +295,7 @@ fn issued_after(issued: u32, matter: &Matter) -> u32
         → result ≡ issued_by x issued }
 {
     match matter {
-        Matter::Goes(_) => issued + 1,
+        Matter::Goes(_) | Matter::Starts(_) => issued + 1,
         _ => issued,
     }
 }
@@ -293,6 +306,7 @@ fn into_more(matter: Matter) -> Option<Submission>
 {
     match matter {
         Matter::Goes(going) => Some(going.submission),
+        Matter::Starts(starting) => Some(starting.going.submission),
         _ => None,
     }
 }
@@ -314,6 +328,7 @@ fn change_tables<R: Relation>(
     requires few { length s.old.journal.entries ≤ MAX_ENTRIES }
     requires issued { s.old.issued < 4294967295 }
     requires newest { IsNewestIn matter s.old.exchanges.exchanges }
+    requires open { HasRoomFor matter s.old.exchanges.room }
     requires digests { AllByRecursion (IsDigested s.old.journal.entries) s.old.exchanges.exchanges }
     requires early { moment ≤ LAST_MOMENT }
     requires ready { MayHeed moment (link_at s.old.endpoints peer) heeding }
@@ -352,6 +367,17 @@ fn change_tables<R: Relation>(
         .heed(&peer, heeding, more, &watching.gone, moment);
 }
 
+/// Makes room for the exchange that begins, if one does.
+fn make_room_to_open(exchanges: &mut Exchanges, matter: &Matter) -> Result<(), AllocError>
+    ensures same { exchanges.new.exchanges ≡ exchanges.old.exchanges }
+    ensures room { OnOk result (HasRoomFor matter.now exchanges.new.room) }
+{
+    if let Matter::Starts(_) = matter {
+        exchanges.make_room()?;
+    }
+    Ok(())
+}
+
 /// Adds what was drafted, once there are places for it, and changes the tables.
 fn add_heard<R: Relation>(
     s: &mut State<R>,
@@ -387,6 +413,7 @@ fn add_heard<R: Relation>(
     make_places(s, &draft)?;
     make_room_for(&mut s.store, &put)?;
     s.fetched.make_room()?;
+    make_room_to_open(&mut s.exchanges, &matter)?;
     make_room_to_watch(&mut s.watches, &watching.more)?;
     change_tables(s, moment, peer, heeding, matter, watching, put);
     commit(s, draft, moment);

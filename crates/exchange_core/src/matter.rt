@@ -11,7 +11,8 @@ ghost use Rattle.message_layer.specs.Values.{told};
 ghost use Rattle.message_layer.specs.Prepared.{IsUnnumberedCon, MayHeed};
 ghost use Rattle.endpoint_table.specs.Tables.{link_at};
 ghost use Rattle.exchange_model.specs.State.{link_of};
-ghost use Rattle.exchange_model.specs.Steps.{asked_in, has_next_place, is_under, stale_in};
+ghost use Rattle.exchange_model.specs.Steps.{is_under};
+ghost use Rattle.exchange_model.specs.Matters.{asked_in, has_next_place, stale_in};
 ghost use Rattle.exchange_progress.specs.Coming.{AsksSayable, IsComing, comes_by};
 ghost use Rattle.exchange_core.specs.Matters.{IsAnswered, IsAskedFor, IsFewTimes, IsNextFor, IsNextToken, IsPrepared, answer_in, matter_for, next_in};
 ghost use Rattle.exchange_core.specs.Renewing.{unless_confirmed};
@@ -61,6 +62,18 @@ pub struct Notification {
     pub found: Option<StoredResponse>,
 }
 
+/// A notification that counts, with the first piece of a representation, the rest of which an
+/// exchange fetches (RFC 7959 section 3.4).
+#[derive(Drop)]
+pub struct Starting {
+    /// what it is of
+    pub key: Key,
+    /// what it came under
+    pub watch: Token,
+    /// the exchange, with its first message
+    pub going: Going,
+}
+
 /// What a datagram is to the exchanges and to what is observed.
 #[derive(Drop)]
 pub enum Matter {
@@ -68,6 +81,8 @@ pub enum Matter {
     Nothing,
     /// it tells of what is observed
     Tells(Notification),
+    /// it begins an exchange that fetches the rest of what it tells
+    Starts(Starting),
     /// by it an exchange goes on
     Goes(Going),
     /// by it this exchange ends so
@@ -165,18 +180,18 @@ fn answer_in<R: Relation>(
 fn next_text<R: Relation>(
     alloc: Global,
     journal: &Journal<R>,
-    opening: u32,
+    ask: u32,
     block: Option<Block>,
     token: &Token,
 ) -> Result<Bytes, AllocError>
-    requires asked { is_some (asked_in journal.now.entries opening) ≡ true }
+    requires asked { is_some (asked_in journal.now.entries ask) ≡ true }
     requires block { IfSome block IsSayable }
-    ensures spelled { (q : CoapRequest) → asked_in journal.now.entries opening ≡ Some q
+    ensures spelled { (q : CoapRequest) → asked_in journal.now.entries ask ≡ Some q
         → IfOk result (λ text. Spells (block_message q (block_or_first q block) 0 token.now) text) }
     ensures short { IfOk result (λ text. length text ≤ MAX_MESSAGE_LEN) }
     ensures message { IfOk result (IsUnnumberedCon token.now) }
 {
-    let Some(mapped) = asked(journal, opening) else {
+    let Some(mapped) = asked(journal, ask) else {
         unreachable!()
     };
     let Some(text) = mapped.request(alloc, block, 0, token)? else {
@@ -186,7 +201,7 @@ fn next_text<R: Relation>(
 }
 
 /// Prepares the next message of the exchange, under the next token, or finds no place for it.
-fn prepare_next<R: Relation>(
+pub fn prepare_next<R: Relation>(
     alloc: Global,
     s: &State<R>,
     moment: u64,
@@ -194,21 +209,21 @@ fn prepare_next<R: Relation>(
     token: &Token,
     peer: &Peer,
     heeding: &Heeding,
-    opening: u32,
+    ask: u32,
     block: Option<Block>,
 ) -> Result<Option<Submission>, AllocError>
     requires early { moment ≤ LAST_MOMENT }
     requires ready { MayHeed moment (link_at s.now.endpoints peer.now) heeding.now }
     requires known { is_some (link_of s.now.endpoints.links peer.now).last_mid ≡ true }
-    requires asked { is_some (asked_in s.now.journal.entries opening) ≡ true }
+    requires asked { is_some (asked_in s.now.journal.entries ask) ≡ true }
     requires block { IfSome block IsSayable }
-    ensures next { (q : CoapRequest) → asked_in s.now.journal.entries opening ≡ Some q
+    ensures next { (q : CoapRequest) → asked_in s.now.journal.entries ask ≡ Some q
         → IfOk result (λ o. IfSome o (IsNextFor moment word
         (link_at s.now.endpoints peer.now) heeding.now q block token.now)) }
     ensures place { IfOk result (λ o. is_some o
         ≡ has_next_place moment peer.now heeding.now.verdict (state_of s.now)) }
 {
-    let text = next_text(alloc, &s.journal, opening, block, token)?;
+    let text = next_text(alloc, &s.journal, ask, block, token)?;
     match s
         .endpoints
         .prepare_more(peer, heeding, *token, text.as_slice(), moment, word)
@@ -250,9 +265,9 @@ pub fn matter_of<R: Relation>(
     match coming {
         Coming::Ends(ended) => Ok(Matter::Over(exchange, ended)),
         Coming::Goes(onward) => {
-            let opening = exchange.opening;
+            let ask = exchange.ask;
             let block = onward.block;
-            let next = prepare_next(alloc, s, moment, word, token, peer, heeding, opening, block)?;
+            let next = prepare_next(alloc, s, moment, word, token, peer, heeding, ask, block)?;
             match next {
                 Some(submission) => Ok(Matter::Goes(Going {
                     exchange,
@@ -275,6 +290,7 @@ pub fn next_in<'a>(heeding: &'a Heeding, matter: &'a Matter) -> &'a Option<First
     }
     match matter {
         Matter::Goes(going) => &going.submission.sent,
+        Matter::Starts(starting) => &starting.going.submission.sent,
         _ => &heeding.next,
     }
 }

@@ -1,32 +1,37 @@
 //! Messages under the tokens of what is observed (RFC 7641).
 
-ghost use Rattle.std.specs.Prelude.{◌≡◌, ◌≤◌, ◌<◌, ◌++◌, true, is_some, ◌&&◌, IfOk, IfSome, OnOk, length, nat_lt, option_to_list};
+ghost use Rattle.std.specs.Prelude.{ℕ, ◌≡◌, ◌≤◌, ◌<◌, ◌++◌, true, is_some, Some, ◌&&◌, IfOk, IfSome, OnOk, length, nat_lt, option_to_list};
 ghost use Rattle.std.specs.List.{AllByRecursion};
 ghost use Rattle.limits.specs.declared.TheConstants.{LAST_MOMENT, MAX_ENTRIES};
 ghost use Rattle.coap_codec.specs.Spelling.{Content, content};
 ghost use Rattle.message_layer.specs.Values.{told};
+ghost use Rattle.ask_model.specs.Requests.{CoapRequest};
+ghost use Rattle.blockwise.specs.Downloads.{IsSayable};
+ghost use Rattle.observe_share.specs.declared.notice.Notice.TheVariants.{Update};
 ghost use Rattle.message_layer.specs.Prepared.{MayHeed};
 ghost use Rattle.message_layer.specs.declared.verdict.News.{News};
 ghost use Rattle.history_laws.specs.Hearing.{is_such};
 ghost use Rattle.history_laws.specs.Observing.{as_first, notice_in};
 ghost use Rattle.endpoint_table.specs.Tables.{link_at};
-ghost use Rattle.exchange_model.specs.State.{State as CoreState, link_of};
-ghost use Rattle.exchange_model.specs.Steps.{Matter as ModelMatter, Numbers, found_in, told_alone};
+ghost use Rattle.exchange_model.specs.State.{link_of};
+ghost use Rattle.exchange_model.specs.Matters.{IsDigested, Matter as ModelMatter, Tells as TellsOf, asked_in, has_next_place, told_alone, told_so};
+ghost use Rattle.exchange_model.specs.Hearing.{Numbers};
 ghost use Rattle.exchange_core.specs.Matters.{IsAskedFor, IsFewTimes, IsMatter, IsNextToken, IsPrepared};
-ghost use Rattle.exchange_core.specs.Notifying.{IsReadBy, IsNotedIn, IsUnder, IsWatchedBy, ReadsIn, is_alone, matter_told, notice_told, registered_by, unless_more};
+ghost use Rattle.exchange_core.specs.Notifying.{IsReadBy, IsNotedIn, IsStarted, IsUnder, IsWatchedBy, IsWatchedFor, ReadsIn, has_link_place, is_alone, matter_told, may_start_for, notice_told, registered_by, started, unless_more};
 ghost use Rattle.exchange_core.specs.States.{state_of};
 
-use crate::matter::{Matter, Notification, matter_of};
+use crate::beginning::GET;
+use crate::matter::{Going, Matter, Notification, Starting, matter_of, prepare_next};
 use crate::state::State;
 use crate::storing::stored_for;
 use crate::watching::add_written;
 use cache_key::Key;
 use coap_codec::{Message, MsgType, Token};
-use exchange_model::Exchange;
-use exchange_progress::{Coming, Ended, comes_first, notice_of};
+use exchange_model::{Exchange, Work};
+use exchange_progress::{Coming, Ended, Onward, comes_first, notice_of};
 use exchange_table::asked;
-use journal_book::Journal;
-use message_layer::{Heeding, Up};
+use limits::MAX_EXCHANGES;
+use message_layer::{Heeding, LinkFault, Up};
 use observe_share::{Notice, Registration, Watch};
 use resp_cache::StoredResponse;
 use std::alloc::{AllocError, Global};
@@ -63,31 +68,161 @@ fn is_such(message: &Message) -> bool
     }
 }
 
-/// What is stored by a notification that counts, in the entry with this number, for what the
-/// exchange with this opening registered.
-fn found_in<R: Relation>(
-    alloc: Global,
-    journal: &Journal<R>,
-    moment: u64,
-    notice: Notice,
-    opening: u32,
-    number: u32,
-    message: Message,
-) -> Result<Option<StoredResponse>, AllocError>
-    ensures { (S : CoreState) → S.entries ≡ journal.now.entries
-        → IfOk result (λ o. o
-        ≡ found_in moment S notice opening (as_first number 0 (content message))) }
+/// A notification that counts for this watch: by it this is stored.
+fn notification(watch: &Registration, found: Option<StoredResponse>) -> Result<Matter, AllocError>
+    ensures { (n : ℕ) (new : Numbers) → IfOk result (λ k.
+        IsMatter n new k (TellsOf watch.now found)) }
 {
-    let Notice::Update(_) = notice else {
-        return Ok(None);
+    Ok(Matter::Tells(Notification {
+        key: watch.key.share()?,
+        token: watch.token,
+        found,
+    }))
+}
+
+/// Whether the link of the endpoint has a place for a message, and a message ID.
+fn has_link_place<R: Relation>(s: &State<R>, moment: u64, peer: &Peer) -> bool
+    requires early { moment ≤ LAST_MOMENT }
+    requires known { is_some (link_of s.now.endpoints.links peer.now).last_mid ≡ true }
+    ensures { result ≡ has_link_place moment (link_of s.now.endpoints.links peer.now) }
+{
+    match s.endpoints.check(peer, moment) {
+        Ok(()) => true,
+        Err(LinkFault::Memory) => true,
+        Err(LinkFault::Queue) => false,
+        Err(LinkFault::Numbers) => false,
+    }
+}
+
+/// Whether an exchange may begin that fetches the rest of what is told of this key: no other reads
+/// the same, and there is a place for it and for its message.
+fn may_start<R: Relation>(s: &State<R>, moment: u64, peer: &Peer, key: &Key) -> bool
+    requires early { moment ≤ LAST_MOMENT }
+    requires known { is_some (link_of s.now.endpoints.links peer.now).last_mid ≡ true }
+    requires digests { AllByRecursion (IsDigested s.now.journal.entries) s.now.exchanges.exchanges }
+    ensures { result ≡ may_start_for moment peer.now key.now (state_of s.now) }
+{
+    if s.exchanges.as_slice().len() >= MAX_EXCHANGES {
+        return false;
+    }
+    if !has_link_place(s, moment, peer) {
+        return false;
+    }
+    !s.exchanges.is_read(&s.journal, key)
+}
+
+/// The exchange that the entry with this number opens, which bears the first piece of what the
+/// watch is told: so far it has come by that.
+fn exchange_for(
+    watch: &Registration,
+    peer: Peer,
+    token: Token,
+    number: u32,
+    moment: u64,
+    work: Work,
+) -> Exchange
+    ensures { result ≡ started moment peer watch.now token work number }
+{
+    Exchange {
+        opening: number,
+        ask: watch.opening,
+        token,
+        since: moment,
+        peer,
+        method: GET,
+        sending: None,
+        awaits: false,
+        observes: false,
+        asked: 0,
+        current: true,
+        newest: true,
+        work,
+        digests: watch.key.digests(),
+    }
+}
+
+/// What a notification is that brings the first piece, where an exchange may begin: that fetches
+/// the rest, by a message under this token.
+fn start<R: Relation>(
+    alloc: Global,
+    s: &State<R>,
+    moment: u64,
+    word: u64,
+    token: &Token,
+    peer: &Peer,
+    heeding: &Heeding,
+    watch: &Registration,
+    onward: Onward,
+) -> Result<Matter, AllocError>
+    requires early { moment ≤ LAST_MOMENT }
+    requires ready { MayHeed moment (link_at s.now.endpoints peer.now) heeding.now }
+    requires known { is_some (link_of s.now.endpoints.links peer.now).last_mid ≡ true }
+    requires entries { length s.now.journal.entries ≤ MAX_ENTRIES }
+    requires asked { is_some (asked_in s.now.journal.entries watch.now.opening) ≡ true }
+    requires block { IfSome onward.block IsSayable }
+    requires place { has_next_place moment peer.now heeding.now.verdict (state_of s.now) ≡ true }
+    ensures { (q : CoapRequest) → asked_in s.now.journal.entries watch.now.opening ≡ Some q
+        → IfOk result (λ k. IsStarted moment word token.now peer.now
+        (link_at s.now.endpoints peer.now) heeding.now q watch.now onward (state_of s.now) k) }
+{
+    let number = s.journal.len() as u32;
+    let exchange = exchange_for(watch, *peer, *token, number, moment, onward.work);
+    let (ask, block) = (watch.opening, onward.block);
+    let Some(submission) = prepare_next(alloc, s, moment, word, token, peer, heeding, ask, block)?
+    else {
+        unreachable!()
     };
+    Ok(Matter::Starts(Starting {
+        key: watch.key.share()?,
+        watch: watch.token,
+        going: Going {
+            exchange,
+            onward,
+            token: *token,
+            submission,
+        },
+    }))
+}
+
+/// What an update is that counts for this watch: it is stored where it is whole, and where it is
+/// the first piece of one, an exchange may fetch the rest (RFC 7959 section 3.4).
+fn update<R: Relation>(
+    alloc: Global,
+    s: &State<R>,
+    moment: u64,
+    word: u64,
+    token: &Token,
+    peer: &Peer,
+    heeding: &Heeding,
+    watch: &Registration,
+    message: Message,
+) -> Result<Matter, AllocError>
+    requires early { moment ≤ LAST_MOMENT }
+    requires ready { MayHeed moment (link_at s.now.endpoints peer.now) heeding.now }
+    requires known { is_some (link_of s.now.endpoints.links peer.now).last_mid ≡ true }
+    requires entries { length s.now.journal.entries ≤ MAX_ENTRIES }
+    requires asked { is_some (asked_in s.now.journal.entries watch.now.opening) ≡ true }
+    requires digests { AllByRecursion (IsDigested s.now.journal.entries) s.now.exchanges.exchanges }
+    requires token { IsNextToken word token.now (state_of s.now) }
+    ensures { (v : ℕ) → IfOk result (λ k. IsPrepared moment word
+        (link_at s.now.endpoints peer.now) heeding.now (state_of s.now) k
+        (told_so moment peer.now (state_of s.now) watch.now (Update v)
+        (as_first (length s.now.journal.entries) 0 (content message)))) }
+{
+    let number = s.journal.len() as u32;
     match comes_first(alloc, number, message)? {
         Coming::Ends(Ended::Found(finding)) => {
-            stored_for(alloc, journal, opening, &finding, moment)
+            let found = stored_for(alloc, &s.journal, watch.opening, &finding, moment)?;
+            notification(watch, found)
         }
-        Coming::Ends(Ended::Renewed(_, _)) => Ok(None),
-        Coming::Ends(Ended::Turned) => Ok(None),
-        Coming::Goes(_) => Ok(None),
+        Coming::Ends(Ended::Renewed(_, _)) => notification(watch, None),
+        Coming::Ends(Ended::Turned) => notification(watch, None),
+        Coming::Goes(onward) => {
+            if may_start(s, moment, peer, &watch.key) {
+                return start(alloc, s, moment, word, token, peer, heeding, watch, onward);
+            }
+            notification(watch, None)
+        }
     }
 }
 
@@ -96,13 +231,24 @@ fn tells<R: Relation>(
     alloc: Global,
     s: &State<R>,
     moment: u64,
+    word: u64,
+    token: &Token,
+    peer: &Peer,
+    heeding: &Heeding,
     notice: Notice,
     message: Message,
 ) -> Result<Matter, AllocError>
-    requires few { length s.now.journal.entries ≤ MAX_ENTRIES }
+    requires early { moment ≤ LAST_MOMENT }
+    requires ready { MayHeed moment (link_at s.now.endpoints peer.now) heeding.now }
+    requires known { is_some (link_of s.now.endpoints.links peer.now).last_mid ≡ true }
+    requires entries { length s.now.journal.entries ≤ MAX_ENTRIES }
+    requires watched { AllByRecursion (IsWatchedFor s.now.journal.entries) s.now.watches.standing }
+    requires digests { AllByRecursion (IsDigested s.now.journal.entries) s.now.exchanges.exchanges }
+    requires token { IsNextToken word token.now (state_of s.now) }
     requires notice { notice ≡ notice_in (content message) }
-    ensures { (new : Numbers) → IfOk result (λ k. IsMatter (length s.now.journal.entries) new k
-        (told_alone moment News.Response (content message) (state_of s.now))) }
+    ensures { IfOk result (λ k. IsPrepared moment word (link_at s.now.endpoints peer.now)
+        heeding.now (state_of s.now) k
+        (told_alone moment peer.now News.Response (content message) (state_of s.now))) }
 {
     if !is_such(&message) {
         return Ok(Matter::Nothing);
@@ -110,12 +256,10 @@ fn tells<R: Relation>(
     let Some(watch) = s.watches.counting(&message.token, notice, moment) else {
         return Ok(Matter::Nothing);
     };
-    let number = s.journal.len() as u32;
-    let key = watch.key.share()?;
-    let token = watch.token;
-    let opening = watch.opening;
-    let found = found_in(alloc, &s.journal, moment, notice, opening, number, message)?;
-    Ok(Matter::Tells(Notification { key, token, found }))
+    match notice {
+        Notice::Update(_) => update(alloc, s, moment, word, token, peer, heeding, watch, message),
+        Notice::Other(_) => notification(watch, None),
+    }
 }
 
 /// What the datagram is to the exchanges and to what is observed, by what its link tells of it. A
@@ -138,6 +282,8 @@ pub fn matter_told<R: Relation>(
     requires ready { MayHeed moment (link_at s.now.endpoints peer.now) heeding.now }
     requires known { is_some (link_of s.now.endpoints.links peer.now).last_mid ≡ true }
     requires token { IsNextToken word token.now (state_of s.now) }
+    requires watched { AllByRecursion (IsWatchedFor s.now.journal.entries) s.now.watches.standing }
+    requires digests { AllByRecursion (IsDigested s.now.journal.entries) s.now.exchanges.exchanges }
     requires notice { notice ≡ notice_told (told up) }
     requires under { IsUnder heeding.now.token (told up) }
     ensures { IfOk result (λ k. IsPrepared moment word (link_at s.now.endpoints peer.now)
@@ -150,7 +296,9 @@ pub fn matter_told<R: Relation>(
     let Up::Response(message) = up else {
         unreachable!()
     };
-    tells(alloc, s, moment, notice, message)
+    tells(
+        alloc, s, moment, word, token, peer, heeding, notice, message,
+    )
 }
 
 /// What becomes of what is observed.
@@ -180,7 +328,7 @@ fn registration_of<R: Relation>(
     notice: Notice,
     exchange: &Exchange,
 ) -> Result<Option<Registration>, AllocError>
-    requires { exchange.now.observes ≡ true → IsReadBy s.now.journal.entries exchange.now.opening }
+    requires { exchange.now.observes ≡ true → IsReadBy s.now.journal.entries exchange.now.ask }
     ensures is { IfOk result (λ o. option_to_list o
         ≡ registered_by moment notice exchange.now s.now.journal.entries s.now.watches.standing) }
     ensures few { IfOk result (λ o. IfSome o (λ r. length s.now.watches.standing < 64)) }
@@ -191,7 +339,7 @@ fn registration_of<R: Relation>(
     if !may_register(&s.watches, exchange) {
         return Ok(None);
     }
-    let Some(mapped) = asked(&s.journal, exchange.opening) else {
+    let Some(mapped) = asked(&s.journal, exchange.ask) else {
         return Ok(None);
     };
     let Some(reading) = mapped.reading() else {
@@ -215,7 +363,7 @@ fn watching_by<R: Relation>(
     notice: Notice,
     exchange: &Exchange,
 ) -> Result<Watching, AllocError>
-    requires { exchange.now.observes ≡ true → IsReadBy s.now.journal.entries exchange.now.opening }
+    requires { exchange.now.observes ≡ true → IsReadBy s.now.journal.entries exchange.now.ask }
     ensures more { IfOk result (λ w. option_to_list w.more
         ≡ registered_by moment notice exchange.now s.now.journal.entries s.now.watches.standing) }
     ensures gone { IfOk result (λ w. w.gone.items
@@ -263,6 +411,11 @@ pub fn watching_of<R: Relation>(
                 gone,
             })
         }
+        Matter::Starts(_) => Ok(Watching {
+            notice,
+            more: None,
+            gone: Vec::new(alloc),
+        }),
         Matter::Goes(going) => watching_by(alloc, s, moment, notice, &going.exchange),
         Matter::Over(exchange, _) => {
             let mut watching = watching_by(alloc, s, moment, notice, exchange)?;

@@ -4,7 +4,7 @@ ghost use Rattle.std.specs.Prelude.{◌≡◌, ◌≢◌, ◌≤◌, ◌∷◌, 
 ghost use Rattle.std.specs.Arc.{arc_value};
 ghost use Rattle.limits.specs.declared.TheConstants.{LAST_MOMENT, MAX_ENTRIES};
 ghost use Rattle.journal_book.specs.Views.{ask_of};
-ghost use Rattle.exchange_model.specs.Steps.{Numbers as AskNumbers};
+ghost use Rattle.exchange_model.specs.Hearing.{Numbers as AskNumbers};
 ghost use Rattle.exchange_model.specs.Sealing.{asks_in_room};
 ghost use Rattle.exchange_core.specs.Answering.{given_of};
 ghost use Rattle.exchange_core.specs.Drafts.{Drafts};

@@ -9,7 +9,7 @@ ghost use Rattle.journal_copies.specs.Copying.{AreCounted};
 ghost use Rattle.journal_copies.specs.Marking.{AreMarks};
 ghost use Rattle.resp_cache.specs.Stores.{IsStore};
 ghost use Rattle.endpoint_table.specs.Keeping.{is_any};
-ghost use Rattle.exchange_model.specs.Steps.{is_past, retired};
+ghost use Rattle.exchange_model.specs.Hearing.{is_past, retired};
 ghost use Rattle.exchange_model.specs.Rotating.{are_few, copied_entries, copies, fault_of, pair_at, taken, turned, Crowded};
 ghost use Rattle.exchange_core.specs.Renewing.{AreAskable, ends_as_heard};
 ghost use Rattle.exchange_core.specs.Rotating.{fault_in, IsRefused, IsTurned};

@@ -3,7 +3,8 @@
 ghost use Rattle.std.specs.Prelude.{◌≡◌, ℕ, true, IfOk, IfSome, OnOk, Option, option_map, Some, None};
 ghost use Rattle.std.specs.Arc.{arc_value};
 ghost use Rattle.cache_key.specs.Keys.{key_of};
-ghost use Rattle.exchange_model.specs.Steps.{Matter as ModelMatter, Numbers, is_newest, newest_content, retired, retold, settled};
+ghost use Rattle.exchange_model.specs.Matters.{Matter as ModelMatter};
+ghost use Rattle.exchange_model.specs.Hearing.{Numbers, is_newest, newest_content, retired, retold, settled};
 ghost use Rattle.history_laws.specs.Progress.{Ending};
 ghost use Rattle.resp_cache.specs.Stored.{Stored};
 ghost use Rattle.exchange_progress.specs.Coming.{IsEnded};
@@ -44,7 +45,7 @@ fn reading_in<'a, R: Relation>(journal: &'a Journal<R>, ended: &Exchange) -> Opt
     if !ended.current {
         return None;
     }
-    asked(journal, ended.opening)?.reading()
+    asked(journal, ended.ask)?.reading()
 }
 
 /// The whole 2.05 that was found by the exchange with this opening, as it is stored: it counts from
@@ -94,7 +95,7 @@ fn put_found<R: Relation>(
     moment: u64,
 ) -> Result<Option<Pair>, AllocError>
     ensures { IfOk result (λ o. o ≡ put_for journal.now.entries (Some ended.now)
-        (if_newest ended.now finding.now (stored_for journal.now.entries moment ended.now.opening
+        (if_newest ended.now finding.now (stored_for journal.now.entries moment ended.now.ask
         finding.now.told finding.now.grounds))) }
 {
     if !is_newest(ended, finding) {
@@ -103,7 +104,7 @@ fn put_found<R: Relation>(
     let Some(reading) = reading_in(journal, ended) else {
         return Ok(None);
     };
-    let Some(stored) = stored_for(alloc, journal, ended.opening, finding, moment)? else {
+    let Some(stored) = stored_for(alloc, journal, ended.ask, finding, moment)? else {
         return Ok(None);
     };
     Ok(Some(Pair {
@@ -232,7 +233,7 @@ fn retire<R: Relation>(store: &mut Store, journal: &Journal<R>, ended: &Exchange
     ensures { store.new.pairs
         ≡ settled journal.now.entries (Some ended.now) None store.old.pairs }
 {
-    let Some(mapped) = asked(journal, ended.opening) else {
+    let Some(mapped) = asked(journal, ended.ask) else {
         return;
     };
     if let Some(writing) = mapped.writing() {

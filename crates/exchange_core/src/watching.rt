@@ -4,7 +4,8 @@ ghost use Rattle.std.specs.Prelude.{◌≡◌, ◌≤◌, ◌++◌, IfOk, OnOk};
 ghost use Rattle.std.specs.List.{list_any};
 ghost use Rattle.cache_key.specs.Keys.{key_of, place_of};
 ghost use Rattle.observe_share.specs.Watches.{is_at, is_idle, is_of, without};
-ghost use Rattle.exchange_model.specs.Steps.{asked_in, is_written_late};
+ghost use Rattle.exchange_model.specs.Matters.{asked_in};
+ghost use Rattle.exchange_model.specs.Hearing.{is_written_late};
 ghost use Rattle.exchange_model.specs.Watching.{is_written_by, tokens_of, touched};
 ghost use Rattle.exchange_core.specs.Watching.{is_renewed_for, is_unwatched_by, may_watch};
 
@@ -106,10 +107,10 @@ pub fn add_written<R: Relation>(
     ended: &Exchange,
 ) -> Result<(), AllocError>
     ensures { OnOk result (tokens.new.items ≡ tokens.old.items
-        ++ tokens_of (is_written_by (asked_in journal.now.entries ended.now.opening))
+        ++ tokens_of (is_written_by (asked_in journal.now.entries ended.now.ask))
         watches.now.standing) }
 {
-    let Some(mapped) = asked(journal, ended.opening) else {
+    let Some(mapped) = asked(journal, ended.ask) else {
         return Ok(());
     };
     let Some(writing) = mapped.writing() else {
@@ -121,9 +122,9 @@ pub fn add_written<R: Relation>(
 /// Where the exchange that has ended was a write, those of its place end.
 pub fn retire<R: Relation>(watches: &mut Watch, journal: &Journal<R>, ended: &Exchange)
     ensures { watches.new.standing ≡ without
-        (is_written_by (asked_in journal.now.entries ended.now.opening)) watches.old.standing }
+        (is_written_by (asked_in journal.now.entries ended.now.ask)) watches.old.standing }
 {
-    let Some(mapped) = asked(journal, ended.opening) else {
+    let Some(mapped) = asked(journal, ended.ask) else {
         return;
     };
     if let Some(writing) = mapped.writing() {
@@ -133,9 +134,9 @@ pub fn retire<R: Relation>(watches: &mut Watch, journal: &Journal<R>, ended: &Ex
 
 /// Whether the exchange, which ends, is a write to the place of this one.
 fn is_written<R: Relation>(watch: &Registration, journal: &Journal<R>, ended: &Exchange) -> bool
-    ensures { result ≡ is_written_by (asked_in journal.now.entries ended.now.opening) watch.now }
+    ensures { result ≡ is_written_by (asked_in journal.now.entries ended.now.ask) watch.now }
 {
-    let Some(mapped) = asked(journal, ended.opening) else {
+    let Some(mapped) = asked(journal, ended.ask) else {
         return false;
     };
     match mapped.writing() {

@@ -25,7 +25,8 @@ use Rattle.reply_reading.specs.Findings.{Found, Tells, joined_all}
 use Rattle.exchange_model.specs.declared.kept.Work.TheVariants as W
 use Rattle.exchange_model.specs.declared.kept.Piece.{Piece}
 use Rattle.exchange_model.specs.declared.kept.Reader.{Reader}
-use Rattle.exchange_model.specs.Steps.{fetched_in, heard_in, reply_at}
+use Rattle.exchange_model.specs.Steps.{heard_in, reply_at}
+use Rattle.exchange_model.specs.Matters.{fetched_in}
 use Rattle.exchange_progress.specs.Coming.{AllFind, IsOnward, found_for, first_got, renews}
 
 -- one piece after another

@@ -15,7 +15,8 @@ use Rattle.exchange_model.specs.declared.kept.Piece.{Piece}
 use Rattle.exchange_model.specs.declared.kept.Reader.{Reader}
 use Rattle.exchange_model.specs.declared.kept.Work.{Work}
 use Rattle.exchange_model.specs.declared.kept.Work.TheVariants as W
-use Rattle.exchange_model.specs.Steps.{fetched_in, progress_with, reply_at}
+use Rattle.exchange_model.specs.Steps.{reply_at}
+use Rattle.exchange_model.specs.Matters.{fetched_in, progress_with}
 use Rattle.exchange_model.specs.Calls.{grounds_for}
 use Rattle.exchange_progress.specs.declared.coming.Coming.{Coming}
 use Rattle.exchange_progress.specs.declared.coming.Coming.TheVariants as Comes

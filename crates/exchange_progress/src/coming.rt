@@ -5,7 +5,8 @@ ghost use Rattle.coap_codec.specs.Spelling.{content};
 ghost use Rattle.history_laws.specs.Progress.{Reply, Ends, NotUnderstood, Whole, anew, answered, fetched, fetched_whole};
 ghost use Rattle.history_laws.specs.Responses.{response_of};
 ghost use Rattle.exchange_model.specs.Growing.{IsFewTimes};
-ghost use Rattle.exchange_model.specs.Steps.{fetched_in, reply_at};
+ghost use Rattle.exchange_model.specs.Steps.{reply_at};
+ghost use Rattle.exchange_model.specs.Matters.{fetched_in};
 ghost use Rattle.exchange_progress.specs.Coming.{AsksSayable, IsComing, comes_by};
 
 use crate::fetching::{Earlier, fetched_in};

@@ -3,7 +3,8 @@
 ghost use Rattle.std.specs.Prelude.{◌≡◌, ◌∷◌, ◌++◌, [], map, option_map, IfOk, OnOk};
 ghost use Rattle.coap_codec.specs.Spelling.{content};
 ghost use Rattle.history_laws.specs.Progress.{messages, numbers};
-ghost use Rattle.exchange_model.specs.Steps.{fetched_in, heard_in, reply_at};
+ghost use Rattle.exchange_model.specs.Steps.{heard_in, reply_at};
+ghost use Rattle.exchange_model.specs.Matters.{fetched_in};
 
 use coap_codec::{CodecFault, Message, decode};
 use exchange_model::Piece;

@@ -3,7 +3,7 @@
 ghost use Rattle.std.specs.Prelude.{◌≡◌, IfOk};
 ghost use Rattle.coap_codec.specs.Spelling.{content};
 ghost use Rattle.history_laws.specs.Observing.{as_first, is_some_of, notice_in};
-ghost use Rattle.exchange_progress.specs.Coming.{IsComing};
+ghost use Rattle.exchange_progress.specs.Coming.{AsksSayable, IsComing};
 
 use crate::coming::{Coming, Ended, fetch};
 use blockwise::Pieces;
@@ -36,7 +36,8 @@ pub fn notice_of(m: &Message) -> Notice
 
 /// What a GET comes to by it as the first reply, which the entry with this number bears.
 pub fn comes_first(alloc: Global, number: u32, m: Message) -> Result<Coming, AllocError>
-    ensures { IfOk result (λ x. IsComing number x (as_first number 0 (content m))) }
+    ensures coming { IfOk result (λ x. IsComing number x (as_first number 0 (content m))) }
+    ensures sayable { IfOk result AsksSayable }
 {
     if let Some(coming) = fetch(0, &Pieces::none(), number, &m) {
         return Ok(coming);

@@ -1,7 +1,7 @@
 use Rattle.std.proofs.Common.{subst, sym, ap, ◌∙◌}
 use Rattle.std.specs.List.{AllByRecursion}
 use Rattle.history_laws.proofs.CallerLemmas.{all-filter}
-use Rattle.exchange_model.specs.Steps.{IsDigested, left_by}
+use Rattle.exchange_model.specs.Matters.{IsDigested, left_by}
 use Rattle.exchange_table.specs.Tables.{is_under_none}
 use Rattle.exchange_core.proofs.expiring.end_all.Goals as goal
 

@@ -1,6 +1,6 @@
 use Rattle.std.proofs.Common.{subst, sym}
 use Rattle.std.specs.List.{AllByRecursion}
-use Rattle.exchange_model.specs.Steps.{IsDigested}
+use Rattle.exchange_model.specs.Matters.{IsDigested}
 use Rattle.exchange_model.proofs.CallerLemmas.{none-left}
 use Rattle.exchange_core.proofs.Outrun.{digested-left, left-next}
 use Rattle.exchange_core.proofs.expiring.outrun_all.Goals as goal

@@ -1,5 +1,5 @@
 use Rattle.std.proofs.Common.{◌≡◌, take}
-use Rattle.exchange_model.specs.Steps.{left_by}
+use Rattle.exchange_model.specs.Matters.{left_by}
 use Rattle.exchange_core.proofs.expiring.outrun_all.Given as goal
 
 abbrev pub invariant-each : goal.invariant-each

@@ -2,7 +2,7 @@ use Rattle.std.proofs.Common.{◌≡◌, ℕ, List, Option, sym, ap, subst}
 use Rattle.std.specs.Prelude.{Bool, filter, ◌&&◌, ◌||◌, IfOk}
 use Rattle.uri_map.specs.declared.peer.Peer.{Peer}
 use Rattle.exchange_model.specs.State.{PeerLink, link_of}
-use Rattle.exchange_model.specs.Steps.{is_past}
+use Rattle.exchange_model.specs.Hearing.{is_past}
 use Rattle.exchange_model.specs.declared.kept.Exchange.{Exchange}
 use Rattle.endpoint_table.specs.GivenUps.{given_at, given_up}
 use Rattle.endpoint_table.specs.declared.given_up.GivenUp.{GivenUp}

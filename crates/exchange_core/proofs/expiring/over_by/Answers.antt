@@ -1,6 +1,6 @@
 use Rattle.std.proofs.Common.{◌≡◌, ℕ, List, [], ◌∷◌, length, refl, sym, ap, subst, arith, rules}
 use Rattle.std.specs.Prelude.{Bool, filter, false, true, ◌&&◌, ◌||◌, IfOk}
-use Rattle.exchange_model.specs.Steps.{is_past}
+use Rattle.exchange_model.specs.Hearing.{is_past}
 use Rattle.exchange_model.specs.declared.kept.Exchange.{Exchange}
 use Rattle.endpoint_table.specs.declared.given_up.GivenUp.{GivenUp}
 use Rattle.exchange_core.specs.Expiring.{is_over_by}

@@ -1,7 +1,7 @@
 use Rattle.std.proofs.Common.{subst, sym}
 use Rattle.std.specs.List.{AllByRecursion}
 use Rattle.exchange_model.specs.State.{State}
-use Rattle.exchange_model.specs.Steps.{IsDigested}
+use Rattle.exchange_model.specs.Matters.{IsDigested}
 use Rattle.exchange_core.proofs.hearing.add_heard.Goals as goal
 
 pub change_tables-requires-clause-ready : goal.change_tables-requires-clause-ready
@@ -15,4 +15,5 @@ change_tables-requires-clause-known g c = rw (c.make_places.ensures.endpoints) c
 
 pub change_tables-requires-clause-digests : goal.change_tables-requires-clause-digests
 change_tables-requires-clause-digests g c =
-    subst (λ (V : State). AllByRecursion (IsDigested V.entries) V.exchanges) (sym c.make_places.ensures.same.state) c.requires.digests
+    subst (AllByRecursion (IsDigested c.make_places.new.s.journal.entries)) (sym c.make_room_to_open.ensures.same)
+    (subst (λ (V : State). AllByRecursion (IsDigested V.entries) V.exchanges) (sym c.make_places.ensures.same.state) c.requires.digests)

@@ -1,7 +1,11 @@
 use Rattle.std.proofs.Common.{sym, subst}
 use Rattle.std.specs.List.{AllByRecursion}
 use Rattle.history_laws.proofs.CallerLemmas.{all-filter}
-use Rattle.exchange_model.specs.Steps.{IsDigested, is_other}
+use Rattle.exchange_model.specs.Matters.{IsDigested, is_other}
+use Rattle.exchange_table.specs.Tables.{IsLatest}
+use Rattle.exchange_core.specs.declared.matter.Matter.{Matter as RustMatter}
+use Rattle.exchange_core.specs.Hearing.{IsNewestIn}
+use Rattle.exchange_core.proofs.Started.{outdated-latest}
 use Rattle.exchange_core.proofs.hearing.change_exchanges.Goals as goal
 
 pub outrun-requires : goal.outrun-requires
@@ -9,3 +13,11 @@ outrun-requires g c =
     let ws = c.args.journal.now.entries in
     subst (AllByRecursion (IsDigested ws)) (sym c.remove.ensures)
     (all-filter (IsDigested ws) (is_other c.in-Over.exchange.token) c.args.exchanges.now.exchanges c.requires.digests)
+
+pub push_in_room-requires-clause-latest : goal.push_in_room-requires-clause-latest
+push_in_room-requires-clause-latest g c =
+    let ws = c.args.journal.now.entries in
+    let e = c.in-Starts.starting.going.exchange in
+    subst (IsLatest e) (sym c.outdate-in-Starts.ensures.exchanges)
+    (outdated-latest ws c.in-Starts.starting.key e c.args.exchanges.now.exchanges
+    (subst (λ (k : RustMatter). IsNewestIn k c.args.exchanges.now.exchanges) c.in-Starts.is c.requires.newest))

@@ -2,7 +2,7 @@ use Rattle.std.proofs.Common.{refl, sym, ◌∙◌, arith}
 use Rattle.endpoint_table.specs.Tables.{link_at}
 use Rattle.exchange_core.specs.Matters.{more_in}
 use Rattle.exchange_core.specs.States.{state_of}
-use Rattle.exchange_model.proofs.CallerLemmas.{all-asked-for, all-digested, restarts-few}
+use Rattle.exchange_model.proofs.CallerLemmas.{all-asked-for, all-digested, all-watched-for, restarts-few}
 use Rattle.exchange_core.proofs.BeginSound.{issued-below}
 use Rattle.exchange_core.proofs.Ordered.{conns-ordered, ordered}
 use Rattle.exchange_core.proofs.Heard.{next-timed}
@@ -21,6 +21,12 @@ matter_told-requires-clause-few g c = restarts-few (state_of c.args.s.now) c.req
 
 pub matter_told-requires-clause-asked : goal.matter_told-requires-clause-asked
 matter_told-requires-clause-asked g c = all-asked-for (state_of c.args.s.now) c.requires.sound.kept.kept
+
+pub matter_told-requires-clause-watched : goal.matter_told-requires-clause-watched
+matter_told-requires-clause-watched g c = all-watched-for (state_of c.args.s.now) c.requires.sound.kept.kept
+
+pub matter_told-requires-clause-digests : goal.matter_told-requires-clause-digests
+matter_told-requires-clause-digests g c = all-digested (state_of c.args.s.now) c.requires.sound.kept.kept
 
 pub matter_told-requires-clause-known : goal.matter_told-requires-clause-known
 matter_told-requires-clause-known g c = c.requires.hears.known
@@ -61,7 +67,7 @@ add_heard-requires-clause-issued g c = issued-below _ _ _ _ c.requires.sound
 pub add_heard-requires-clause-newest : goal.add_heard-requires-clause-newest
 add_heard-requires-clause-newest g c =
     let made = c.in_ok-matter.ensures in
-    newest-in (state_of c.args.s.now) c.requires.sound.kept.kept _ c.in_ok-matter.matter _ made.numbers made.is made.worded.number
+    newest-in (state_of c.args.s.now) c.requires.sound.kept.kept c.in_ok-matter.matter _ made.numbers made.is made.worded.number
 
 pub add_heard-requires-clause-digests : goal.add_heard-requires-clause-digests
 add_heard-requires-clause-digests g c = all-digested (state_of c.args.s.now) c.requires.sound.kept.kept

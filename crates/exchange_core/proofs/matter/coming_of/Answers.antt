@@ -3,7 +3,8 @@ use Rattle.std.specs.Prelude.{filter_map, IfOk}
 use Rattle.coap_codec.specs.Spelling.{content}
 use Rattle.history_laws.specs.Progress.{Progress, step}
 use Rattle.exchange_model.specs.declared.kept.Piece.{Piece}
-use Rattle.exchange_model.specs.Steps.{heard_in, progress_with, reply_at}
+use Rattle.exchange_model.specs.Steps.{heard_in, reply_at}
+use Rattle.exchange_model.specs.Matters.{progress_with}
 use Rattle.exchange_progress.specs.Coming.{IsComing}
 use Rattle.exchange_core.proofs.matter.coming_of.Goals as goal
 

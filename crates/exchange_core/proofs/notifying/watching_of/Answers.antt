@@ -2,7 +2,7 @@ use Rattle.std.proofs.Common.{◌++◌, List, length, ℕ, sym, ap, subst, ◌�
 use Rattle.std.specs.Prelude.{IfOk}
 use Rattle.observe_share.specs.declared.registration.Registration.{Registration}
 use Rattle.observe_share.specs.declared.notice.Notice.{Notice}
-use Rattle.exchange_model.specs.Steps.{asked_in}
+use Rattle.exchange_model.specs.Matters.{asked_in}
 use Rattle.exchange_model.specs.Watching.{is_written_by, tokens_of}
 use Rattle.exchange_core.specs.declared.matter.Matter.{Matter as RustMatter}
 use Rattle.exchange_core.specs.declared.notifying.Watching.{Watching}
@@ -36,4 +36,4 @@ returns-in_ok-add_written-in-Over-clause-is g c = λ m new x i noted.
     (subst (ReadsIn entries) c.in-Over.is c.requires)
     (h.more ∙ ap (λ (v : Notice). registered_by c.args.moment v e S.entries S.watches) (sym h.notice))
     (c.in_ok-add_written-in-Over.ensures
-    ∙ ap (λ (ts : List (List ℕ)). ts ++ tokens_of (is_written_by (asked_in entries e.opening)) S.watches) h.gone))
+    ∙ ap (λ (ts : List (List ℕ)). ts ++ tokens_of (is_written_by (asked_in entries e.ask)) S.watches) h.gone))

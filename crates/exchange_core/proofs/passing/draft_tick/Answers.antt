@@ -2,7 +2,7 @@ use Rattle.std.proofs.Common.{◌≡◌, ◌+◌, ◌∷◌, ◌++◌, [], ℕ, 
 use Rattle.journal_book.specs.Entries.{Deed, Passes}
 use Rattle.exchange_model.specs.declared.kept.Exchange.{Exchange}
 use Rattle.exchange_model.specs.State.{State}
-use Rattle.exchange_model.specs.Steps.{expires, is_gone}
+use Rattle.exchange_model.specs.Hearing.{expires, is_gone}
 use Rattle.exchange_model.specs.Calls.{told_late}
 use Rattle.exchange_model.specs.Entering.{all_deeds, answer_of}
 use Rattle.exchange_model.specs.Keeping.{MayStep}

@@ -9,7 +9,8 @@ use Rattle.exchange_model.specs.declared.kept.Piece.{Piece}
 use Rattle.exchange_model.specs.declared.kept.Stale.{Stale}
 use Rattle.exchange_model.specs.State.{PeerLink, State}
 use Rattle.exchange_model.specs.Entering.{link_after, sent_as}
-use Rattle.exchange_model.specs.Steps.{expires, goes_on, is_of_none, is_stale_of_none, left_by, retired}
+use Rattle.exchange_model.specs.Matters.{left_by}
+use Rattle.exchange_model.specs.Hearing.{expires, goes_on, is_of_none, is_stale_of_none, retired}
 use Rattle.endpoint_table.specs.Turns.{turns_going}
 use Rattle.exchange_core.specs.States.{state_of, with_draft}
 use Rattle.exchange_core.specs.Watching.{is_unwatched_by}

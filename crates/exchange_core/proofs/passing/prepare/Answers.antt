@@ -2,7 +2,7 @@ use Rattle.std.proofs.Common.{◌≡◌, ℕ, List, ◌++◌, map, sym, ap, subs
 use Rattle.exchange_model.specs.declared.kept.Exchange.{Exchange}
 use Rattle.exchange_model.specs.State.{State}
 use Rattle.exchange_model.specs.Entering.{all_deeds, all_going, gone_tokens, tick_deeds, token_of}
-use Rattle.exchange_model.specs.Steps.{is_gone, timed_out}
+use Rattle.exchange_model.specs.Hearing.{is_gone, timed_out}
 use Rattle.endpoint_table.specs.Turns.{turns_deeds, turns_going}
 use Rattle.exchange_model.specs.Watching.{tokens_of}
 use Rattle.exchange_core.specs.Drafts.{IsDrafted}

@@ -1,7 +1,7 @@
 use Rattle.std.proofs.Common.{◌≡◌, ℕ, List, map, ap, ◌∙◌}
 use Rattle.std.specs.Prelude.{filter}
 use Rattle.resp_cache.specs.declared.pair.Pair.{Pair}
-use Rattle.exchange_model.specs.Steps.{retired}
+use Rattle.exchange_model.specs.Hearing.{retired}
 use Rattle.exchange_core.specs.Renewing.{ends_as_heard}
 use Rattle.exchange_model.specs.State.{State}
 use Rattle.exchange_model.specs.Rotating.{Backed, carried_numbers, copies_with, pair_at, taken}

@@ -1,5 +1,5 @@
 use Rattle.std.proofs.Common.{◌≡◌, drop}
-use Rattle.exchange_model.specs.Steps.{retired}
+use Rattle.exchange_model.specs.Hearing.{retired}
 use Rattle.exchange_core.proofs.storing.retire_all.Given as goal
 
 abbrev pub invariant-each : goal.invariant-each

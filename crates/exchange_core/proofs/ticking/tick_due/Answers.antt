@@ -5,7 +5,9 @@ use Rattle.journal_book.specs.Entries.{entry_size}
 use Rattle.message_layer.specs.Calls.{is_among}
 use Rattle.exchange_model.specs.State.{State}
 use Rattle.exchange_model.specs.declared.kept.Exchange.{Exchange}
-use Rattle.exchange_model.specs.Steps.{IsDigested, expires, goes_on, is_gone, left_by, seals, timed_out}
+use Rattle.exchange_model.specs.Steps.{seals}
+use Rattle.exchange_model.specs.Matters.{IsDigested, left_by}
+use Rattle.exchange_model.specs.Hearing.{expires, goes_on, is_gone, timed_out}
 use Rattle.exchange_model.specs.Calls.{ticked}
 use Rattle.exchange_model.specs.Keeping.{MayStep}
 use Rattle.exchange_model.specs.Entering.{Going, all_deeds, all_going, sent_as, tick_deeds, IsDrained}

@@ -2,7 +2,7 @@ use Rattle.std.proofs.Common.{◌≡◌, ◌++◌, List, map, refl, sym, subst, 
 use Rattle.std.specs.Prelude.{OnOk, filter}
 use Rattle.exchange_model.specs.declared.kept.Exchange.{Exchange}
 use Rattle.exchange_model.specs.State.{State}
-use Rattle.exchange_model.specs.Steps.{is_past}
+use Rattle.exchange_model.specs.Hearing.{is_past}
 use Rattle.exchange_model.specs.Calls.{told_late}
 use Rattle.exchange_model.specs.Entering.{answer_of}
 use Rattle.exchange_table.specs.Places.{RiseBy}

@@ -1,6 +1,6 @@
 use Rattle.std.proofs.Common.{◌≡◌, drop}
 use Rattle.observe_share.specs.Watches.{without}
-use Rattle.exchange_model.specs.Steps.{is_written_late}
+use Rattle.exchange_model.specs.Hearing.{is_written_late}
 use Rattle.exchange_core.proofs.watching.drop_unwatched.Given as goal
 
 abbrev pub invariant-each : goal.invariant-each

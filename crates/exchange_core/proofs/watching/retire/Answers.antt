@@ -5,11 +5,11 @@ use Rattle.exchange_core.proofs.watching.retire.Goals as goal
 
 pub returns-in_default : goal.returns-in_default
 returns-in_default g c =
-    writes-none c.args.journal.now.entries c.args.ended.now.opening c.args.watches.now.standing
+    writes-none c.args.journal.now.entries c.args.ended.now.ask c.args.watches.now.standing
     (sym (ap (option_and_then _) c.in_default.is) ∙ c.asked.ensures)
 
 pub returns-in_default-writing : goal.returns-in_default-writing
 returns-in_default-writing g c =
-    writes-nothing c.args.journal.now.entries c.args.ended.now.opening c.in-Some.mapped.now.sense c.args.watches.now.standing
+    writes-nothing c.args.journal.now.entries c.args.ended.now.ask c.in-Some.mapped.now.sense c.args.watches.now.standing
     (sym (ap (option_and_then _) c.in-Some.is) ∙ c.asked.ensures)
     (sym (ap (option_map _) c.in_default-writing.is) ∙ c.writing.ensures)

@@ -1,6 +1,6 @@
 use Rattle.std.proofs.Common.{ap, ◌∙◌, ◌∷◌, ◌++◌, [], ℕ, List}
 use Rattle.coap_codec.specs.Spelling.{content}
-use Rattle.exchange_model.specs.Steps.{fetched_in}
+use Rattle.exchange_model.specs.Matters.{fetched_in}
 use Rattle.exchange_progress.proofs.Comes.{answered-found}
 use Rattle.exchange_progress.proofs.coming.answer.Goals as goal
 

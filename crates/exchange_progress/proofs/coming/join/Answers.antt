@@ -1,6 +1,6 @@
 use Rattle.std.proofs.Common.{map, ap, ◌∙◌, ◌∷◌, ◌++◌, [], ℕ, List}
 use Rattle.coap_codec.specs.Spelling.{content}
-use Rattle.exchange_model.specs.Steps.{fetched_in}
+use Rattle.exchange_model.specs.Matters.{fetched_in}
 use Rattle.exchange_progress.proofs.Comes.{joined-found}
 use Rattle.exchange_progress.proofs.coming.join.Goals as goal
 

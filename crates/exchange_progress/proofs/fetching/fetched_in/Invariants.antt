@@ -1,7 +1,7 @@
 use Rattle.std.proofs.Common.{◌≡◌, ◌++◌, drop, map}
 use Rattle.coap_codec.specs.Spelling.{content}
 use Rattle.history_laws.specs.Progress.{messages, numbers}
-use Rattle.exchange_model.specs.Steps.{fetched_in}
+use Rattle.exchange_model.specs.Matters.{fetched_in}
 use Rattle.exchange_progress.proofs.fetching.fetched_in.Given as goal
 
 abbrev pub invariant-each : goal.invariant-each

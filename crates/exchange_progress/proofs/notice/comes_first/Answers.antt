@@ -7,14 +7,14 @@ use Rattle.exchange_progress.specs.Coming.{IsComing}
 use Rattle.exchange_progress.proofs.Comes.{joined-found}
 use Rattle.exchange_progress.proofs.notice.comes_first.Goals as goal
 
-pub returns-in-Some : goal.returns-in-Some
-returns-in-Some c =
+pub returns-in-Some-clause-coming : goal.returns-in-Some-clause-coming
+returns-in-Some-clause-coming c =
     let n = c.args.number in
     subst (λ (p : PiecesValue). IsComing n c.in-Some.coming (fetched 0 p [] (reply_at n (content c.args.m))))
     c.none.ensures (c.in-Some.ensures.coming [])
 
-pub returns : goal.returns
-returns c =
+pub returns-clause-coming : goal.returns-clause-coming
+returns-clause-coming c =
     let n = c.args.number in
     let m = content c.args.m in
     let is = subst (λ (p : PiecesValue). fetched 0 p [] (reply_at n m) ≡ Ends (fetched_whole (reply_at n m ∷ [])))
