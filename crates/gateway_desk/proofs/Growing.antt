@@ -15,7 +15,8 @@ use Rattle.journal_book.specs.Entries.{Deed, Opens, Asks, Sends, Hears, Passes, 
 use Rattle.message_layer.specs.declared.state.Outstanding.{Outstanding}
 use Rattle.message_layer.specs.declared.state.Waiting.{Waiting}
 use Rattle.exchange_model.specs.State.{State, link_of}
-use Rattle.exchange_model.specs.Steps.{asks, begins, recalls, seals, Numbers}
+use Rattle.exchange_model.specs.Steps.{asks, begins, recalls, seals}
+use Rattle.exchange_model.specs.Hearing.{Numbers}
 use Rattle.exchange_model.specs.declared.kept.Exchange.{Exchange}
 use Rattle.exchange_model.specs.Calls.{next_by, next, refused, has_place, asked_by, asked, asked_for, asked_with, joined, served_in, serves}
 use Rattle.exchange_model.specs.Growing.{HasNoClient, by_client, at_moment}

@@ -13,7 +13,8 @@ use Rattle.http_mapping.specs.Means.{closes}
 use Rattle.history_claims.specs.Headline.{IsEntry}
 use Rattle.exchange_model.specs.declared.kept.Conn.{Conn}
 use Rattle.exchange_model.specs.State.{State}
-use Rattle.exchange_model.specs.Steps.{shuts, seals, Numbers}
+use Rattle.exchange_model.specs.Steps.{shuts, seals}
+use Rattle.exchange_model.specs.Hearing.{Numbers}
 use Rattle.exchange_model.specs.Calls.{heard}
 use Rattle.exchange_model.specs.Resting.{HasConn}
 use Rattle.exchange_model.specs.Growing.{at_moment}

@@ -10,7 +10,8 @@ use Rattle.history_laws.specs.Justified.{Stands}
 use Rattle.history_claims.specs.Headline.{IsEntry}
 use Rattle.history_claims.proofs.CallerLemmas.{answer-once}
 use Rattle.exchange_model.specs.State.{State}
-use Rattle.exchange_model.specs.Steps.{shuts, Numbers}
+use Rattle.exchange_model.specs.Steps.{shuts}
+use Rattle.exchange_model.specs.Hearing.{Numbers}
 use Rattle.exchange_model.specs.Growing.{Adds, at_moment, IsOfAsk, by_client, HasNoClient}
 use Rattle.exchange_model.specs.Sealing.{opens_in_room, asks_in_room, hears_in_room, ticks_in_room}
 use Rattle.exchange_model.proofs.CallerLemmas.{asks-add, asks-answer, hears-add, hears-answer, opens-add, opens-alone, ticks-add, ticks-answer}

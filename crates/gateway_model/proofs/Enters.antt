@@ -9,7 +9,8 @@ use Rattle.ask_model.specs.Views.{Ask}
 use Rattle.journal_book.specs.Entries.{Hears as Heard, Passes as Passed, Deed, Written}
 use Rattle.http_mapping.specs.Means.{closes}
 use Rattle.exchange_model.specs.State.{State}
-use Rattle.exchange_model.specs.Steps.{opens, shuts, seals, Numbers}
+use Rattle.exchange_model.specs.Steps.{opens, shuts, seals}
+use Rattle.exchange_model.specs.Hearing.{Numbers}
 use Rattle.exchange_model.specs.Calls.{asked, something_due, ticked}
 use Rattle.exchange_model.specs.Growing.{at_moment}
 use Rattle.exchange_model.specs.Keeping.{IsDone}

@@ -27,7 +27,9 @@ use Rattle.ask_model.specs.Requests.{CoapRequest, Sense, Requests, Refuses}
 use Rattle.ask_model.specs.Views.{Ask}
 use Rattle.ask_model.specs.declared.cause.Cause.TheVariants as C
 use Rattle.journal_book.specs.Entries.{Kept, Fault, Deed, Opens, Asks, Sends, Hears, Passes, Answers, Shuts, Seals, Written}
-use Rattle.exchange_model.specs.Steps.{recalls, opens, asks, shuts, seals, begins, Numbers, matter_of, hears, hears_nothing, sends_first, sends_copy, is_past, joins, timed_out, passes}
+use Rattle.exchange_model.specs.Steps.{recalls, opens, asks, shuts, seals, begins, hears_nothing, sends_first, sends_copy, joins}
+use Rattle.exchange_model.specs.Matters.{matter_of}
+use Rattle.exchange_model.specs.Hearing.{Numbers, hears, is_past, timed_out, passes}
 use Rattle.exchange_model.specs.Calls.{asked_for, served_in, serves, next_by, next, refused, has_place, asked_by, asked, given_back, Telling, tells, told_for, told_late, joined, asked_with, takes_new, takes_by, repeats, resets, reads_so, heard, is_due, moves_by, moves, move_all, peer_of, something_due, ticked}
 use Rattle.exchange_model.specs.declared.kept.Exchange.{Exchange}
 use Rattle.exchange_model.specs.State.{State, link_of}

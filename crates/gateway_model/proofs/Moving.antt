@@ -22,7 +22,9 @@ use Rattle.ask_model.specs.Views.{Ask}
 use Rattle.ask_model.specs.declared.cause.Cause.TheVariants as C
 use Rattle.journal_book.specs.Entries.{Kept, Fault, Deed, Asks, Sends, Hears, Passes, Answers, Seals, Written}
 use Rattle.history_laws.proofs.CallerLemmas.{all-more}
-use Rattle.exchange_model.specs.Steps.{recalls, opens, asks, seals, begins, Numbers, Matter, matter_of, hears, hears_nothing, sends_first, sends_copy, is_past, joins, timed_out, passes}
+use Rattle.exchange_model.specs.Steps.{recalls, opens, asks, seals, begins, hears_nothing, sends_first, sends_copy, joins}
+use Rattle.exchange_model.specs.Matters.{Matter, matter_of}
+use Rattle.exchange_model.specs.Hearing.{Numbers, hears, is_past, timed_out, passes}
 use Rattle.exchange_model.specs.Calls.{asked_for, served_in, serves, next_by, next, refused, has_place, asked_by, asked, given_back, Telling, tells, told_for, told_late, joined, asked_with, takes_new, takes_by, repeats, resets, reads_so, heard, is_due, moves_by, moves, move_all, peer_of, something_due, ticked}
 use Rattle.exchange_model.specs.declared.kept.Conn.{Conn}
 use Rattle.exchange_model.specs.declared.kept.Exchange.{Exchange}

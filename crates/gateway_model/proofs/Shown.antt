@@ -3,6 +3,7 @@ use Rattle.std.proofs.Common.{◌≡◌, ℕ, zero, suc, ◌-◌, List, [], ◌�
 use Rattle.std.specs.List.{AllByRecursion, flat_map, slice_get}
 use Rattle.coap_codec.specs.Spelling.{Content}
 use Rattle.media_map.specs.declared.form.Form.{Form}
+use Rattle.uri_map.specs.declared.peer.Peer.{Peer}
 use Rattle.http_edge.specs.declared.answer.HttpAnswer.{HttpAnswer}
 use Rattle.ask_model.specs.Requests.{CoapRequest, Sense, Requests, Refuses}
 use Rattle.ask_model.specs.Views.{Ask, Rules}
@@ -12,7 +13,7 @@ use Rattle.history_laws.specs.Responses.{Response, whole_of}
 use Rattle.history_laws.specs.Progress.{Point, first_point}
 use Rattle.history_laws.specs.Justified.{Stands}
 use Rattle.history_laws.proofs.CallerLemmas.{some-is}
-use Rattle.history_claims.specs.Headline.{IsEntry, IsHeardFirst, AreHeardFor, RestsOn}
+use Rattle.history_claims.specs.Headline.{IsEntry, IsHeardFirst, AreHeardFor, AreHeardOn, BeginsAt, RestsOn}
 use Rattle.history_claims.specs.Stored.{IsServed, RestsOnRenewed}
 use Rattle.history_claims.specs.Causes.{AreCaused}
 use Rattle.history_claims.proofs.CallerLemmas.{rests-on-replies, rests-on-stored}
@@ -32,7 +33,7 @@ use Rattle.gateway_model.proofs.Moves.{Whoever, TellsGiven, IsSaid, ToldIn, Wait
 use Rattle.gateway_model.proofs.Doing.{did-all}
 use Rattle.gateway_model.proofs.Pacing.{IsQuiet, flow-once, Paced, paced-all}
 use Rattle.gateway_model.proofs.Renewed.{counts-valid, heard-valid, renewal-whole, renewed-as, served-as, valid-whole}
-use Rattle.gateway_model.proofs.Spelled.{IsFirstAs, asks-same, counts-alike, counts-first, entry-says, messages-same, request-same}
+use Rattle.gateway_model.proofs.Spelled.{IsFirstAs, asks-same, counts-alike, counts-first, entry-says, messages-rest, request-same}
 
 -- each ask of the entries is meant so
 meant-at : (M : Terms) (h : List Written) (k t c : ℕ) (a : Ask) → AreMeant M h → slice_get h k ≡ Some (written t (Asks c a)) → M.IsMeaning a
@@ -51,6 +52,22 @@ module _ (holds : Form → Form → List ℕ → List ℕ → Type 0) (takes : F
       let r = a.0.response.heard in
       let now = (entry-says a.0.response.moment heard (Hears q.peer r.bytes) b.1.deed (Heard q.peer r.bytes) (Heard b.1.peer b.1.bytes) (sym r.stands ∙ b.1.stands) refl b.1.says).0 in
       (q.peer, r.bytes, subst (λ (t : ℕ). IsEntry h j t (Hears q.peer r.bytes)) now r.stands)
+
+  notified-first : (js : List ℕ) (heard o : ℕ) (q : CoapRequest) (ms : List Content) → AreHeardOn h o q js ms
+      → IsFirstAs h js heard → IsHeardFirst h heard js
+  notified-first [] heard o q ms a b = absurd b
+  notified-first (j ∷ js) heard o q [] a b = absurd a
+  notified-first (j ∷ js) heard o q (m ∷ ms) a b =
+      let p : Peer = a.0.0.peer in
+      let r = a.0.2.response.heard in
+      let now = (entry-says a.0.2.response.moment heard (Hears p r.bytes) b.1.deed (Heard p r.bytes) (Heard b.1.peer b.1.bytes) (sym r.stands ∙ b.1.stands) refl b.1.says).0 in
+      (p, r.bytes, subst (λ (t : ℕ). IsEntry h j t (Hears p r.bytes)) now r.stands)
+
+  either-first : (js : List ℕ) (heard e o : ℕ) (q : CoapRequest) (ms : List Content)
+      → AreHeardFor h e q (first_point q) js ms ⊎ (BeginsAt e js × AreHeardOn h o q js ms)
+      → IsFirstAs h js heard → IsHeardFirst h heard js
+  either-first js heard e o q ms (inl a) b = heard-first js heard e q (first_point q) ms a b
+  either-first js heard e o q ms (inr a) b = notified-first js heard o q ms a.1 b
 
   shows-live : (n c : ℕ) (g : Given) (r : HttpAnswer) (js : List ℕ) (w : Response) (q : CoapRequest) (asked : ℕ)
       → slice_get h g.ask ≡ Some (written asked (Asks c (ask_of g.mapping)))
@@ -72,14 +89,14 @@ module _ (holds : Form → Form → List ℕ → List ℕ → Type 0) (takes : F
       as-whole rests =
           let one = asks-same rests.shared.moment asked c c _ _ (sym rests.shared.asked.stands ∙ ask) in
           let request : rests.request ≡ q = request-same rests.request q (ap (λ (a : Ask). a.sense) one ∙ sense) in
-          let messages : rests.messages ≡ ms = messages-same h rests.opening rests.request (first_point rests.request) js rests.messages ms rests.heard heard in
+          let messages : rests.messages ≡ ms = messages-rest h rests.entry rests.opening rests.request js rests.messages ms rests.heard heard in
           sym (ap (λ (q : CoapRequest). whole_of q rests.messages) request ∙ ap (whole_of q) messages) ∙ rests.whole
 
       replied : (rests : RestsOn h n c g.ask js) → whole_of q ms ≡ Some w → ShowsReplies holds takes h n g.moment c g.ask (ask_of g.mapping) js r
       replied rests whole = record {
         rests = rests;
         since = g.heard;
-        first = heard-first js g.heard rests.opening rests.request (first_point rests.request) rests.messages rests.heard
+        first = either-first js g.heard rests.entry rests.opening rests.request rests.messages rests.heard
             (counts-first h js g.moment g.heard q ms w heard whole counted);
         shows = subst (λ (v : Response). MeansWhole g.mapping.rules.routes holds takes g.mapping v (last_reply (Live js)) (g.moment - g.heard) r)
             (some-is w rests.response (sym whole ∙ as-whole rests)) shown;

@@ -17,7 +17,7 @@ use Rattle.blockwise.specs.declared.upload.Answered.TheVariants.{Next, Last, Wro
 use Rattle.history_laws.specs.Responses.{Response, is_tellable, last_of, whole_by, whole_fetched, whole_given, whole_of}
 use Rattle.history_laws.specs.Progress.{Point, first_point, block_for, point_after}
 use Rattle.history_laws.proofs.CallerLemmas.{eqb-same, none-some, some-is}
-use Rattle.history_claims.specs.Headline.{IsHeardFirst, IsHeardFor, AreHeardFor, AreNotified}
+use Rattle.history_claims.specs.Headline.{IsHeardFirst, IsHeardFor, IsNotified, AreHeardFor, AreHeardOn, BeginsAt}
 use Rattle.history_claims.specs.Carried.{IsCarriedFor, AreCarriedFor, IsCarriedFirst}
 use Rattle.history_claims.specs.Stored.{WasHeardHere, WasCarried}
 use Rattle.history_claims.proofs.CallerLemmas.{tellable-not, whole-tells}
@@ -84,20 +84,29 @@ messages-carried h o q (j ∷ js) (m ∷ ms) (n ∷ ns) a b =
     ap (λ (x : Content). x ∷ ms) (carried-same h o j b.0.0 q m n a.0 b.0.1)
     ∙ ap (λ (xs : List Content). n ∷ xs) (messages-carried h o q js ms ns a.1 b.1)
 
-pub messages-kept : (h : List Written) (k : ℕ) (q : CoapRequest) (js : List ℕ) (ms ns : List Content)
-    → AreHeardFor h k q (first_point q) js ms ⊎ AreNotified h k q js ms → AreHeard h js ns → ms ≡ ns
-messages-kept h k q js ms ns (inl a) b = messages-same h k q (first_point q) js ms ns a b
-messages-kept h k q (j ∷ []) (m ∷ []) (n ∷ []) (inr a) b =
+notified-same : (h : List Written) (o j t : ℕ) (q : CoapRequest) (m n : Content) → IsNotified h o q j m → HeardAs h j t n → m ≡ n
+notified-same h o j t q m n a b =
     let heard = a.response.heard in
-    let it : HeardAs h j b.0.0 n = b.0.1 in
-    ap (λ (x : Content). x ∷ [])
-    (text-same a.response.moment b.0.0 q.peer (Hears q.peer heard.bytes) heard.bytes m n heard.spelled refl it.peer it.deed it.bytes (sym heard.stands ∙ it.stands) it.says it.spelled)
-messages-kept h k q (j ∷ []) (m ∷ []) [] (inr a) b = absurd b
-messages-kept h k q (j ∷ []) (m ∷ []) (n ∷ o ∷ ns) (inr a) b = absurd b.1
-messages-kept h k q [] ms ns (inr a) b = absurd a
-messages-kept h k q (j ∷ []) [] ns (inr a) b = absurd a
-messages-kept h k q (j ∷ []) (m ∷ n ∷ ms) ns (inr a) b = absurd a
-messages-kept h k q (i ∷ j ∷ js) ms ns (inr a) b = absurd a
+    text-same a.response.moment t q.peer (Hears q.peer heard.bytes) heard.bytes m n heard.spelled refl b.peer b.deed b.bytes (sym heard.stands ∙ b.stands) b.says b.spelled
+
+-- of which the first may be a notification
+pub messages-on : (h : List Written) (o : ℕ) (q : CoapRequest) (js : List ℕ) (ms ns : List Content) → AreHeardOn h o q js ms → AreHeard h js ns → ms ≡ ns
+messages-on h o q [] ms ns a b = absurd a
+messages-on h o q (j ∷ js) [] ns a b = absurd a
+messages-on h o q (j ∷ js) (m ∷ ms) [] a b = absurd b
+messages-on h o q (j ∷ js) (m ∷ ms) (n ∷ ns) a b =
+    ap (λ (x : Content). x ∷ ms) (notified-same h o j b.0.0 a.0.0 m n a.0.2 b.0.1)
+    ∙ ap (λ (xs : List Content). n ∷ xs) (messages-same h j q (point_after (first_point q) m) js ms ns a.1 b.1)
+
+pub messages-kept : (h : List Written) (k : ℕ) (q : CoapRequest) (js : List ℕ) (ms ns : List Content)
+    → AreHeardFor h k q (first_point q) js ms ⊎ AreHeardOn h k q js ms → AreHeard h js ns → ms ≡ ns
+messages-kept h k q js ms ns (inl a) b = messages-same h k q (first_point q) js ms ns a b
+messages-kept h k q js ms ns (inr a) b = messages-on h k q js ms ns a b
+
+pub messages-rest : (h : List Written) (e o : ℕ) (q : CoapRequest) (js : List ℕ) (ms ns : List Content)
+    → AreHeardFor h e q (first_point q) js ms ⊎ (BeginsAt e js × AreHeardOn h o q js ms) → AreHeard h js ns → ms ≡ ns
+messages-rest h e o q js ms ns (inl a) b = messages-same h e q (first_point q) js ms ns a b
+messages-rest h e o q js ms ns (inr a) b = messages-on h o q js ms ns a.1 b
 
 -- What replies are as a whole is the same for requests that are alike.
 pub by-message : (q r : CoapRequest) (ms : List Content) → request_message q 0 [] ≡ request_message r 0 [] → whole_of q ms ≡ whole_of r ms
