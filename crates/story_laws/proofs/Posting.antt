@@ -16,7 +16,7 @@ use Rattle.blockwise.specs.Downloads.{no_pieces}
 use Rattle.history_laws.specs.Readings.{Noted, Note, First, Copies, Confirms, Plain, Begins, Renews, Joins, Serves, Says, Repeats, Garbled, Bygone, Recalls, noted, at, before, entries}
 use Rattle.history_laws.specs.Responses.{Response, whole_given, whole_of}
 use Rattle.history_laws.proofs.CallerLemmas.{follows-at, none-some, some-is}
-use Rattle.history_claims.specs.Headline.{AreHeardFor, IsEntry, IsFirstSending, RestsOn}
+use Rattle.history_claims.specs.Headline.{AreHeardFor, AreHeardOn, IsEntry, IsFirstSending, IsShared, RestsOn}
 use Rattle.history_claims.proofs.CallerLemmas.{entries-at}
 use Rattle.demo_origin.specs.Calls.{Call}
 use Rattle.demo_origin.specs.Origins.{fresh}
@@ -83,6 +83,30 @@ heard-write h k q js ms changes a =
     let other = not-get q.method changes in
     subst (λ (b : Bool). AreHeardFor h k q (cond b (Fetched no_pieces) (Given (begun (length q.body) 6))) js ms) other a
 
+-- What rests on a notification is for a GET,
+on-get : (h : List Written) (o : ℕ) (q : CoapRequest) (js : List ℕ) (ms : List Content) → AreHeardOn h o q js ms → q.method ≡ 1
+on-get h o q [] ms a = absurd a
+on-get h o q (j ∷ js) [] a = absurd a
+on-get h o q (j ∷ js) (m ∷ ms) a = a.0.1.0
+
+-- and any other request joins nothing that one began.
+entry-own : (h : List Written) (c k n o since : ℕ) (q : CoapRequest) → IsShared h c k q n o since → (q.method ≡ 1 → ⊥) → n ≡ o
+entry-own h c k n o since q s changes = elim s.shares [
+  | inl own ↦ own.0 ∙ sym own.1
+  | inr other ↦ elim other [
+    | inl joined ↦ joined.0
+    | inr fetched ↦ absurd (changes fetched.alike.0)
+  ]
+]
+
+pub heard-own : (h : List Written) (n c k : ℕ) (js : List ℕ) (r : RestsOn h n c k js) → (r.request.method ≡ 1 → ⊥)
+    → AreHeardFor h r.opening r.request (first_point r.request) js r.messages
+heard-own h n c k js r changes = elim r.heard [
+  | inl a ↦ subst (λ (e : ℕ). AreHeardFor h e r.request (first_point r.request) js r.messages)
+      (entry-own h c k r.entry r.opening r.since r.request r.shared changes) a
+  | inr a ↦ absurd (changes (on-get h r.opening r.request js r.messages a.1))
+]
+
 pub code-of : (f : Manner) (q : CoapRequest) (b : Option Block) (mid : ℕ) (token : List ℕ) → (asking f q b mid token).code ≡ q.method
 code-of Plainly q None mid token = refl
 code-of Observing q None mid token = refl
@@ -102,7 +126,7 @@ module _ (R : Relation) (h : List Written) (device proxy : Peer) (block : ℕ) (
   -- the last of its replies, and its entry
   pub last : IsLastReply h r.opening r.request js r.response
   last = last-reply h r.opening q (begun (length q.body) 6) js r.messages r.response
-      (heard-write h r.opening q js r.messages changes r.heard) (whole-write q r.messages r.response changes r.whole)
+      (heard-write h r.opening q js r.messages changes (heard-own h n c k js r changes)) (whole-write q r.messages r.response changes r.whole)
 
   pub entry : IsNoted s.reading last.number last.heard.response.moment (Hears device last.heard.response.heard.bytes)
   entry =

@@ -1,6 +1,6 @@
 -- Where nothing may be observed, no message asks for that by Observe (6, RFC 7641), and nothing is heard as a
 -- notification.
-use Rattle.std.proofs.Common.{◌≡◌, ℕ, Bool, true, false, cond, List, [], ◌∷◌, ◌++◌, Option, Some, None, refl, ap, subst, sym, ◌∙◌}
+use Rattle.std.proofs.Common.{◌≡◌, inl, inr, ℕ, Bool, true, false, cond, List, [], ◌∷◌, ◌++◌, Option, Some, None, refl, ap, subst, sym, ◌∙◌}
 use Rattle.std.specs.Prelude.{◌==◌, ◌&&◌, slice_get}
 use Rattle.std.proofs.lemmas.Bool.{false≢true}
 use Rattle.coap_codec.specs.Spelling.{Content, Entry}
@@ -19,10 +19,10 @@ use Rattle.journal_book.specs.Entries.{Deed, Asks, Written}
 use Rattle.history_laws.specs.Exchanges.{kept, replies}
 use Rattle.history_laws.specs.Justified.{Stands}
 use Rattle.history_laws.specs.Observing.{manner_by, observes, tag_of, unless_replied, wants_by, wants_in}
-use Rattle.history_laws.specs.Progress.{Reply, Progress, Fetches, Gives, Ends, block_after, next_message, progress}
+use Rattle.history_laws.specs.Progress.{Reply, Progress, Fetches, Gives, Ends, block_after, first_point, next_message, progress}
 use Rattle.history_laws.specs.Readings.{Noted, Note, Begins, at, before, entries}
 use Rattle.history_laws.proofs.CallerLemmas.{at-before, at-entries, none-some, sent-for, some-is}
-use Rattle.history_claims.specs.Headline.{AreNotified, IsEntry, IsFirstSending, IsSentFor}
+use Rattle.history_claims.specs.Headline.{AreHeardFor, AreHeardOn, IsEntry, IsFirstSending, IsNotified, IsSentFor, IsShared, RestsOn}
 use Rattle.story_laws.proofs.Posting.{first-sent}
 
 -- ---- messages without Observe
@@ -155,11 +155,30 @@ module _ (h : List Written) (none : NoneObserved h) where
       → values 6 m.options ≡ []
   sent-quietly s k q b i m x = first-quietly s i x.moment q.peer m x.first
 
-  pub none-notified : (o : ℕ) (q : CoapRequest) (js : List ℕ) (ms : List Content) → AreNotified h o q js ms → ⊥
-  none-notified o q [] ms x = x
-  none-notified o q (j ∷ []) [] x = x
-  none-notified o q (j ∷ []) (m ∷ []) x =
+  none-told : (o j : ℕ) (q : CoapRequest) (m : Content) → IsNotified h o q j m → ⊥
+  none-told o j q m x =
       let it = x.observed in
       false≢true (sym (may-not it.asked.rules q (none o it.moment it.conn _ it.asked.stands)) ∙ it.may)
-  none-notified o q (j ∷ []) (m ∷ n ∷ ms) x = x
-  none-notified o q (i ∷ j ∷ js) ms x = x
+
+  pub none-notified : (o : ℕ) (q : CoapRequest) (js : List ℕ) (ms : List Content) → AreHeardOn h o q js ms → ⊥
+  none-notified o q [] ms x = x
+  none-notified o q (j ∷ js) [] x = x
+  none-notified o q (j ∷ js) (m ∷ ms) x = none-told o j x.0.0 m x.0.2
+
+  -- So nothing was begun but by asks.
+  pub entry-same : (c k n o since : ℕ) (q : CoapRequest) → IsShared h c k q n o since → n ≡ o
+  entry-same c k n o since q s = elim s.shares [
+    | inl own ↦ own.0 ∙ sym own.1
+    | inr other ↦ elim other [
+      | inl joined ↦ joined.0
+      | inr fetched ↦ absurd (none-told o n fetched.request fetched.fetching.message fetched.fetching.notified)
+    ]
+  ]
+
+  pub heard-plainly : (n c k : ℕ) (js : List ℕ) (r : RestsOn h n c k js)
+      → AreHeardFor h r.opening r.request (first_point r.request) js r.messages
+  heard-plainly n c k js r = elim r.heard [
+    | inl a ↦ subst (λ (e : ℕ). AreHeardFor h e r.request (first_point r.request) js r.messages)
+        (entry-same c k r.entry r.opening r.since r.request r.shared) a
+    | inr a ↦ absurd (none-notified r.opening r.request js r.messages a.1)
+  ]

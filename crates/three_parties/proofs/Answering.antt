@@ -17,7 +17,7 @@ use Rattle.demo_origin.specs.Values.{Device, Relation}
 use Rattle.demo_origin.specs.declared.state.Held.{Held}
 use Rattle.story_laws.specs.Lateness.{ArePunctual}
 use Rattle.story_laws.specs.Orders.{WritesShow as Law}
-use Rattle.story_laws.proofs.Quiet.{NoneObserved}
+use Rattle.story_laws.proofs.Quiet.{NoneObserved, heard-plainly}
 use Rattle.story_laws.proofs.Showing.{described-whole}
 use Rattle.story_laws.proofs.Wholes.{AreShown}
 use Rattle.gateway_model.specs.Emissions.{Emission}
@@ -42,7 +42,7 @@ module _ (R : Relation) (law : Law R) (block : ℕ) (resources : List Held) (s :
     (inherited : IsInherited R block resources s known top before h) where
   gets-show : GetsShow before resources h s.flights s.taken
   gets-show n t c k js m answered r one get to content whole =
-      let x = one-heard h r.opening r.request (first_point r.request) js r.messages m one r.heard in
+      let x = one-heard h r.opening r.request (first_point r.request) js r.messages m one (heard-plainly h none n c k js r) in
       shows R block resources s known top h page punctual before earlier law none k r.opening r.request r.request (block_for (first_point r.request)) x.0 m x.1 get
       to to content whole (live-back h n c k js r)
 

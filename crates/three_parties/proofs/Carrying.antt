@@ -22,12 +22,12 @@ use Rattle.history_laws.specs.Readings.{Noted, Note, First, Bygone, Copies, Conf
 use Rattle.history_laws.specs.Progress.{Reply, numbers}
 use Rattle.history_laws.specs.Responses.{confirms}
 use Rattle.history_laws.specs.Transmissions.{FirstSending, firsts, firsts_by}
-use Rattle.history_laws.specs.Exchanges.{Begun}
+use Rattle.history_laws.specs.Exchanges.{Begun, ask_behind}
 use Rattle.history_laws.specs.Joining.{outrun}
 use Rattle.history_laws.specs.Carrying.{carried}
 use Rattle.history_laws.specs.Storing.{IsAsHeard, IsRenewed, IsStored}
 use Rattle.history_laws.specs.Justified.{Follows, Legal}
-use Rattle.history_laws.proofs.CallerLemmas.{asked-for, at-entries, at-old, carried-at, carried-fit, comes-fit, contains-later, ends-renewed, firsts-tokens, follows-at, heard-of, none-some, number-of, renewed-of, replies-fit, shared-is, some-is}
+use Rattle.history_laws.proofs.CallerLemmas.{at-entries, at-old, carried-at, carried-fit, comes-fit, contains-later, ends-renewed, firsts-tokens, follows-at, heard-of, none-some, number-of, renewed-of, replies-fit, shared-is, some-is, ask-behind, behind-unoutrun}
 use Rattle.history_claims.specs.Headline.{IsEntry, IsFirstSending, IsHeard}
 use Rattle.history_claims.specs.Carried.{IsAskCopied}
 use Rattle.exchange_model.specs.Backing.{backing, done_at}
@@ -269,8 +269,8 @@ module _ (t : ℕ) (S : State) (kept : Kept S) where
       by : IsAsHeard l k.pair.request b.pair.stored → OpensAt b.pair.stored.opening
       by (inl is) =
           let shared = shared-is l k.pair.request is.opening is.shared in
-          let ask = asked-for l is.opening shared.exchange reads.legal shared.opened in
-          record { conn = ask.conn; ask = ask.ask; is = ap (done_at S.entries) is.origin ∙ done-in is.opening _ ask.stands }
+          let back = ask-behind l is.opening shared.exchange reads.legal shared.opened in
+          record { conn = back.conn; ask = back.ask; is = ap (done_at S.entries) (is.origin ∙ back.is) ∙ done-in back.number _ back.asked.stands }
       by (inr is) =
           let ask = carried-at l is.opening is.carries.exchange is.carries.asked in
           record { conn = ask.conn; ask = ask.ask; is = ap (done_at S.entries) is.origin ∙ done-in is.opening _ ask.stands }
@@ -411,22 +411,24 @@ module _ (t : ℕ) (S : State) (kept : Kept S) where
           let rs : List Reply = is.first ∷ is.more in
           let found = number-of rs c.heard_as (subst (λ (js : List ℕ). Contains js c.heard_as) is.list it.2) in
           let r : Reply = found.0 in
-          let fits = comes-fit l is.opening is.ending it.0.pair.stored.response rs r reads.legal is.comes found.1 in
+          let came = comes-fit l is.opening is.ending it.0.pair.stored.response rs r reads.legal is.comes found.1 in
+          let o : ℕ = came.owner in
+          let fits = came.fits in
           let heard : at l c.heard_as ≡ Some (noted fits.moment (Hears fits.peer fits.bytes) (Says r.message (Some r.sending) fits.notice)) =
           subst (λ (n : ℕ). at l n ≡ Some (noted fits.moment (Hears fits.peer fits.bytes) (Says r.message (Some r.sending) fits.notice))) found.2 fits.heard in
           let same = same-message fits.moment fits.peer fits.bytes (Hears fits.peer fits.bytes) _ r.message refl heard fits.spelled in
           let mine : IsListed l r.sending fits.sent = record {
-            first = record { number = r.sending; moment = fits.sent_at; opening = is.opening; peer = fits.peer; message = fits.sent };
-            among = listed-at l r.sending (noted fits.sent_at (Sends fits.peer fits.first.bytes fits.first.timeout) (First is.opening fits.sent)) _ fits.first.stands refl;
+            first = record { number = r.sending; moment = fits.sent_at; opening = o; peer = fits.peer; message = fits.sent };
+            among = listed-at l r.sending (noted fits.sent_at (Sends fits.peer fits.first.bytes fits.first.timeout) (First o fits.sent)) _ fits.first.stands refl;
             number = refl;
             message = refl;
           } in
           let token : fits.sent.token ≡ sent.token = sym fits.token ∙ (ap (λ (m : Content). m.token) same.2 ∙ c.token) in
           let place : r.sending ≡ c.sent_as = token-once l r.sending c.sent_as fits.sent sent reads.legal mine listed token in
-          let first : at l c.sent_as ≡ Some (noted fits.sent_at (Sends fits.peer fits.first.bytes fits.first.timeout) (First is.opening fits.sent)) =
-          subst (λ (n : ℕ). at l n ≡ Some (noted fits.sent_at (Sends fits.peer fits.first.bytes fits.first.timeout) (First is.opening fits.sent))) place fits.first.stands in
+          let first : at l c.sent_as ≡ Some (noted fits.sent_at (Sends fits.peer fits.first.bytes fits.first.timeout) (First o fits.sent)) =
+          subst (λ (n : ℕ). at l n ≡ Some (noted fits.sent_at (Sends fits.peer fits.first.bytes fits.first.timeout) (First o fits.sent))) place fits.first.stands in
           inl (
-            as-sent c.sent_as c.sent_at fits.sent_at p fits.peer c.text fits.first.bytes c.timeout fits.first.timeout (First is.opening fits.sent) sent of_sent
+            as-sent c.sent_as c.sent_at fits.sent_at p fits.peer c.text fits.first.bytes c.timeout fits.first.timeout (First o fits.sent) sent of_sent
                 c.sent_spelled first,
             as-heard-in c.heard_as c.heard_at fits.moment p fits.peer c.bytes fits.bytes _ m of_heard c.spelled heard,
           )
@@ -500,15 +502,17 @@ module _ (t : ℕ) (S : State) (kept : Kept S) where
       by (inl is) =
           let shared = shared-is l it.1.pair.request is.opening is.shared in
           let b : Begun = shared.exchange in
-          let place : is.opening ≡ c.number = sym is.origin ∙ it.2 in
-          let ask = asked-for l is.opening b reads.legal shared.opened in
-          let stands : at l c.number ≡ Some (noted b.since (Asks ask.conn ask.ask) ask.note) =
-          subst (λ (n : ℕ). at l n ≡ Some (noted b.since (Asks ask.conn ask.ask) ask.note)) place ask.stands in
-          let same = same-ask b.since ask.conn ask.ask (Asks ask.conn ask.ask) ask.note b.request refl stands ask.sense in
+          let back = ask-behind l is.opening b reads.legal shared.opened in
+          let place : back.number ≡ c.number = sym (is.origin ∙ back.is) ∙ it.2 in
+          let stands : at l c.number ≡ Some (noted back.asked.moment (Asks back.conn back.ask) back.asked.note) =
+          subst (λ (n : ℕ). at l n ≡ Some (noted back.asked.moment (Asks back.conn back.ask) back.asked.note)) place back.asked.stands in
+          let same = same-ask back.asked.moment back.conn back.ask (Asks back.conn back.ask) back.asked.note b.request refl stands back.sense in
+          let fresh : outrun l (asked_place b.request) is.opening ≡ false =
+          subst (λ (p : Place). outrun l p is.opening ≡ false) (same-place it.1.pair.request b.request shared.same) shared.fresh in
           record {
-            current = subst (λ (n : ℕ). outrun l (asked_place q) n ≡ false) place
-                (subst (λ (r : CoapRequest). outrun l (asked_place r) is.opening ≡ false) same.0
-                (subst (λ (p : Place). outrun l p is.opening ≡ false) (same-place it.1.pair.request b.request shared.same) shared.fresh));
+            current = subst (λ (n : ℕ). outrun l (asked_place q) n ≡ false) (back.is ∙ place)
+                (subst (λ (r : CoapRequest). outrun l (asked_place r) (ask_behind l is.opening) ≡ false) same.0
+                (behind-unoutrun l is.opening b reads.legal shared.opened fresh));
             either = inl (_, entry-in c.number _ stands, refl);
           }
       by (inr is) =

@@ -36,7 +36,9 @@ use Rattle.exchange_model.specs.Laws.{IsContinued}
 use Rattle.exchange_model.specs.Room.{fits}
 use Rattle.exchange_model.specs.Sealing.{in_room, if_unsealed, opens_in_room, asks_in_room, hears_in_room, late, ticks_in_room}
 use Rattle.exchange_model.specs.State.{PeerLink, State, link_of, with_link}
-use Rattle.exchange_model.specs.Steps.{Matter, Nothing, Tells, Goes, Over, Numbers, asks, asks_so, confirms, gone_by, issued_by, joins, matter_of, more_by, opens, shuts, seals, begins, hears, hears_nothing, sends_copy, sends_first, is_past, link_with, passed, passes, recalls, timed_out, unwatched}
+use Rattle.exchange_model.specs.Steps.{asks, asks_so, confirms, joins, opens, shuts, seals, begins, hears_nothing, sends_copy, sends_first, recalls, unwatched}
+use Rattle.exchange_model.specs.Matters.{Matter, Nothing, Tells, Starts, Goes, Over, matter_of}
+use Rattle.exchange_model.specs.Hearing.{Numbers, gone_by, issued_by, more_by, hears, is_past, link_with, passed, passes, timed_out}
 use Rattle.exchange_model.specs.Watching.{is_one_of}
 use Rattle.exchange_model.specs.declared.kept.Exchange.{Exchange}
 use Rattle.exchange_core.specs.Calls.{IsSpelled}
@@ -171,6 +173,7 @@ module _ (lo t : ℕ) where
   issued-later : (x : Matter) (k : ℕ) → k ≤ issued_by x k
   issued-later Nothing k = omega arith
   issued-later (Tells r found) k = omega arith
+  issued-later (Starts r e progress) k = omega arith
   issued-later (Goes e progress) k = omega arith
   issued-later (Over e how) k = omega arith
 
@@ -185,13 +188,10 @@ module _ (lo t : ℕ) where
       ap (λ (m : Content). m.token) (sym (some-is _ m e)) ∙ block-token q (next_block upload) token
   next-token q (Ends how) token m e = absurd (none-some m e)
 
-  more-issued : (x : Matter) (n : Numbers) (S : State) (s : LinkState) → ((e : Exchange) (progress : Progress) → x ≡ Goes e progress → IsContinued e progress n S)
-      → lo ≤ S.issued → LinkIssued lo S.issued s → LinkIssued lo (issued_by x S.issued) (link_with t (more_by n x) s)
-  more-issued Nothing n S s may le h = h
-  more-issued (Tells r found) n S s may le h = h
-  more-issued (Over e how) n S s may le h = h
-  more-issued (Goes e progress) n S s may le h =
-      let it = may e progress refl in
+  -- the next message of an exchange waits at its endpoint
+  continues : (e : Exchange) (progress : Progress) (n : Numbers) (S : State) (s : LinkState) → IsContinued e progress n S
+      → lo ≤ S.issued → LinkIssued lo S.issued s → LinkIssued lo (S.issued + 1) (link_with t (Some (waits n.token n.text n.word)) s)
+  continues e progress n S s it le h =
       let is = next-token it.request progress n.token it.message it.next in
       let bears : Bears lo (S.issued + 1) n.text =
       spelled-bears lo S.issued it.message n.text it.spelled (ap length is ∙ it.token_size) (ap token_number is ∙ it.number) le in
@@ -200,8 +200,16 @@ module _ (lo t : ℕ) where
         waits = all-both (λ (w : Waiting). Bears lo (S.issued + 1) w.datagram) s.waiting (waits n.token n.text n.word ∷ []) old.waits (bears, tt);
       }
 
+  more-issued : (x : Matter) (n : Numbers) (S : State) (s : LinkState) → ((e : Exchange) (progress : Progress) → goes_with x ≡ Some (e, progress) → IsContinued e progress n S)
+      → lo ≤ S.issued → LinkIssued lo S.issued s → LinkIssued lo (issued_by x S.issued) (link_with t (more_by n x) s)
+  more-issued Nothing n S s may le h = h
+  more-issued (Tells r found) n S s may le h = h
+  more-issued (Over e how) n S s may le h = h
+  more-issued (Starts r e progress) n S s may le h = continues e progress n S s (may e progress refl) le h
+  more-issued (Goes e progress) n S s may le h = continues e progress n S s (may e progress refl) le h
+
   hears-issue : (p : Peer) (d : List ℕ) (m : Content) (n : Numbers) (S : State)
-      → ((e : Exchange) (progress : Progress) → matter_of t p m (verdict_of t (link_of S.links p) m) S ≡ Goes e progress → IsContinued e progress n S)
+      → ((e : Exchange) (progress : Progress) → goes_with (matter_of t p m (verdict_of t (link_of S.links p) m) S) ≡ Some (e, progress) → IsContinued e progress n S)
       → Issued lo S → Issued lo (hears t p d m n S)
   hears-issue p d m n S may h =
       one S (hears t p d m n S) (Hears p d) refl (issued-later x S.issued) tt
@@ -236,19 +244,19 @@ module _ (lo t : ℕ) where
       nothing bs f = given-issue p bs (hears_nothing t p d S) f (one S (hears_nothing t p d S) (Hears p d) refl (omega arith) tt h.links h)
 
       new : (m : Content) (v : Verdict) → v ≡ verdict_of t (link_of S.links p) m
-          → ((e : Exchange) (progress : Progress) → matter_of t p m v S ≡ Goes e progress → IsContinued e progress n S)
+          → ((e : Exchange) (progress : Progress) → goes_with (matter_of t p m v S) ≡ Some (e, progress) → IsContinued e progress n S)
           → Issued lo (takes_new t p d m v n S)
       new m v is goes =
           let S1 = hears t p d m n S in
           let S2 = given_back t p (replies m.mid v.reply) S1 in
           let S3 = next t p S2 in
           let i1 : Issued lo S1 =
-          hears-issue p d m n S (subst (λ (v : Verdict). (e : Exchange) (progress : Progress) → matter_of t p m v S ≡ Goes e progress → IsContinued e progress n S) is goes) h in
+          hears-issue p d m n S (subst (λ (v : Verdict). (e : Exchange) (progress : Progress) → goes_with (matter_of t p m v S) ≡ Some (e, progress) → IsContinued e progress n S) is goes) h in
           let i2 : Issued lo S2 = given-issue p (replies m.mid v.reply) S1 (four m.mid v.reply) i1 in
           told-issue (told_for (length S.entries) (matter_of t p m v S) S.readers) S3 (next-issues p S2 i2)
 
       taken : (m : Content) (v : Verdict) (news : News) → v ≡ verdict_of t (link_of S.links p) m
-          → ((e : Exchange) (progress : Progress) → matter_of t p m v S ≡ Goes e progress → IsContinued e progress n S)
+          → ((e : Exchange) (progress : Progress) → goes_with (matter_of t p m v S) ≡ Some (e, progress) → IsContinued e progress n S)
           → Issued lo (takes_by t p d m v n news S)
       taken m v N.Lost is goes = h
       taken m v N.Quiet is goes = new m v is goes
@@ -256,10 +264,10 @@ module _ (lo t : ℕ) where
       taken m v (N.Reset token) is goes = new m v is goes
 
       goes-on : (m : Content) → MayGoOn t p d n S → message_at d ≡ Ok m → repeats t (link_of S.links p) m ≡ false
-          → (e : Exchange) (progress : Progress) → matter_of t p m (verdict_of t (link_of S.links p) m) S ≡ Goes e progress → IsContinued e progress n S
+          → (e : Exchange) (progress : Progress) → goes_with (matter_of t p m (verdict_of t (link_of S.links p) m) S) ≡ Some (e, progress) → IsContinued e progress n S
       goes-on m go reads fresh e progress is =
           go e progress (ap (λ (r : Result Content CodecFault). goes_as t p r S) reads
-          ∙ (ap (λ (b : Bool). cond b None (goes_with (matter_of t p m (verdict_of t (link_of S.links p) m) S))) fresh ∙ ap goes_with is))
+          ∙ (ap (λ (b : Bool). cond b None (goes_with (matter_of t p m (verdict_of t (link_of S.links p) m) S))) fresh ∙ is))
 
       message : (m : Content) (v : Verdict) → v ≡ verdict_of t (link_of S.links p) m → MayGoOn t p d n S → message_at d ≡ Ok m
           → (b : Bool) → repeats t (link_of S.links p) m ≡ b
@@ -267,7 +275,7 @@ module _ (lo t : ℕ) where
       message m v is go reads true again = nothing (replies m.mid v.reply) (four m.mid v.reply)
       message m v is go reads false fresh =
           taken m v v.news is
-          (subst (λ (v : Verdict). (e : Exchange) (progress : Progress) → matter_of t p m v S ≡ Goes e progress → IsContinued e progress n S) (sym is) (goes-on m go reads fresh))
+          (subst (λ (v : Verdict). (e : Exchange) (progress : Progress) → goes_with (matter_of t p m v S) ≡ Some (e, progress) → IsContinued e progress n S) (sym is) (goes-on m go reads fresh))
 
       reset : (o : Option ℕ) → AllByRecursion (λ (b : List ℕ). length b ≡ 4) (resets o)
       reset None = tt

@@ -20,7 +20,9 @@ use Rattle.exchange_model.specs.Calls.{served_in, asked_for, joined, asked_with,
 use Rattle.exchange_model.specs.Room.{fits}
 use Rattle.exchange_model.specs.Sealing.{in_room, if_unsealed, opens_in_room, asks_in_room, hears_in_room, late, ticks_in_room}
 use Rattle.exchange_model.specs.State.{State, link_of}
-use Rattle.exchange_model.specs.Steps.{Numbers, confirms, matter_of, opens, shuts, seals, begins, hears, hears_nothing, sends_copy, is_past, passes, timed_out}
+use Rattle.exchange_model.specs.Steps.{confirms, opens, shuts, seals, begins, hears_nothing, sends_copy}
+use Rattle.exchange_model.specs.Matters.{matter_of}
+use Rattle.exchange_model.specs.Hearing.{Numbers, hears, is_past, passes, timed_out}
 use Rattle.exchange_model.specs.declared.kept.Exchange.{Exchange}
 
 abbrev pub Counts : ℕ → State → State → Type 0

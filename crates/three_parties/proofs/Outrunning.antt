@@ -20,9 +20,9 @@ use Rattle.history_laws.specs.Joining.{outrun, writes_at}
 use Rattle.history_laws.specs.Carrying.{carried}
 use Rattle.history_laws.specs.Grounds.{IsWriteEnd}
 use Rattle.history_laws.specs.Justified.{AskNote, Ends, HasGrounds, Legal, reads, reads_by, reads_in}
-use Rattle.history_laws.proofs.CallerLemmas.{at-before, contains-none, copied-current, end-since, ends-all, ends-renewed, first-or-later, follows-at, is-outrun, joins-is, kept-before, none-some, opening-begun, renews-for, some-is}
+use Rattle.history_laws.proofs.CallerLemmas.{at-before, contains-none, copied-current, end-since, ends-all, ends-renewed, first-or-later, follows-at, is-outrun, joins-is, kept-before, legal-before, none-some, opening-begun, renews-for, some-is}
 use Rattle.history_claims.specs.Headline.{AreHeardFor, IsEntry, RestsOn}
-use Rattle.story_laws.proofs.Posting.{noted-at}
+use Rattle.story_laws.proofs.Posting.{noted-at, heard-own}
 
 -- ---- replies, one after another
 
@@ -162,9 +162,9 @@ module _ (l : List Noted) (h : List Written) (legal : Legal l) (same : entries l
         by (inl g) =
             let o = g.0 in
             let e = g.1 in
-            let all = ends-all (before l m) o e g.2 g.3 g.5 in
+            let all = ends-all (before l m) o e g.2 g.3 (legal-before l m legal) g.5 in
             let split : js ≡ numbers all.others ++ all.last.number ∷ [] = g.6 ∙ (ap numbers all.all ∙ numbers-end all.others all.last) in
-            let rises = rise h y.opening y.request (first_point y.request) js y.messages y.heard (numbers all.others) all.last.number split in
+            let rises = rise h y.opening y.request (first_point y.request) js y.messages (heard-own h m c w js y changes) (numbers all.others) all.last.number split in
             record {
               end = e;
               ends = record {

@@ -32,7 +32,9 @@ use Rattle.exchange_model.specs.Calls.{served_in, asked_for, joined, asked_with,
 use Rattle.exchange_model.specs.Room.{AreApart, fits}
 use Rattle.exchange_model.specs.Sealing.{in_room, if_unsealed, opens_in_room, asks_in_room, hears_in_room, late, ticks_in_room}
 use Rattle.exchange_model.specs.State.{PeerLink, State, link_of, with_link}
-use Rattle.exchange_model.specs.Steps.{Matter, Numbers, asks, confirms, gone_by, joins, matter_of, more_by, opens, shuts, seals, begins, hears, hears_nothing, sends_copy, sends_first, is_past, link_with, passed, passes, recalls, timed_out, unwatched}
+use Rattle.exchange_model.specs.Steps.{asks, confirms, joins, opens, shuts, seals, begins, hears_nothing, sends_copy, sends_first, recalls, unwatched}
+use Rattle.exchange_model.specs.Matters.{Matter, matter_of}
+use Rattle.exchange_model.specs.Hearing.{Numbers, gone_by, more_by, hears, is_past, link_with, passed, passes, timed_out}
 use Rattle.exchange_model.specs.Watching.{is_one_of}
 use Rattle.exchange_model.specs.declared.kept.Exchange.{Exchange}
 use Rattle.three_parties.proofs.Moments.{Counts}

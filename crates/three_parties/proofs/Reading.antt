@@ -12,7 +12,7 @@ use Rattle.ask_model.specs.declared.cause.Cause.TheVariants as C
 use Rattle.resp_cache.specs.Stored.{Stored}
 use Rattle.history_laws.specs.Justified.{Stands}
 use Rattle.history_laws.specs.Progress.{Point, block_for, first_point}
-use Rattle.history_claims.specs.Headline.{AreHeardFor, IsEntry, IsHeardFor, IsJoined, IsSentFor, IsWriteAnswer, RestsOn}
+use Rattle.history_claims.specs.Headline.{AreHeardFor, IsEntry, IsHeardFor, IsJoined, IsSentFor, IsWriteAnswer, RestsOn, IsJoinedTo}
 use Rattle.history_claims.specs.Stored.{RestsOnRenewed, WasHeardHere, WasStored, WasWhole}
 use Rattle.demo_origin.specs.Calls.{Call}
 use Rattle.demo_origin.specs.Done.{left_with, told_by, told_in}
@@ -226,9 +226,12 @@ write-answer h q n t c w js answered y changes peer path = record {
 pub live-back : (h : List Written) (n c k : ℕ) (js : List ℕ) → (r : RestsOn h n c k js) → GoesBack h k r.opening r.request
 live-back h n c k js r m t d w is answered y changes peer path lt =
     elim (r.shared.shares) [
-      | inl own ↦ let same = own.0 in omega (arith, same, lt)
-      | inr joined ↦
-          let before = joined.0.fresh m (write-answer h r.request m t d w is answered y changes peer path) lt in
+      | inl own ↦ let same = own.1 in omega (arith, same, lt)
+      | inr (inl joined) ↦
+          let before = joined.1.fresh m (write-answer h r.request m t d w is answered y changes peer path) lt in
+          omega (arith, before)
+      | inr (inr fetched) ↦
+          let before = fetched.fresh m (write-answer h r.request m t d w is answered y changes peer path) lt in
           omega (arith, before)
     ]
 
@@ -245,11 +248,13 @@ renewed-back h n c k js r m t d w is answered y changes peer path lt =
     let before = r.was.current m write (early (r.shared.shares) write) in
     omega (arith, before)
   where
-    early : ((r.opening ≡ k) × (r.since ≡ r.shared.moment))
-        ⊎ ((j : IsJoined h k r.request r.opening) × (r.since ≡ j.pending.moment))
+    early : ((r.opening ≡ k) × (r.opening ≡ k) × (r.since ≡ r.shared.moment))
+        ⊎ (((r.opening ≡ r.opening) × (j : IsJoined h k r.request r.opening) × (r.since ≡ j.pending.moment))
+        ⊎ IsJoinedTo h k r.opening r.request r.opening r.since)
         → IsWriteAnswer h r.request m → m < r.opening
-    early (inl own) write = let same = own.0 in omega (arith, same, lt)
-    early (inr joined) write = joined.0.fresh m write lt
+    early (inl own) write = let same = own.1 in omega (arith, same, lt)
+    early (inr (inl joined)) write = joined.1.fresh m write lt
+    early (inr (inr fetched)) write = fetched.fresh m write lt
 
 -- It was heard as a reply, where nothing is notified.
 pub heard-kept : (h : List Written) → NoneObserved h → (q : CoapRequest) (first : Stored) → (w : WasWhole h q first)

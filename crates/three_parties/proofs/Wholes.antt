@@ -20,7 +20,7 @@ use Rattle.demo_origin.specs.declared.state.Held.{Held}
 use Rattle.story_laws.specs.Lateness.{ArePunctual}
 use Rattle.story_laws.specs.Orders.{WholesShow as Law}
 use Rattle.story_laws.specs.Reads.{AreNew}
-use Rattle.story_laws.proofs.Quiet.{NoneObserved, sent-quietly}
+use Rattle.story_laws.proofs.Quiet.{NoneObserved, sent-quietly, heard-plainly}
 use Rattle.story_laws.proofs.Wholes.{body-shown}
 use Rattle.gateway_model.specs.Emissions.{Emission}
 use Rattle.three_parties.specs.Flights.{Going, device_at, proxy_at}
@@ -64,7 +64,7 @@ module _ (R : Relation) (law : Law R) (join : DownloadsJoin) (block : ℕ) (reso
 
   gets-whole : GetsShowWhole before resources h s.flights s.taken
   gets-whole n t c k js answered r get to content =
-      whole-shows k r.opening r.request r.request js r.messages r.response r.heard r.whole get to to content
+      whole-shows k r.opening r.request r.request js r.messages r.response (heard-plainly h none n c k js r) r.whole get to to content
       (live-back h n c k js r)
 
   here-whole : (k : ℕ) (q : CoapRequest) (first : Stored) (w : WasWhole h q first)
