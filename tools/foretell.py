@@ -22,7 +22,7 @@ FRESH, CHANGES, ONE_MESSAGE = 60, 3, 1_024
 # how many a notification is newer than the one before it, whatever their numbers are (section 3.4).
 OBSERVED, WATCHES, IDLE, RENEWED = {"o.example.com"}, 64, 120_000, 128_000
 # Whether the rest of an update that comes in pieces is fetched at once. Where it isn't, the next GET asks for all of it.
-FETCHES = False
+FETCHES = True
 # How many entries a journal takes, how many a step adds at most, and for how many milliseconds message IDs aren't used again.
 ENTRIES, A_STEP, APART = 65_536, 600, 494_000
 LAST_MOMENT = 2**62
@@ -485,15 +485,16 @@ class Link:
 
 
 # How an exchange ends: a cause with the number of the entry that shows it, or None for the latest first sending, or a response, with
-# the numbers of its replies, and of what they came to: the ask that opened the exchange, and messages. A notification came to none,
-# and what a 2.03 has renewed isn't copied. The last of its numbers is that of the 2.03 then.
+# the numbers of its replies, and of what they came to: the ask that the exchange goes back to, and messages. What a notification
+# brought came to none, and what a 2.03 has renewed isn't copied. The last of its numbers is that of the 2.03 then.
 Fault = collections.namedtuple("Fault", "kind status number")
 Response = collections.namedtuple("Response", "code form tag age location query payload numbers since asked is_renewed", defaults=[False])
 
 
 class Exchange:
-    def __init__(self, opening, since, meaning):
-        self.opening, self.since, self.meaning = opening, since, meaning
+    def __init__(self, opening, since, meaning, ask=None):
+        # the ask that it goes back to: its opening, unless a notification opened it
+        self.opening, self.since, self.meaning, self.ask = opening, since, meaning, opening if ask is None else ask
         self.readers, self.sending, self.awaits, self.is_over = [], None, False, False
         # whether equal GETs still join it, and what it comes to is stored; whether it asks to be told of changes
         self.current, self.observes = True, False
@@ -544,7 +545,8 @@ class Exchange:
     def whole(self, numbers, last, first):
         text = b"".join(it.payload for _, it, _ in self.pieces) if self.meaning.code == GET else last.payload
         location, query = last.values[LOCATION_PATH], last.values[LOCATION_QUERY]
-        age, asked = first.number(MAX_AGE), [] if self.sending is None else [self.opening, *(it.number for _, _, it in self.pieces)]
+        sendings = [it for _, _, it in self.pieces]
+        age, asked = first.number(MAX_AGE), [] if None in sendings else [self.ask, *(it.number for it in sendings)]
         return Response(last.code, last.number(FORMAT), last.tag(), age, location, query, text, numbers, self.begun, asked)
 
     def piece(self):
@@ -591,8 +593,9 @@ Past = collections.namedtuple("Past", "number moment what")
 class Watch:
     """What a device tells the gateway of, and under which token; the number and the moment of what counted last."""
 
-    def __init__(self, meaning, token, number, moment):
-        self.meaning, self.token, self.number, self.moment = meaning, token, number, moment
+    def __init__(self, ask, meaning, token, number, moment):
+        # the ask by which the gateway became an observer
+        self.ask, self.meaning, self.token, self.number, self.moment = ask, meaning, token, number, moment
         self.key, self.place = key_of(meaning), place_of(meaning)
 
     def is_older(self, number, moment):
@@ -946,7 +949,7 @@ class Gateway:
         self.counted[watch.key] = number
         self.take_out(watch.key)
         # a whole representation, or the first piece of one, as if a GET had been asked for it
-        update = Exchange(number, self.moment, watch.meaning)
+        update = Exchange(number, self.moment, watch.meaning, watch.ask)
         next_ = update.fetched(number, reply, self.moment) if tells_state(reply) else None
         if not isinstance(next_, (Block, Response)):
             self.ways.add("told and rejected" if reply.rejected else "told no state")
@@ -986,7 +989,7 @@ class Gateway:
         exchange.kept = None
         if tells_state(reply) and not isinstance(next_, Fault) and self.may_watch(exchange):
             self.ways.add("watched")
-            watch = Watch(exchange.meaning, exchange.sending.token, reply.number(OBSERVE), self.moment)
+            watch = Watch(exchange.opening, exchange.meaning, exchange.sending.token, reply.number(OBSERVE), self.moment)
             self.watches.append(watch)
         self.ways |= {"smaller blocks"} if exchange.szx < before else set()
         self.ways |= {"changed" if exchange.changes <= CHANGES else "fourth change"} if exchange.changes > changes else set()
