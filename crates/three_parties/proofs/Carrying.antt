@@ -1,192 +1,35 @@
--- What a turn of the journal copies of what is stored: the ask, the messages that were sent for it, and the replies.
-use Rattle.std.proofs.Common.{◌≡◌, ◌≢◌, ◌⊎◌, inl, inr, ℕ, zero, ◌+◌, ◌<◌, Bool, true, false, cond, eqb, List, [], ◌∷◌, ◌++◌, length, Option, Some, None, refl, sym, ap, subst, ◌∙◌, arith}
-use Rattle.std.specs.Prelude.{not, ◌||◌, slice_get, option_and_then, Ok}
-use Rattle.std.specs.List.{AllByRecursion, Contains, list_all}
-use Rattle.std.proofs.lemmas.Bool.{and_parts, false≢true}
-use Rattle.std.proofs.lemmas.Bool.Decides.{eqb_tells}
+-- What the copies are with which a journal begins: of which journal is their reply, and of which the ask.
+use Rattle.std.proofs.Common.{◌≡◌, ◌⊎◌, inl, inr, ℕ, ◌<◌, false, List, ◌∷◌, Option, Some, None, refl, sym, ap, subst, ◌∙◌, arith}
+use Rattle.std.specs.Prelude.{slice_get, option_and_then}
+use Rattle.std.specs.List.{Contains}
 use Rattle.coap_codec.specs.Spelling.{Content, Spells}
-use Rattle.coap_codec.specs.Recognition.{is_forwardable}
 use Rattle.coap_codec.specs.declared.block.Block.{Block}
-use Rattle.coap_codec.proofs.Again.{message_again}
 use Rattle.coap_codec.proofs.Unique.{spells_one}
 use Rattle.uri_map.specs.declared.peer.Peer.{Peer}
 use Rattle.cache_key.specs.declared.place.Place.{Place}
-use Rattle.resp_cache.specs.Stored.{Stored, is_fresh}
-use Rattle.resp_cache.specs.declared.pair.Pair.{Pair}
 use Rattle.ask_model.specs.Requests.{Came, CoapRequest, Requests, Manner, Plainly, Observing, Validating, asking}
 use Rattle.ask_model.specs.Sharing.{asked_place}
 use Rattle.ask_model.specs.Views.{Ask, Rules}
 use Rattle.ask_model.proofs.CallerLemmas.{same-place}
-use Rattle.journal_book.specs.Entries.{Mark, Ground, Past, Done, Asked, Sent, Heard, done_of, Deed, Asks, Sends, Hears, Carries, Written}
-use Rattle.history_laws.specs.Readings.{Noted, Note, First, Bygone, Copies, Confirms, Recalls, Says, noted, at, before, carries, entries}
-use Rattle.history_laws.specs.Progress.{Reply, numbers}
-use Rattle.history_laws.specs.Responses.{confirms}
-use Rattle.history_laws.specs.Transmissions.{FirstSending, firsts, firsts_by}
+use Rattle.journal_book.specs.Entries.{Mark, Ground, Done, Asked, Sent, Heard, done_of, Deed, Asks, Sends, Hears, Carries, Written}
+use Rattle.history_laws.specs.Readings.{Noted, Note, First, Recalls, Says, noted, at, before, carries, entries}
+use Rattle.history_laws.specs.Progress.{Reply}
 use Rattle.history_laws.specs.Exchanges.{Begun, ask_behind}
 use Rattle.history_laws.specs.Joining.{outrun}
 use Rattle.history_laws.specs.Carrying.{carried}
-use Rattle.history_laws.specs.Storing.{IsAsHeard, IsRenewed, IsStored}
-use Rattle.history_laws.specs.Justified.{Follows, Legal}
-use Rattle.history_laws.proofs.CallerLemmas.{at-entries, at-old, carried-at, carried-fit, comes-fit, contains-later, ends-renewed, firsts-tokens, follows-at, heard-of, none-some, number-of, renewed-of, replies-fit, shared-is, some-is, ask-behind, behind-unoutrun}
+use Rattle.history_laws.specs.Storing.{IsAsHeard}
+use Rattle.history_laws.proofs.CallerLemmas.{ask-behind, behind-unoutrun, carried-at, carried-fit, comes-fit, number-of, shared-is, some-is}
 use Rattle.history_claims.specs.Headline.{IsEntry, IsFirstSending, IsHeard}
 use Rattle.history_claims.specs.Carried.{IsAskCopied}
-use Rattle.exchange_model.specs.Backing.{backing, done_at}
+use Rattle.exchange_model.specs.Backing.{done_at}
 use Rattle.exchange_model.specs.Keeping.{Kept}
-use Rattle.exchange_model.specs.Reads.{PairIn, Reads}
-use Rattle.exchange_model.specs.Rotating.{Backed, backed, backed_by, backed_if, are_few, carried_numbers, copied_entries, copies_with, few_of, has, may_carry, seen, taken}
+use Rattle.exchange_model.specs.Reads.{Reads}
+use Rattle.exchange_model.specs.Rotating.{Backed, carried_numbers, copied_entries, has, seen, taken}
 use Rattle.exchange_model.specs.State.{State}
-use Rattle.exchange_model.specs.Steps.{heard_by, heard_in, is_piece_at, is_valid, read_as}
 use Rattle.story_laws.proofs.Posting.{noted-at}
-use Rattle.three_parties.proofs.Copies.{IsCopyOf, WasHeardIn, WasSent, backing-has, copied, has-joined, in-order}
-use Rattle.three_parties.proofs.Lists.{all-joined}
-
--- ---- first sendings, here or as copies, under one token
-
-abbrev head_of : ℕ → ℕ → Deed → Note → Option FirstSending
-head_of n t (Sends p b w) (First o m) = Some (record { number = n; moment = t; opening = o; peer = p; message = m })
-head_of n t (Carries k mark (Sent p b w)) (Bygone m) = Some (record { number = n; moment = t; opening = n; peer = p; message = m })
-head_of n t (Carries k mark (Sent p b w)) (First o m) = Some (record { number = n; moment = t; opening = o; peer = p; message = m })
-head_of n t d note = None
-
-head-listed : (n t : ℕ) (d : Deed) (note : Note) (old : List FirstSending) (f : FirstSending) → head_of n t d note ≡ Some f
-    → Contains (firsts_by n t d note old) f
-head-listed n t (Sends p b w) (First o m) old f e = (zero, omega arith, some-is _ f e)
-head-listed n t (Carries k mark (Sent p b w)) (Bygone m) old f e = (zero, omega arith, some-is _ f e)
-head-listed n t (Carries k mark (Sent p b w)) (First o m) old f e = (zero, omega arith, some-is _ f e)
-head-listed n t d note old f e = cc
-
-others-listed : (n t : ℕ) (d : Deed) (note : Note) (old : List FirstSending) (f : FirstSending) → Contains old f → Contains (firsts_by n t d note old) f
-others-listed n t (Sends p b w) (First o m) old f h = contains-later _ old f h
-others-listed n t (Carries k mark (Sent p b w)) (Bygone m) old f h = contains-later _ old f h
-others-listed n t (Carries k mark (Sent p b w)) (First o m) old f h = contains-later _ old f h
-others-listed n t d note old f h = h
-
-listed-at : (l : List Noted) (n : ℕ) (x : Noted) (f : FirstSending) → at l n ≡ Some x → head_of n x.written.moment x.written.deed x.note ≡ Some f
-    → Contains (firsts l) f
-listed-at [] n x f e h = absurd (none-some x e)
-listed-at (y ∷ older) n x f e h = elim (at-old y older n x e) [
-  | inl u ↦
-      subst (λ (v : Noted). Contains (firsts (v ∷ older)) f) (sym u.1)
-      (head-listed (length older) x.written.moment x.written.deed x.note (firsts older) f
-      (subst (λ (n : ℕ). head_of n x.written.moment x.written.deed x.note ≡ Some f) u.0 h))
-  | inr u ↦ others-listed (length older) y.written.moment y.written.deed y.note (firsts older) f (listed-at older n x f u h)
-]
-
--- what was first sent is listed
-record IsListed (l : List Noted) (n : ℕ) (m : Content) : Type 0 where
-  first : FirstSending
-  among : Contains (firsts l) first
-  number : first.number ≡ n
-  message : first.message ≡ m
-
-abbrev timeout_of : Done → Option ℕ
-timeout_of (Sent q c v) = v
-timeout_of d = None
-
-abbrev bytes_of : Done → List ℕ
-bytes_of (Sent q c v) = c
-bytes_of d = []
-
-listed-so : (l : List Noted) (n t : ℕ) (d : Deed) (note : Note) (p : Peer) (b : List ℕ) (w : ℕ) (m : Content) → Legal l → at l n ≡ Some (noted t d note)
-    → done_of d ≡ Some (Sent p b (Some w)) → Spells m b → IsListed l n m
-listed-so l n t d note p b w m legal e is spelled = by d note refl refl (follows-at l n _ legal e) is
-  where
-    made : (d2 : Deed) (note2 : Note) → d ≡ d2 → note ≡ note2 → (f : FirstSending) → head_of n t d2 note2 ≡ Some f → f.number ≡ n → (k : Content)
-        → f.message ≡ k → (c : List ℕ) (q : Peer) (v : Option ℕ) → Sent q c v ≡ Sent p b (Some w) → Spells k c → IsListed l n m
-    made d2 note2 a x f heads number k message c q v same spells = record {
-      first = f;
-      among = listed-at l n (noted t d note) f e (subst (λ (d2 : Deed). head_of n t d2 note ≡ Some f) (sym a) (subst (λ (note2 : Note). head_of n t d2 note2 ≡ Some f) (sym x) heads));
-      number = number;
-      message = message ∙ spells_one k m b (subst (Spells k) (ap bytes_of same) spells) spelled;
-    }
-
-    by : (d2 : Deed) (note2 : Note) → d ≡ d2 → note ≡ note2 → Follows (before l n) t d2 note2 → done_of d2 ≡ Some (Sent p b (Some w)) → IsListed l n m
-    by (Sends q c v) (First o k) a x may h = made (Sends q c v) (First o k) a x _ refl refl k refl c q v (some-is _ _ h) may.1.1.spelled
-    by (Sends q c v) (Copies i) a x may h = absurd (none-some w (sym may.1.1 ∙ ap timeout_of (some-is _ _ h)))
-    by (Sends q c v) Confirms a x may h = absurd (none-some w (sym may.1.0 ∙ ap timeout_of (some-is _ _ h)))
-    by (Sends q c v) note2 a x may h = absurd may.1
-    by (Carries k Past (Sent q c v)) (Bygone y) a x may h = made (Carries k Past (Sent q c v)) (Bygone y) a x _ refl refl y refl c q v (some-is _ _ h) may.2.spelled
-    by (Carries k Ground (Sent q c v)) (First o y) a x may h = made (Carries k Ground (Sent q c v)) (First o y) a x _ refl refl y refl c q v (some-is _ _ h) may.2.0.spelled
-    by (Carries k mark (Sent q c v)) note2 a x may h = absurd may.2
-    by d2 note2 a x may h = absurd cc
-
-token-once : (l : List Noted) (i j : ℕ) (m n : Content) → Legal l → IsListed l i m → IsListed l j n → m.token ≡ n.token → i ≡ j
-token-once l i j m n legal a b e =
-    sym a.number
-    ∙ (firsts-tokens l a.first b.first legal a.among b.among
-    (ap (λ (m : Content). m.token) a.message ∙ (e ∙ sym (ap (λ (m : Content). m.token) b.message)))
-    ∙ b.number)
-
--- ---- what is carried over
-
-pub record IsTaken (t : ℕ) (S : State) (l : List Noted) (b : Backed) : Type 0 where
-  pub may : may_carry t S b.pair ≡ true
-  pub backs : backing S.entries b.pair.stored ≡ Some b.numbers
-  pub pair : PairIn l b.pair
-
-module _ (t : ℕ) (S : State) (l : List Noted) where
-  all-backed : (ps : List Pair) → AllByRecursion (PairIn l) ps → AllByRecursion (IsTaken t S l) (backed t S ps)
-  all-backed [] h = tt
-  all-backed (p ∷ ps) h =
-      all-joined (IsTaken t S l) (backed_if (may_carry t S p) S.entries p) (backed t S ps) (one (may_carry t S p) refl) (all-backed ps h.1)
-    where
-      two : may_carry t S p ≡ true → (o : Option (List ℕ)) → backing S.entries p.stored ≡ o → AllByRecursion (IsTaken t S l) (backed_by p o)
-      two may None e = tt
-      two may (Some ns) e = (record { may = may; backs = e; pair = h.0 }, tt)
-
-      one : (c : Bool) → may_carry t S p ≡ c → AllByRecursion (IsTaken t S l) (backed_if c S.entries p)
-      one true e = two e (backing S.entries p.stored) refl
-      one false e = tt
-
-  all-few : (gs : List ℕ) (bs : List Backed) → AllByRecursion (IsTaken t S l) bs → AllByRecursion (IsTaken t S l) (few_of t S.entries gs bs)
-  all-few gs [] h = tt
-  all-few gs (b ∷ bs) h = by (are_few (copies_with t S.entries (gs ++ b.numbers))) (all-few (gs ++ b.numbers) bs h.1)
-    where
-      by : (c : Bool) → AllByRecursion (IsTaken t S l) (few_of t S.entries (gs ++ b.numbers) bs)
-          → AllByRecursion (IsTaken t S l) (cond c (b ∷ few_of t S.entries (gs ++ b.numbers) bs) [])
-      by true rest = (h.0, rest)
-      by false rest = tt
-
-  carried-has : (bs : List Backed) (n : ℕ) → AllByRecursion (IsTaken t S l) bs → has (carried_numbers bs) n ≡ true
-      → (b : Backed) × IsTaken t S l b × (has b.numbers n ≡ true)
-  carried-has [] n h e = absurd (false≢true e)
-  carried-has (b ∷ bs) n h e = elim (has-joined n b.numbers (carried_numbers bs) e) [
-    | inl here ↦ (b, h.0, here)
-    | inr later ↦ carried-has bs n h.1 later
-  ]
-
-last-passes : (f : ℕ → Bool) (xs : List ℕ) (n : ℕ) → list_all f (xs ++ n ∷ []) ≡ true → f n ≡ true
-last-passes f [] n e = (and_parts (f n) true e).0
-last-passes f (x ∷ xs) n e = last-passes f xs n (and_parts (f x) (list_all f (xs ++ n ∷ [])) e).1
-
-has-among : (gs : List ℕ) (n : ℕ) → has gs n ≡ true → Contains gs n
-has-among [] n e = absurd (false≢true e)
-has-among (g ∷ gs) n e = elim (eqb_tells g n) [
-  | inl w ↦ (zero, omega arith, w.1)
-  | inr w ↦ contains-later g gs n (has-among gs n (subst (λ (b : Bool). (b || has gs n) ≡ true) w.0 e))
-]
-
-confirms-valid : (tag : Option (List ℕ)) (m : Content) → confirms tag m ≡ true → eqb m.code 67 ≡ true
-confirms-valid None m e = absurd (false≢true e)
-confirms-valid (Some tag) m e = (and_parts (eqb m.code 67) _ (and_parts (is_forwardable m.options) _ e).1).0
-
-sent-done : (p q : Peer) (a b : List ℕ) (v w : Option ℕ) → Some (Sent p a v) ≡ Some (Sent q b w) → (p ≡ q) × (a ≡ b) × (v ≡ w)
-sent-done p q a b v w e = (cc, cc, cc)
-
-heard-done : (p q : Peer) (a b : List ℕ) → Some (Heard p a) ≡ Some (Heard q b) → (p ≡ q) × (a ≡ b)
-heard-done p q a b e = (cc, cc)
-
-asked-done : (c d : ℕ) (a b : Ask) → Some (Asked c a) ≡ Some (Asked d b) → (c ≡ d) × (a ≡ b)
-asked-done c d a b e = (cc, cc)
-
-sent-not-asked : (p : Peer) (b : List ℕ) (w : Option ℕ) (c : ℕ) (a : Ask) → Some (Sent p b w) ≡ Some (Asked c a) → ⊥
-sent-not-asked p b w c a e = cc
-
-heard-not-asked : (p : Peer) (b : List ℕ) (c : ℕ) (a : Ask) → Some (Heard p b) ≡ Some (Asked c a) → ⊥
-heard-not-asked p b c a e = cc
-
-sent-not-heard : (p : Peer) (b : List ℕ) (w : Option ℕ) (q : Peer) (c : List ℕ) → Some (Sent p b w) ≡ Some (Heard q c) → ⊥
-sent-not-heard p b w q c e = cc
+use Rattle.three_parties.proofs.Copies.{IsCopyOf, copied, in-order}
+use Rattle.three_parties.proofs.Listed.{IsListed, listed-at, listed-so, token-once}
+use Rattle.three_parties.proofs.Grounds.{IsTaken, as-heard, asked-done, asked-ground, entry-in, heard-done, heard-ground, sent-done}
 
 requests-same : (q r : CoapRequest) → Requests q ≡ Requests r → q ≡ r
 requests-same q r e = cc
@@ -227,93 +70,6 @@ module _ (t : ℕ) (S : State) (kept : Kept S) where
   abbrev gs : List ℕ
   gs = carried_numbers (taken t S)
 
-  -- an entry as the reading has it
-  entry-in : (n : ℕ) (x : Noted) → at l n ≡ Some x → slice_get S.entries n ≡ Some x.written
-  entry-in n x e = subst (λ (ws : List Written). slice_get ws n ≡ Some x.written) reads.entries_are (at-entries l n x e)
-
-  done-in : (n : ℕ) (x : Noted) → at l n ≡ Some x → done_at S.entries n ≡ done_of x.written.deed
-  done-in n x e = ap (option_and_then (λ (w : Written). done_of w.deed)) (entry-in n x e)
-
-  -- What a 2.03 renewed isn't carried over.
-  renewed-not : (q : CoapRequest) (s : Stored) → IsRenewed l q s → list_all (is_piece_at S.entries) s.list ≡ true → ⊥
-  renewed-not q s a pieces =
-      let r : Reply = a.renewal.reply in
-      let o : ℕ = a.renewal.opening in
-      let fits = replies-fit l o r reads.legal (renewed-of l o a.ending a.renewal.kept r a.renewal.ended) in
-      let was = ends-renewed l o a.ending a.renewal.kept r a.renewal.ended in
-      let heard : heard_in S.entries r.number ≡ read_as r.number (Ok r.message) =
-      ap (option_and_then (λ (w : Written). heard_by r.number w.deed)) (entry-in r.number _ fits.heard)
-      ∙ ap (read_as r.number) (message_again r.message fits.bytes fits.spelled) in
-      let last = last-passes (is_piece_at S.entries) a.renewal.kept.list r.number
-      (subst (λ (js : List ℕ). list_all (is_piece_at S.entries) js ≡ true) a.list pieces) in
-      let valid = confirms-valid a.renewal.kept.response.etag r.message was.turned.tells in
-      false≢true (sym (ap (λ (o : Option Reply). not (is_valid o)) heard ∙ ap not valid) ∙ last)
-
-  as-heard : (b : Backed) (k : IsTaken t S l b) → IsAsHeard l k.pair.request b.pair.stored
-  as-heard b k = by k.pair.stored
-    where
-      by : IsStored l k.pair.request b.pair.stored → IsAsHeard l k.pair.request b.pair.stored
-      by (inl a) = heard-of l k.pair.request b.pair.stored a
-      by (inr a) =
-          absurd (renewed-not k.pair.request b.pair.stored a (and_parts (list_all (is_piece_at S.entries) b.pair.stored.list) _ (and_parts (is_fresh t b.pair.stored) _ k.may).1).0)
-
-  -- what backs it was asked in the entry of its opening
-  record OpensAt (n : ℕ) : Type 0 where
-    conn : ℕ
-    ask : Ask
-    is : done_at S.entries n ≡ Some (Asked conn ask)
-
-  opens-at : (b : Backed) (k : IsTaken t S l b) → OpensAt b.pair.stored.opening
-  opens-at b k = by (as-heard b k)
-    where
-      by : IsAsHeard l k.pair.request b.pair.stored → OpensAt b.pair.stored.opening
-      by (inl is) =
-          let shared = shared-is l k.pair.request is.opening is.shared in
-          let back = ask-behind l is.opening shared.exchange reads.legal shared.opened in
-          record { conn = back.conn; ask = back.ask; is = ap (done_at S.entries) (is.origin ∙ back.is) ∙ done-in back.number _ back.asked.stands }
-      by (inr is) =
-          let ask = carried-at l is.opening is.carries.exchange is.carries.asked in
-          record { conn = ask.conn; ask = ask.ask; is = ap (done_at S.entries) is.origin ∙ done-in is.opening _ ask.stands }
-
-  -- an entry of which a copy is a ground
-  ground-of : (n : ℕ) → has gs n ≡ true
-      → (b : Backed) × IsTaken t S l b × ((b.pair.stored.opening ≡ n)
-      ⊎ (WasSent S.entries n ⊎ (WasHeardIn S.entries n × (has b.pair.stored.list n ≡ true))))
-  ground-of n e =
-      let all = all-few t S l [] (backed t S S.store) (all-backed t S l S.store reads.store_is.pairs) in
-      let it = carried-has t S l (taken t S) n all e in
-      (it.0, it.1, backing-has S.entries it.0.pair.stored it.0.numbers n it.1.backs it.2)
-
-  -- it is that of an ask
-  asked-ground : (n c : ℕ) (a : Ask) → has gs n ≡ true → done_at S.entries n ≡ Some (Asked c a)
-      → (b : Backed) × IsTaken t S l b × (b.pair.stored.opening ≡ n)
-  asked-ground n c a e is =
-      let it = ground-of n e in
-      elim it.2 [
-        | inl same ↦ (it.0, it.1, same)
-        | inr other ↦ elim other [
-          | inl x ↦ absurd (sent-not-asked x.peer x.bytes x.timeout c a (sym x.is ∙ is))
-          | inr x ↦ absurd (heard-not-asked x.0.peer x.0.bytes c a (sym x.0.is ∙ is))
-        ]
-      ]
-
-  -- or of a reply
-  heard-ground : (n : ℕ) (p : Peer) (d : List ℕ) → has gs n ≡ true → done_at S.entries n ≡ Some (Heard p d)
-      → (b : Backed) × IsTaken t S l b × Contains b.pair.stored.list n
-  heard-ground n p d e is =
-      let it = ground-of n e in
-      elim it.2 [
-        | inl same ↦
-            let o = opens-at it.0 it.1 in
-            absurd (heard-not-asked p d o.conn o.ask (sym is ∙ (ap (done_at S.entries) (sym same) ∙ o.is)))
-        | inr other ↦ elim other [
-          | inl x ↦ absurd (sent-not-heard x.peer x.bytes x.timeout p d (sym x.is ∙ is))
-          | inr x ↦ (it.0, it.1, has-among it.0.pair.stored.list n x.1)
-        ]
-      ]
-
-  -- ---- the copies
-
   -- what an entry copies
   abbrev IsOf : ℕ → ℕ → Mark → Done → Type 0
   IsOf s k mark done = IsCopyOf gs 0 S.entries s k mark done
@@ -334,7 +90,7 @@ module _ (t : ℕ) (S : State) (kept : Kept S) where
   same-done : (s k : ℕ) (mark : Mark) (done : Done) (c : IsOf s k mark done) (x : Noted) → at l k ≡ Some x
       → (x.written ≡ c.written) × (done_of x.written.deed ≡ Some done)
   same-done s k mark done c x e =
-      let same : x.written ≡ c.written = some-is _ _ (sym (entry-in k x e) ∙ at-number s k mark done c) in
+      let same : x.written ≡ c.written = some-is _ _ (sym (entry-in t S kept k x e) ∙ at-number s k mark done c) in
       (same, ap (λ (w : Written). done_of w.deed) same ∙ c.says)
 
   -- it was first sent in the journal, or is a copy there too
@@ -355,7 +111,7 @@ module _ (t : ℕ) (S : State) (kept : Kept S) where
       record {
         bytes = text;
         timeout = wait;
-        stands = subst (λ (d : Deed). IsEntry S.entries k s d) deed (subst (λ (u : ℕ). IsEntry S.entries k u (Sends q b v)) moment (entry-in k _ e));
+        stands = subst (λ (d : Deed). IsEntry S.entries k s d) deed (subst (λ (u : ℕ). IsEntry S.entries k u (Sends q b v)) moment (entry-in t S kept k _ e));
         spelled = spelled;
       }
 
@@ -368,7 +124,7 @@ module _ (t : ℕ) (S : State) (kept : Kept S) where
       let moment : u ≡ s = ap (λ (w : Written). w.moment) it.0 ∙ c.moment in
       record {
         bytes = bytes;
-        stands = subst (λ (d : Deed). IsEntry S.entries k s d) deed (subst (λ (u : ℕ). IsEntry S.entries k u (Hears q b)) moment (entry-in k _ e));
+        stands = subst (λ (d : Deed). IsEntry S.entries k s d) deed (subst (λ (u : ℕ). IsEntry S.entries k u (Hears q b)) moment (entry-in t S kept k _ e));
         spelled = spelled;
       }
 
@@ -379,7 +135,7 @@ module _ (t : ℕ) (S : State) (kept : Kept S) where
 
   pub reply-there : (i j : ℕ) (p : Peer) (sent m : Content) → (c : IsReplyCopied (copied_entries t S) i j p sent m)
       → (c.sent_as < c.heard_as) × IsReplyThere c.sent_as c.heard_as c.sent_at c.heard_at p sent m
-  reply-there i j p sent m c = (rises, by (as-heard it.0 it.1))
+  reply-there i j p sent m c = (rises, by (as-heard t S kept it.0 it.1))
     where
       of_sent : IsOf c.sent_at c.sent_as Ground (Sent p c.text (Some c.timeout))
       of_sent = copy-in i c.sent_at c.sent_as Ground (Sent p c.text (Some c.timeout)) c.first
@@ -393,7 +149,7 @@ module _ (t : ℕ) (S : State) (kept : Kept S) where
           (Heard p c.bytes) c.first c.heard c.after
 
       it : (b : Backed) × IsTaken t S l b × Contains b.pair.stored.list c.heard_as
-      it = heard-ground c.heard_as p c.bytes (of_heard.marked refl) (done-number c.heard_at c.heard_as Ground (Heard p c.bytes) of_heard)
+      it = heard-ground t S kept c.heard_as p c.bytes (of_heard.marked refl) (done-number c.heard_at c.heard_as Ground (Heard p c.bytes) of_heard)
 
       listed : IsListed l c.sent_as sent
       listed = sent-listed c.sent_at c.sent_as p c.text c.timeout sent of_sent c.sent_spelled
@@ -463,13 +219,13 @@ module _ (t : ℕ) (S : State) (kept : Kept S) where
             timeout = c.timeout;
             first = subst (λ (o : Option ℕ). IsEntry S.entries c.sent_as fits.sent_at (Carries fits.old Ground (Sent p c.text o))) parts.2
                 (subst (λ (b : List ℕ). IsEntry S.entries c.sent_as fits.sent_at (Carries fits.old Ground (Sent p b fits.timeout))) parts.1
-                (subst (λ (p : Peer). IsEntry S.entries c.sent_as fits.sent_at (Carries fits.old Ground (Sent p fits.text fits.timeout))) parts.0 (entry-in c.sent_as _ first)));
+                (subst (λ (p : Peer). IsEntry S.entries c.sent_as fits.sent_at (Carries fits.old Ground (Sent p fits.text fits.timeout))) parts.0 (entry-in t S kept c.sent_as _ first)));
             sent_spelled = c.sent_spelled;
             heard_at = fits.moment;
             heard_as = fits.number;
             bytes = c.bytes;
             heard = subst (λ (b : List ℕ). IsEntry S.entries c.heard_as fits.moment (Carries fits.number Ground (Heard p b))) same.1
-                (subst (λ (p : Peer). IsEntry S.entries c.heard_as fits.moment (Carries fits.number Ground (Heard p fits.bytes))) same.0 (entry-in c.heard_as _ heard));
+                (subst (λ (p : Peer). IsEntry S.entries c.heard_as fits.moment (Carries fits.number Ground (Heard p fits.bytes))) same.0 (entry-in t S kept c.heard_as _ heard));
             spelled = c.spelled;
             token = c.token;
             after = rises;
@@ -482,13 +238,13 @@ module _ (t : ℕ) (S : State) (kept : Kept S) where
         ⊎ (IsAskCopied S.entries n q × (b : Begun) × (carried l n ≡ Some b))
 
   pub ask-there : (o : ℕ) (q : CoapRequest) → (c : IsAskCopied (copied_entries t S) o q) → WasAskedThere c.number q
-  ask-there o q c = by (as-heard it.0 it.1)
+  ask-there o q c = by (as-heard t S kept it.0 it.1)
     where
       of_ask : IsOf c.moment c.number Ground (Asked c.conn (asking_so c.came q c.rules))
       of_ask = copy-in o c.moment c.number Ground (Asked c.conn (asking_so c.came q c.rules)) c.stands
 
       it : (b : Backed) × IsTaken t S l b × (b.pair.stored.opening ≡ c.number)
-      it = asked-ground c.number c.conn _ (of_ask.marked refl) (done-number c.moment c.number Ground (Asked c.conn (asking_so c.came q c.rules)) of_ask)
+      it = asked-ground t S kept c.number c.conn _ (of_ask.marked refl) (done-number c.moment c.number Ground (Asked c.conn (asking_so c.came q c.rules)) of_ask)
 
       -- what was asked there
       same-ask : (u k : ℕ) (a : Ask) (d : Deed) (note : Note) (r : CoapRequest) → done_of d ≡ Some (Asked k a) → at l c.number ≡ Some (noted u d note)
@@ -513,7 +269,7 @@ module _ (t : ℕ) (S : State) (kept : Kept S) where
             current = subst (λ (n : ℕ). outrun l (asked_place q) n ≡ false) (back.is ∙ place)
                 (subst (λ (r : CoapRequest). outrun l (asked_place r) (ask_behind l is.opening) ≡ false) same.0
                 (behind-unoutrun l is.opening b reads.legal shared.opened fresh));
-            either = inl (_, entry-in c.number _ stands, refl);
+            either = inl (_, entry-in t S kept c.number _ stands, refl);
           }
       by (inr is) =
           let b : Begun = is.carries.exchange in
@@ -533,7 +289,7 @@ module _ (t : ℕ) (S : State) (kept : Kept S) where
                 number = ask.old;
                 came = c.came;
                 rules = c.rules;
-                stands = subst (λ (a : Ask). IsEntry S.entries c.number b.since (Carries ask.old Ground (Asked ask.conn a))) same.1 (entry-in c.number _ stands);
+                stands = subst (λ (a : Ask). IsEntry S.entries c.number b.since (Carries ask.old Ground (Asked ask.conn a))) same.1 (entry-in t S kept c.number _ stands);
               },
               b,
               subst (λ (n : ℕ). carried l n ≡ Some b) place is.carries.asked,

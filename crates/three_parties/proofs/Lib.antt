@@ -23,6 +23,8 @@ pub mod Parts
 pub mod Executing
 pub mod Timing
 pub mod Copies
+pub mod Listed
+pub mod Grounds
 pub mod Carrying
 pub mod Outrunning
 pub mod Linked
