@@ -6,8 +6,9 @@ pub mod Forgetting
 pub mod Originating
 pub mod Replying
 pub mod Posting
+pub mod Standing
 pub mod Showing
 pub mod Pieces
 pub mod Wholes
 pub mod Ordering
-pub mod Quiet
+pub mod Told

@@ -1,4 +1,4 @@
--- A reply to a GET shows what the writes did that were answered before its message was sent.
+-- What is heard for a GET shows what the writes did that were answered before its message was sent.
 use Rattle.std.proofs.Common.{◌≡◌, ◌≢◌, ℕ, ◌/◌, ◌<◌, ◌≤◌, inl, inr, List, [], Option, Some, refl, arith}
 use Rattle.std.specs.List.{Contains}
 use Rattle.uri_map.specs.declared.peer.Peer.{Peer}
@@ -10,9 +10,8 @@ use Rattle.blockwise.specs.Joins.{DownloadsJoin}
 use Rattle.ask_model.specs.Requests.{CoapRequest}
 use Rattle.journal_book.specs.Entries.{Live, Answers, Written}
 use Rattle.history_laws.specs.Justified.{Stands}
-use Rattle.history_laws.specs.Progress.{first_point}
 use Rattle.history_laws.specs.Responses.{Response, whole_of}
-use Rattle.history_claims.specs.Headline.{AreHeardFor, IsEntry, IsFirstSending, IsHeardFor, IsSentFor, RestsOn}
+use Rattle.history_claims.specs.Headline.{IsEntry, IsFirstSending, IsSentFor, RestsOn}
 use Rattle.demo_origin.specs.Calls.{Call}
 use Rattle.demo_origin.specs.Origins.{fresh}
 use Rattle.demo_origin.specs.Values.{Relation}
@@ -20,7 +19,7 @@ use Rattle.demo_origin.specs.declared.state.Held.{Held}
 use Rattle.story_laws.specs.Networks.{Networks, AreGiven}
 use Rattle.story_laws.specs.Orders.{IsOrdered, AreDoneBefore, WholesShow, WritesShow}
 use Rattle.story_laws.specs.Posts.{IsDoneOnce}
-use Rattle.story_laws.specs.Reads.{AreNew, AskQuietly, ShowsHeld, ShowsWhole}
+use Rattle.story_laws.specs.Reads.{AreNew, AreToldFor, IsToldFor, ShowsHeld, ShowsWhole}
 use Rattle.story_laws.proofs.Posting.{first-sent, last, entry, executed, done-by}
 use Rattle.story_laws.proofs.Sending.{sent-after}
 use Rattle.story_laws.proofs.Showing.{replies-show}
@@ -40,19 +39,21 @@ module _ (R : Relation) (h : List Written) (device proxy : Peer) (block : ℕ) (
     pub sent-first : calls_before i ≤ shown.place
     sent-first =
         let first = first-sent s.reading h i t p m s.legal s.entries_are f in
-        elim (order.brought shown.place shown.moment shown.datagram shown.taken shown.call shown.stands shown.comes) [
+        let asked = shown.asked in
+        elim (order.brought asked.place shown.moment asked.datagram asked.taken asked.call asked.stands asked.comes) [
           | inl came ↦
               let after = sent-after s.reading t first.0 i came.0.number came.0.moment p device m s.legal first.1 (record {
-                bytes = shown.datagram;
+                bytes = asked.datagram;
                 timeout = came.0.timeout;
                 note = came.0.note;
                 stands = came.0.stands;
-                spelled = shown.spelled;
+                spelled = asked.spelled;
               }) in
               let rise = order.rises i came.0.number after in
               let late = came.1 in
-              omega (arith, rise, late)
-          | inr other ↦ absurd (other t first.0 i p m m first.1 (message_again m shown.datagram shown.spelled) refl)
+              let then = shown.later in
+              omega (arith, rise, late, then)
+          | inr other ↦ absurd (other t first.0 i p m m first.1 (message_again m asked.datagram asked.spelled) refl)
         ]
 
     -- A write was done by then whose replies were heard before.
@@ -80,24 +81,24 @@ module _ (R : Relation) (h : List Written) (device proxy : Peer) (block : ℕ) (
         done-since i x.moment q.peer m state x.first shown n t c o js r changes to class
         (λ j has. let below = r.before j has in omega (arith, below, le, after))
 
-    pub shows-both : (b : Option Block) (j : ℕ) (m : Content) (x : IsHeardFor h k q b j m) → q.method ≡ 1 → q.peer ≡ device
-        → m.code ≡ 69 → values 23 m.options ≡ [] → values 6 x.sent.options ≡ []
+    pub shows-both : (j : ℕ) (m : Content) (x : IsToldFor h k q j m) → q.method ≡ 1 → q.peer ≡ device
+        → m.code ≡ 69 → values 23 m.options ≡ []
         → (shown : ShowsHeld x.sent_for.moment proxy (fresh block resources) cs x.sent m.payload) × AreDoneBefore h device proxy cs k shown.place
-    shows-both b j m x get to content whole quiet =
-        let shown = replies-show R h device proxy block resources cs k q b j m s net given x get to content whole quiet in
-        (shown, done-first b x.sending x.sent m.payload x.sent_for shown)
+    shows-both j m x get to content whole =
+        let shown = replies-show R h device proxy block resources cs k q j m s net given x get to content whole in
+        (shown, done-first x.block x.sending x.sent m.payload x.sent_for shown)
 
-    pub whole-both : DownloadsJoin → AreNew resources → (js : List ℕ) (ms : List Content) (w : Response) → AreHeardFor h k q (first_point q) js ms
-        → whole_of q ms ≡ Some w → q.method ≡ 1 → q.peer ≡ device → w.code ≡ 69 → AskQuietly h q
+    pub whole-both : DownloadsJoin → AreNew resources → (js : List ℕ) (ms : List Content) (w : Response) → AreToldFor h k q js ms
+        → whole_of q ms ≡ Some w → q.method ≡ 1 → q.peer ≡ device → w.code ≡ 69
         → (shown : ShowsWhole h k q proxy (fresh block resources) cs w.body) × AreDoneBefore h device proxy cs k shown.shown.place
-    whole-both join new js ms w heard whole get to content quiet =
-        let x = whole-shown R h device proxy block resources cs s net given new q get to quiet join k js ms w heard whole content in
+    whole-both join new js ms w told whole get to content =
+        let x = whole-shown R h device proxy block resources cs s net given new q get to join k js ms w told whole content in
         (x, done-first x.block x.sending x.message w.body x.sent x.shown)
 
 pub writes-show : (R : Relation) → WritesShow R
-writes-show R h device proxy block resources cs calls_before k q b j m s net order x get to content whole quiet =
-    shows-both R h device proxy block resources cs calls_before s net order k q b j m x get to content whole quiet
+writes-show R h device proxy block resources cs calls_before k q j m s net order x get to content whole =
+    shows-both R h device proxy block resources cs calls_before s net order k q j m x get to content whole
 
 pub wholes-show : (R : Relation) → DownloadsJoin → WholesShow R
-wholes-show R join h device proxy block resources cs calls_before k q js ms w s net order new heard whole get to content quiet =
-    whole-both R h device proxy block resources cs calls_before s net order k q join new js ms w heard whole get to content quiet
+wholes-show R join h device proxy block resources cs calls_before k q js ms w s net order new told whole get to content =
+    whole-both R h device proxy block resources cs calls_before s net order k q join new js ms w told whole get to content

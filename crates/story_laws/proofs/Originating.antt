@@ -46,7 +46,7 @@ at-take [] (suc n) a c e = absurd (none-some c e)
 at-take (x ∷ cs) (suc n) zero c e = e
 at-take (x ∷ cs) (suc n) (suc a) c e = at-take cs n a c e
 
-below-take : (cs : List Call) (n a : ℕ) (c : Call) → slice_get (take n cs) a ≡ Some c → a < n
+pub below-take : (cs : List Call) (n a : ℕ) (c : Call) → slice_get (take n cs) a ≡ Some c → a < n
 below-take cs zero a c e = absurd (none-some c e)
 below-take [] (suc n) a c e = absurd (none-some c e)
 below-take (x ∷ cs) (suc n) zero c e = omega arith

@@ -1,5 +1,5 @@
 -- A state that comes in pieces is one that the resource held.
-use Rattle.std.proofs.Common.{◌≡◌, ℕ, zero, suc, ◌+◌, ◌<◌, ◌≤◌, ◌^◌, Bool, true, false, cond, eqb, ◌&&◌, inl, inr, List, [], ◌∷◌, ◌++◌, append-nil, length, Option, Some, None, is_some, option_map, refl, sym, ap, subst, ◌∙◌, arith}
+use Rattle.std.proofs.Common.{◌≡◌, ℕ, zero, suc, ◌+◌, ◌<◌, ◌≤◌, ◌^◌, Bool, true, false, cond, eqb, ◌&&◌, inl, inr, List, [], ◌∷◌, ◌++◌, append-nil, length, take, Option, Some, None, is_some, option_map, refl, sym, ap, subst, ◌∙◌, arith}
 use Rattle.std.specs.Prelude.{slice_get, ⊤}
 use Rattle.std.specs.Int.{w64, to_be_bytes}
 use Rattle.std.specs.List.{AllByRecursion, list_all}
@@ -21,25 +21,24 @@ use Rattle.blockwise.specs.declared.representation.Representation.{Representatio
 use Rattle.ask_model.specs.Requests.{CoapRequest, Manner, Plainly, Observing, Validating, asking, block_option, block_value, request_options, uint_bytes}
 use Rattle.journal_book.specs.Entries.{Written}
 use Rattle.history_laws.specs.Justified.{Stands}
-use Rattle.history_laws.specs.Progress.{Point, block_for, first_point, point_after}
 use Rattle.history_laws.specs.Responses.{Response, is_tellable, joined, last_of, whole_fetched, whole_given, whole_of}
 use Rattle.history_laws.proofs.CallerLemmas.{none-some, some-is}
-use Rattle.history_claims.specs.Headline.{AreHeardFor, IsHeardFor, IsSentFor}
+use Rattle.history_claims.specs.Headline.{IsSentFor}
 use Rattle.demo_origin.specs.Answers.{shown_part}
-use Rattle.demo_origin.specs.Calls.{Call, Follow}
+use Rattle.demo_origin.specs.Calls.{Call, Follow, left_by}
 use Rattle.demo_origin.specs.Origins.{fresh}
 use Rattle.demo_origin.specs.Requests.{IsAt}
 use Rattle.demo_origin.specs.Values.{Device, Relation}
 use Rattle.demo_origin.specs.Versions.{IsLater}
 use Rattle.demo_origin.specs.declared.state.Held.{Held}
-use Rattle.demo_origin.proofs.Stating.{states_are_told}
 use Rattle.demo_origin.proofs.Versioning.{as_many, same_version, versions_tell}
-use Rattle.story_laws.specs.Networks.{AreGiven, AreTimed, Networks}
-use Rattle.story_laws.specs.Reads.{AreNew, AskQuietly, ShowsHeld, ShowsWhole}
-use Rattle.story_laws.proofs.Calling.{HearsAt, runs-to}
+use Rattle.story_laws.specs.Networks.{AreGiven, Networks}
+use Rattle.story_laws.specs.Reads.{AreNew, AreToldFor, IsToldFor, ShowsHeld, ShowsWhole}
+use Rattle.story_laws.proofs.Originating.{follow-take}
 use Rattle.story_laws.proofs.Pacing.{got-all, got-below}
-use Rattle.story_laws.proofs.Pieces.{ArePartsOf, EndsBy, block-named, part-ends, parts-join, tag-named}
-use Rattle.story_laws.proofs.Showing.{ShowsPart, held-shown, replies-part, same-place}
+use Rattle.story_laws.proofs.Pieces.{ArePartsOf, EndsBy, block-named, parts-join, tag-named}
+use Rattle.story_laws.proofs.Showing.{ShowsPart, held-shown, same-place, told-shows}
+use Rattle.story_laws.proofs.Standing.{events-of, stands-then}
 
 -- ---- all messages for a request ask for one path
 
@@ -107,56 +106,57 @@ got-in (x ∷ xs) (suc n) lt = got-in xs n (omega (arith, lt))
 -- ---- all pieces show one state
 
 -- the message shows a piece of what the resource of a path held, as it is known of it
-pub record IsShown (proxy : Peer) (cs : List Call) (path : List (List ℕ)) (P : ℕ → Content → ℕ → Type 0) (m : Content) : Type 0 where
+pub record IsShown (proxy : Peer) (s : Device) (cs : List Call) (path : List (List ℕ)) (P : ℕ → Content → ℕ → Type 0) (m : Content) : Type 0 where
   pub since : ℕ
   pub sent : Content
-  pub part : ShowsPart since proxy cs sent m
+  pub part : ShowsPart since proxy s cs sent m
   pub asks : values 11 sent.options ≡ path
   pub known : P since sent part.place
 
 -- So does each 2.05 of these.
-abbrev pub AreShown : Peer → List Call → List (List ℕ) → (ℕ → Content → ℕ → Type 0) → List Content → Type 0
-AreShown proxy cs path P ms = AllByRecursion (λ (m : Content). m.code ≡ 69 → IsShown proxy cs path P m) ms
+abbrev pub AreShown : Peer → Device → List Call → List (List ℕ) → (ℕ → Content → ℕ → Type 0) → List Content → Type 0
+AreShown proxy s cs path P ms = AllByRecursion (λ (m : Content). m.code ≡ 69 → IsShown proxy s cs path P m) ms
 
 -- and this is what it held
-pub record ShowsBody (proxy : Peer) (cs : List Call) (P : ℕ → Content → ℕ → Type 0) (state : List ℕ) : Type 0 where
+pub record ShowsBody (proxy : Peer) (s : Device) (cs : List Call) (P : ℕ → Content → ℕ → Type 0) (state : List ℕ) : Type 0 where
   pub since : ℕ
   pub sent : Content
   pub message : Content
-  pub part : ShowsPart since proxy cs sent message
+  pub part : ShowsPart since proxy s cs sent message
   pub known : P since sent part.place
   pub is : state ≡ part.held.state
 
 module _ (R : Relation) (proxy : Peer) (block : ℕ) (resources : List Held) (cs : List Call) (follow : Follow R (fresh block resources) cs)
-    (timed : AreTimed 0 cs) (new : AreNew resources) where
+    (new : AreNew resources) where
   abbrev first : Device
   first = fresh block resources
 
   -- an ETag of eight bytes can say each version
-  small : (since : ℕ) (m answer : Content) (p : ShowsPart since proxy cs m answer) → p.held.version < 2 ^ 64
+  small : (since : ℕ) (m answer : Content) (p : ShowsPart since proxy first cs m answer) → p.held.version < 2 ^ 64
   small since m answer p =
-      let at : HearsAt p.moment p.call = record { peer = proxy; datagram = p.datagram; taken = p.taken; comes = p.comes } in
-      let ran = runs-to R cs first 0 p.moment p.place p.call follow timed p.stands at in
-      let many = as_many R ran.events first p.call.before ran.runs in
-      let below = got-below p.call.before.resources p.number p.held p.there.stands in
+      let now : Device = left_by first (take p.place cs) in
+      let ran = events-of R (take p.place cs) first (follow-take R cs first p.place follow) in
+      let many = as_many R ran.events first now ran.runs in
+      let below = got-below now.resources p.number p.held p.there.stands in
       let old = got-in resources p.number (omega (arith, many, below)) in
       let zero-version = got-all (λ (x : Held). x.version ≡ 0) resources p.number old.0 new old.1 in
-      let later = versions_tell R ran.events first p.call.before p.number old.0 ran.runs old.1 in
+      let later = versions_tell R ran.events first now p.number old.0 ran.runs old.1 in
       subst (λ (x : Held). x.version < 2 ^ 64) (some-is later.held p.held (sym later.stands ∙ p.there.stands))
       (later.later.eight_bytes (omega (arith, zero-version)))
 
   -- of two with one ETag
-  state-later : (t u : ℕ) (m n answer other : Content) (a : ShowsPart t proxy cs m answer) (b : ShowsPart u proxy cs n other)
+  state-later : (t u : ℕ) (m n answer other : Content) (a : ShowsPart t proxy first cs m answer) (b : ShowsPart u proxy first cs n other)
       → values 11 m.options ≡ values 11 n.options → to_be_bytes w64 a.held.version ≡ to_be_bytes w64 b.held.version
       → a.place ≤ b.place → b.held.state ≡ a.held.state
   state-later t u m n answer other a b path tag le =
-      let it = states_are_told R (fresh block resources) cs a.place b.place a.call b.call (values 11 m.options) a.number a.held follow a.stands b.stands le a.there in
-      let there = subst (λ (vs : List (List ℕ)). IsAt vs b.call.before.resources b.number b.held) (sym path) b.there in
-      let same = same-place (values 11 m.options) b.call.before.resources a.number b.number it.held b.held it.stands there in
+      let now : Device = left_by first (take b.place cs) in
+      let it = stands-then R cs first a.place b.place (values 11 m.options) a.number a.held follow le a.there in
+      let there = subst (λ (vs : List (List ℕ)). IsAt vs now.resources b.number b.held) (sym path) b.there in
+      let same = same-place (values 11 m.options) now.resources a.number b.number it.held b.held it.stands there in
       let later : IsLater a.held b.held = subst (λ (x : Held). IsLater a.held x) same it.later in
       later.state (same_version b.held.version a.held.version (small u n other b) (small t m answer a) (sym tag))
 
-  same-state : (t u : ℕ) (m n answer other : Content) (a : ShowsPart t proxy cs m answer) (b : ShowsPart u proxy cs n other)
+  same-state : (t u : ℕ) (m n answer other : Content) (a : ShowsPart t proxy first cs m answer) (b : ShowsPart u proxy first cs n other)
       → values 11 m.options ≡ values 11 n.options → to_be_bytes w64 a.held.version ≡ to_be_bytes w64 b.held.version
       → b.held.state ≡ a.held.state
   same-state t u m n answer other a b path tag =
@@ -166,8 +166,8 @@ module _ (R : Relation) (proxy : Peer) (block : ℕ) (resources : List Held) (cs
       ]
 
   module _ (path : List (List ℕ)) (P : ℕ → Content → ℕ → Type 0) where
-    module _ (t : ℕ) (n other : Content) (a : ShowsPart t proxy cs n other) (asks : values 11 n.options ≡ path) where
-      all-parts : (ms : List Content) → AreShown proxy cs path P ms → AllByRecursion (IsAlike (to_be_bytes w64 a.held.version)) ms
+    module _ (t : ℕ) (n other : Content) (a : ShowsPart t proxy first cs n other) (asks : values 11 n.options ≡ path) where
+      all-parts : (ms : List Content) → AreShown proxy first cs path P ms → AllByRecursion (IsAlike (to_be_bytes w64 a.held.version)) ms
           → ArePartsOf a.held.state ms
       all-parts [] shown alike = tt
       all-parts (m ∷ ms) shown alike =
@@ -180,16 +180,15 @@ module _ (R : Relation) (proxy : Peer) (block : ℕ) (resources : List Held) (cs
               part = p.part;
               named = block-named p.held p.observed p.part m p.describes alike.0.forwarded;
               shown = p.shown ∙ ap (shown_part p.part) same;
-              ends = subst (λ (state : List ℕ). EndsBy (length state) p.part) same
-                  (part-ends (values 23 x.sent.options) p.call.before.block (length p.held.state) p.part p.chosen);
+              ends = subst (λ (state : List ℕ). EndsBy (length state) p.part) same p.ends;
             },
             all-parts ms shown.1 alike.1,
           )
 
     -- ---- the whole
 
-    pub body-shown : DownloadsJoin → (q : CoapRequest) → q.method ≡ 1 → (ms : List Content) (w : Response) → AreShown proxy cs path P ms
-        → whole_of q ms ≡ Some w → w.code ≡ 69 → ShowsBody proxy cs P w.body
+    pub body-shown : DownloadsJoin → (q : CoapRequest) → q.method ≡ 1 → (ms : List Content) (w : Response) → AreShown proxy first cs path P ms
+        → whole_of q ms ≡ Some w → w.code ≡ 69 → ShowsBody proxy first cs P w.body
     body-shown join q get [] w shown whole content = absurd (none-some w whole)
     body-shown join q get (m ∷ ms) w shown whole content = by ((list_all is_tellable (m ∷ ms)) && (is_some (given_by_pieces nothing (m ∷ ms)))) refl (fetched (eqb q.method 1) refl whole)
       where
@@ -205,7 +204,7 @@ module _ (R : Relation) (proxy : Peer) (block : ℕ) (resources : List Held) (cs
         joins (Some body) e f = (body, (join m ms body).0 e)
 
         shows : list_all is_tellable (m ∷ ms) ≡ true → AreFollowing (representation_of m) 0 6 (m ∷ ms) → joined m ms ≡ w
-            → ShowsBody proxy cs P w.body
+            → ShowsBody proxy first cs P w.body
         shows tell following is =
             let of = representation_of m in
             let code : of.code ≡ 69 =
@@ -225,59 +224,50 @@ module _ (R : Relation) (proxy : Peer) (block : ℕ) (resources : List Held) (cs
             }
 
         by : (b : Bool) → ((list_all is_tellable (m ∷ ms)) && (is_some (given_by_pieces nothing (m ∷ ms)))) ≡ b
-            → cond b (Some (joined m ms)) None ≡ Some w → ShowsBody proxy cs P w.body
+            → cond b (Some (joined m ms)) None ≡ Some w → ShowsBody proxy first cs P w.body
         by false e f = absurd (none-some w f)
         by true e f =
             let both = and_parts (list_all is_tellable (m ∷ ms)) (is_some (given_by_pieces nothing (m ∷ ms))) e in
             let all = joins (given_by_pieces nothing (m ∷ ms)) refl both.1 in
             shows both.0 all.1.following (some-is (joined m ms) w f)
 
--- ---- the replies of one journal
+-- ---- what was heard in one journal
 
 module _ (R : Relation) (h : List Written) (device proxy : Peer) (block : ℕ) (resources : List Held) (cs : List Call)
     (s : Stands h) (net : Networks R s.reading device proxy (fresh block resources) cs)
     (given : AreGiven s.reading device proxy (fresh block resources) cs) (new : AreNew resources)
-    (q : CoapRequest) (get : q.method ≡ 1) (to : q.peer ≡ device) (quiet : AskQuietly h q) where
-  asks-path : (k j : ℕ) (b : Option Block) (m : Content) (x : IsHeardFor h k q b j m) → values 11 x.sent.options ≡ values 11 (request_options q)
-  asks-path k j b m x =
-      ap (λ (c : Content). values 11 c.options) x.sent_for.asks.1 ∙ path-of x.sent_for.asks.0 q b x.sent.mid x.sent.token
+    (q : CoapRequest) (get : q.method ≡ 1) (to : q.peer ≡ device) where
+  asks-path : (k j : ℕ) (m : Content) (x : IsToldFor h k q j m) → values 11 x.sent.options ≡ values 11 (request_options q)
+  asks-path k j m x =
+      ap (λ (c : Content). values 11 c.options) x.sent_for.asks.1 ∙ path-of x.sent_for.asks.0 q x.block x.sent.mid x.sent.token
 
   -- a message that was sent for it, after this entry
   abbrev IsSentSince : ℕ → ℕ → Content → ℕ → Type 0
   IsSentSince k t m place = (b : Option Block) × (i : ℕ) × (x : IsSentFor h k q b i m) × (x.moment ≡ t)
 
-  sent-since : (k o : ℕ) (b : Option Block) (i : ℕ) (m : Content) → k ≤ o → (x : IsSentFor h o q b i m)
-      → (y : IsSentFor h k q b i m) × (y.moment ≡ x.moment)
-  sent-since k o b i m le x =
-      let after = x.after in
-      (record { after = omega (arith, le, after); moment = x.moment; first = x.first; asks = x.asks; issued = x.issued }, refl)
-
-  all-shown : (k o : ℕ) → k ≤ o → (point : Point) (js : List ℕ) (ms : List Content) → AreHeardFor h o q point js ms
-      → AreShown proxy cs (values 11 (request_options q)) (IsSentSince k) ms
-  all-shown k o le point [] [] heard = tt
-  all-shown k o le point [] (m ∷ ms) heard = absurd heard
-  all-shown k o le point (j ∷ js) [] heard = absurd heard
-  all-shown k o le point (j ∷ js) (m ∷ ms) heard =
-      let x = heard.0 in
-      let sent = x.sent_for.after in
-      let came = x.response.after in (
-        λ content. record {
+  all-shown : (k : ℕ) (js : List ℕ) (ms : List Content) → AreToldFor h k q js ms
+      → AreShown proxy (fresh block resources) cs (values 11 (request_options q)) (IsSentSince k) ms
+  all-shown k [] [] told = tt
+  all-shown k [] (m ∷ ms) told = absurd told
+  all-shown k (j ∷ js) [] told = absurd told
+  all-shown k (j ∷ js) (m ∷ ms) told = (
+    λ content.
+        let x = told.0 in record {
           since = x.sent_for.moment;
           sent = x.sent;
-          part = replies-part R h device proxy block resources cs o q (block_for point) j m s net given x get to content
-              (quiet o x.sending (block_for point) x.sent x.sent_for);
-          asks = asks-path o j (block_for point) m x;
-          known = let y = sent-since k o (block_for point) x.sending x.sent le x.sent_for in (block_for point, x.sending, y.0, y.1);
+          part = told-shows R h device proxy block resources cs k q j m s net given x get to content;
+          asks = asks-path k j m x;
+          known = (x.block, x.sending, x.sent_for, refl);
         },
-        all-shown k j (omega (arith, le, sent, came)) (point_after point m) js ms heard.1,
-      )
+    all-shown k js ms told.1,
+  )
 
-  pub whole-shown : DownloadsJoin → (k : ℕ) (js : List ℕ) (ms : List Content) (w : Response) → AreHeardFor h k q (first_point q) js ms
+  pub whole-shown : DownloadsJoin → (k : ℕ) (js : List ℕ) (ms : List Content) (w : Response) → AreToldFor h k q js ms
       → whole_of q ms ≡ Some w → w.code ≡ 69 → ShowsWhole h k q proxy (fresh block resources) cs w.body
-  whole-shown join k js ms w heard whole content =
+  whole-shown join k js ms w told whole content =
       let it =
-      body-shown R proxy block resources cs net.follow net.timed new (values 11 (request_options q)) (IsSentSince k) join q get ms w
-      (all-shown k k (omega arith) (first_point q) js ms heard) whole content in
+      body-shown R proxy block resources cs net.follow new (values 11 (request_options q)) (IsSentSince k) join q get ms w
+      (all-shown k js ms told) whole content in
       record {
         block = it.known.0;
         sending = it.known.1;

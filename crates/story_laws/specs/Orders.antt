@@ -1,17 +1,15 @@
--- What a reply to a GET shows of writes that were answered before it was asked for, whatever the
--- network does.
+-- What a reply to a GET, or a notification, shows of writes that were answered before it was asked
+-- for, whatever the network does.
 use Rattle.std.specs.Prelude.{◌≡◌, ◌≢◌, ◌⊎◌, ℕ, ◌/◌, ◌<◌, ◌≤◌, List, [], slice_get, Option, Some}
 use Rattle.coap_codec.specs.Spelling.{Content}
 use Rattle.coap_codec.specs.Values.{values}
-use Rattle.coap_codec.specs.declared.block.Block.{Block}
 use Rattle.uri_map.specs.declared.peer.Peer.{Peer}
 use Rattle.ask_model.specs.Requests.{CoapRequest}
 use Rattle.journal_book.specs.Entries.{Hears, Live, Answers, Written}
 use Rattle.history_laws.specs.Justified.{Stands}
 use Rattle.history_laws.specs.Readings.{Noted, Note, noted, at}
-use Rattle.history_laws.specs.Progress.{first_point}
 use Rattle.history_laws.specs.Responses.{Response, whole_of}
-use Rattle.history_claims.specs.Headline.{AreHeardFor, IsEntry, IsHeardFor, RestsOn}
+use Rattle.history_claims.specs.Headline.{IsEntry, RestsOn}
 use Rattle.demo_origin.specs.Calls.{Call}
 use Rattle.demo_origin.specs.Once.{heard}
 use Rattle.demo_origin.specs.Origins.{fresh}
@@ -20,7 +18,7 @@ use Rattle.demo_origin.specs.declared.execution.Taken.{Taken}
 use Rattle.demo_origin.specs.declared.state.Held.{Held}
 use Rattle.story_laws.specs.Networks.{IsDelivered, IsForeign, IsGiven, Networks}
 use Rattle.story_laws.specs.Posts.{IsDoneOnce}
-use Rattle.story_laws.specs.Reads.{AreNew, AskQuietly, ShowsHeld, ShowsWhole}
+use Rattle.story_laws.specs.Reads.{AreNew, AreToldFor, IsToldFor, ShowsHeld, ShowsWhole}
 
 -- In which order the proxy's entries were made and the device was called: of each entry it is told
 -- how many calls there were before it, and never fewer than before an older one. What the device
@@ -44,21 +42,21 @@ AreDoneBefore h device proxy cs k place =
     → r.request.method ≢ 1 → r.request.peer ≡ device → r.response.code / 32 ≡ 2 → n ≤ k
     → (done : IsDoneOnce h r.opening r.request proxy cs) × (done.place < place)
 
--- The reply to a GET, a 2.05 in one piece which names no block, to a message that was sent after
--- the entry k without Observe, shows what the resource held after all these.
+-- What was heard for a GET under the token of a message that was sent after the entry k, a 2.05 in
+-- one piece which names no block, shows what the resource held after all these.
 abbrev pub WritesShow : Relation → Type 0
 WritesShow R =
     (h : List Written) (device proxy : Peer) (block : ℕ) (resources : List Held) (cs : List Call)
     (calls_before : ℕ → ℕ)
-    (k : ℕ) (q : CoapRequest) (b : Option Block) (j : ℕ) (m : Content) (s : Stands h)
+    (k : ℕ) (q : CoapRequest) (j : ℕ) (m : Content) (s : Stands h)
     → Networks R s.reading device proxy (fresh block resources) cs
     → IsOrdered s.reading device proxy (fresh block resources) cs calls_before
-    → (x : IsHeardFor h k q b j m) → q.method ≡ 1 → q.peer ≡ device
-    → m.code ≡ 69 → values 23 m.options ≡ [] → values 6 x.sent.options ≡ []
+    → (x : IsToldFor h k q j m) → q.method ≡ 1 → q.peer ≡ device
+    → m.code ≡ 69 → values 23 m.options ≡ []
     → (shown : ShowsHeld x.sent_for.moment proxy (fresh block resources) cs x.sent m.payload)
     × AreDoneBefore h device proxy cs k shown.place
 
--- Replies to a GET that are one whole 2.05, in one piece or in several, show one state that the
+-- What was so heard and is one whole 2.05, in one piece or in several, shows one state that the
 -- resource of a new device held, after all these.
 abbrev pub WholesShow : Relation → Type 0
 WholesShow R =
@@ -67,7 +65,7 @@ WholesShow R =
     (k : ℕ) (q : CoapRequest) (js : List ℕ) (ms : List Content) (w : Response) (s : Stands h)
     → Networks R s.reading device proxy (fresh block resources) cs
     → IsOrdered s.reading device proxy (fresh block resources) cs calls_before → AreNew resources
-    → AreHeardFor h k q (first_point q) js ms → whole_of q ms ≡ Some w → q.method ≡ 1
-    → q.peer ≡ device → w.code ≡ 69 → AskQuietly h q
+    → AreToldFor h k q js ms → whole_of q ms ≡ Some w → q.method ≡ 1
+    → q.peer ≡ device → w.code ≡ 69
     → (shown : ShowsWhole h k q proxy (fresh block resources) cs w.body)
     × AreDoneBefore h device proxy cs k shown.shown.place

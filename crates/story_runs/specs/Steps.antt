@@ -15,7 +15,6 @@ use Rattle.gateway_model.specs.declared.input.Happening.TheVariants as H
 use Rattle.gateway_model.specs.declared.input.Input.{Input}
 use Rattle.media_map.specs.declared.form.Form.{Form}
 use Rattle.three_parties.specs.Flights.{device_at}
-use Rattle.three_parties.specs.Reads.{ObservesNothing}
 use Rattle.three_parties.specs.Scenes.{Scene, TakesTurn}
 use Rattle.three_parties.specs.Stories.{opening}
 use Rattle.three_parties.specs.declared.turn.Turn.TheVariants as T
@@ -32,7 +31,7 @@ pub record AreStoryRules (r : Rules) : Type 0 where
             (codes "s.example.com");
         address = device_at.address;
       } ∷ []
-  pub quiet : ObservesNothing r
+  pub quiet : r.observed ≡ []
   pub routes : r.routes ≡ []
 
 -- What happens to the gateway is what the line says, with the bytes that it gives.

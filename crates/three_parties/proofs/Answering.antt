@@ -9,7 +9,6 @@ use Rattle.ask_model.specs.Views.{Rules}
 use Rattle.journal_book.specs.Entries.{Written}
 use Rattle.resp_cache.specs.Stored.{Stored}
 use Rattle.history_laws.specs.Justified.{Stands}
-use Rattle.history_laws.specs.Progress.{block_for, first_point}
 use Rattle.history_claims.specs.Stored.{WasCarried, WasHeardHere, WasWhole}
 use Rattle.demo_origin.specs.Answers.{shown_part}
 use Rattle.demo_origin.specs.Origins.{fresh}
@@ -17,12 +16,12 @@ use Rattle.demo_origin.specs.Values.{Device, Relation}
 use Rattle.demo_origin.specs.declared.state.Held.{Held}
 use Rattle.story_laws.specs.Lateness.{ArePunctual}
 use Rattle.story_laws.specs.Orders.{WritesShow as Law}
-use Rattle.story_laws.proofs.Quiet.{NoneObserved, heard-plainly}
 use Rattle.story_laws.proofs.Showing.{described-whole}
+use Rattle.story_laws.proofs.Told.{kept-told, rests-told}
 use Rattle.story_laws.proofs.Wholes.{AreShown}
 use Rattle.gateway_model.specs.Emissions.{Emission}
 use Rattle.three_parties.specs.Flights.{Going, device_at, proxy_at}
-use Rattle.three_parties.specs.Reads.{EachAfter, GetsShow, GetsShowInTime, KeptShow, ObservesNothing, RenewedShow, ShowsCarried, ShowsFirst, ShowsHeld, journals}
+use Rattle.three_parties.specs.Reads.{EachAfter, GetsShow, GetsShowInTime, KeptShow, RenewedShow, ShowsCarried, ShowsFirst, ShowsHeld, journals}
 use Rattle.three_parties.specs.Scenes.{Scene}
 use Rattle.three_parties.specs.Stories.{IsStory}
 use Rattle.three_parties.specs.declared.story.Execution.{Execution}
@@ -32,19 +31,19 @@ use Rattle.three_parties.proofs.Chapters.{IsPast}
 use Rattle.three_parties.proofs.Inherited.{IsInherited}
 use Rattle.three_parties.proofs.Knowing.{Known}
 use Rattle.three_parties.proofs.Pages.{IsEarlier}
-use Rattle.three_parties.proofs.Reading.{GoesBack, heard-kept, live-back, one-heard, other-gets, renewed-back, shows, stored-back}
+use Rattle.three_parties.proofs.Reading.{GoesBack, live-back, one-told, other-gets, renewed-back, shows, stored-back}
 use Rattle.three_parties.proofs.Walking.{at_last, each-after, known_last}
 
 module _ (R : Relation) (law : Law R) (block : ℕ) (resources : List Held) (s : Scene) (known : Known R (fresh block resources) s) (top : ℕ)
     (before : List (List Written)) (h : List Written) (page : IsPast (fresh block resources) s.flights known.tale.calls top h)
-    (punctual : ArePunctual page.stands.reading) (none : NoneObserved h)
+    (punctual : ArePunctual page.stands.reading)
     (earlier : AllByRecursion (IsEarlier R (fresh block resources) s known top page.begun) before)
     (inherited : IsInherited R block resources s known top before h) where
   gets-show : GetsShow before resources h s.flights s.taken
   gets-show n t c k js m answered r one get to content whole =
-      let x = one-heard h r.opening r.request (first_point r.request) js r.messages m one (heard-plainly h none n c k js r) in
-      shows R block resources s known top h page punctual before earlier law none k r.opening r.request r.request (block_for (first_point r.request)) x.0 m x.1 get
-      to to content whole (live-back h n c k js r)
+      let x = one-told h r.opening r.request js r.messages m one (rests-told h n c k js r) in
+      shows R block resources s known top h page punctual before earlier law k r.opening r.request r.request x.0 m x.1 get to to content whole
+      (live-back h n c k js r)
 
   -- what was heard first of what is stored: here,
   here-shows : (k : ℕ) (q : CoapRequest) (first : Stored) (w : WasWhole h q first) (m : Content)
@@ -52,9 +51,9 @@ module _ (R : Relation) (law : Law R) (block : ℕ) (resources : List Held) (s :
       → m.code ≡ 69 → values 23 m.options ≡ [] → GoesBack h k first.opening q
       → ShowsHeld before h k first.opening q w.other resources s.flights s.taken m.payload
   here-shows k q first w m here one to content whole back =
-      let heard = heard-kept h none q first w here in
-      let x = one-heard h first.opening w.other (first_point w.other) first.list w.messages m one heard in
-      shows R block resources s known top h page punctual before earlier law none k first.opening q w.other (block_for (first_point w.other)) x.0 m x.1
+      let told = kept-told h first.opening w.other first.list w.messages first.heard here in
+      let x = one-told h first.opening w.other first.list w.messages m one told in
+      shows R block resources s known top h page punctual before earlier law k first.opening q w.other x.0 m x.1
       (other-gets h q first w) (sym w.same.1 ∙ to) to content whole back
 
   -- or before
@@ -65,7 +64,7 @@ module _ (R : Relation) (law : Law R) (block : ℕ) (resources : List Held) (s :
   copies-show k q first w m copied one to content whole back =
       let all = all-carried R block resources s known top before h page punctual earlier inherited first.opening w.other first.list w.messages copied.asked
       (other-gets h q first w) (sym w.same.1 ∙ to) copied.heard in
-      let x = (subst (AreShown proxy_at known.tale.calls (values 11 (request_options w.other))
+      let x = (subst (AreShown proxy_at (fresh block resources) known.tale.calls (values 11 (request_options w.other))
       (IsKnownBefore R block resources s known top before h page punctual earlier inherited w.other)) one all).0 content in
       let p = x.part in
       let alone = described-whole p.held p.observed p.part m.options p.describes whole in
@@ -99,9 +98,9 @@ ReadsOne resources flights taken before h =
 pub reads-of : (R : Relation) → Law R → (holds : Form → Form → List ℕ → List ℕ → Type 0) (takes : Form → Form → List ℕ → Type 0)
     (rules : Rules) (first : Device) (turns : List Turn) (out : List Emission) (flights : List Going) (h : List Written) (last : Device)
     (taken : List Execution) → IsStory holds takes R rules first turns out flights h last taken → Stands h
-    → (block : ℕ) (resources : List Held) → first ≡ fresh block resources → ObservesNothing rules
+    → (block : ℕ) (resources : List Held) → first ≡ fresh block resources
     → GetsShowInTime turns resources out h flights taken
-reads-of R law holds takes rules first turns out flights h last taken story stands block resources e nothing looks =
+reads-of R law holds takes rules first turns out flights h last taken story stands block resources e looks =
     subst (λ (w : List Written). Stands w → EachAfter (ReadsOne resources flights taken) [] (journals out w)) (sym new.journal) shown stands
   where
     new : IsStory holds takes R rules (fresh block resources) turns out flights h last taken
@@ -109,7 +108,7 @@ reads-of R law holds takes rules first turns out flights h last taken story stan
 
     shown : Stands new.world.core.state.entries → EachAfter (ReadsOne resources flights taken) [] (journals out new.world.core.state.entries)
     shown stands =
-        each-after R holds takes rules block resources turns out flights h last taken new nothing (ReadsOne resources flights taken) stands looks
-        (λ top before w page punctual none earlier inherited.
-        all-show R law block resources (at_last R holds takes rules block resources turns out flights h last taken new nothing)
-        (known_last R holds takes rules block resources turns out flights h last taken new nothing) top before w page punctual none earlier inherited)
+        each-after R holds takes rules block resources turns out flights h last taken new (ReadsOne resources flights taken) stands looks
+        (λ top before w page punctual earlier inherited.
+        all-show R law block resources (at_last R holds takes rules block resources turns out flights h last taken new)
+        (known_last R holds takes rules block resources turns out flights h last taken new) top before w page punctual earlier inherited)

@@ -34,7 +34,7 @@ use Rattle.three_parties.proofs.Knowing.{Known}
 use Rattle.three_parties.proofs.Lists.{all-map}
 use Rattle.three_parties.proofs.Pages.{IsEarlier}
 use Rattle.three_parties.proofs.Paths.{same-path}
-use Rattle.three_parties.proofs.Reading.{GoesBack, held-at}
+use Rattle.three_parties.proofs.Reading.{GoesBack, held-at, not-before, when}
 
 -- a copy of a message and of its reply
 reply-copied : (h : List Written) (o : ℕ) (r : CoapRequest) (j : ℕ) (m : Content) (device : Peer) → r.peer ≡ device → (x : IsCarriedFor h o r j m)
@@ -97,7 +97,7 @@ module _ (R : Relation) (block : ℕ) (resources : List Held) (s : Scene) (known
 
   -- what was copied shows a piece each, as it is known
   pub all-carried : (o : ℕ) (r : CoapRequest) (js : List ℕ) (ms : List Content) → IsAskCopied h o r → r.method ≡ 1 → r.peer ≡ device_at
-      → AreCarriedFor h o r js ms → AreShown proxy_at calls (values 11 (request_options r)) (IsKnownBefore r) ms
+      → AreCarriedFor h o r js ms → AreShown proxy_at (fresh block resources) calls (values 11 (request_options r)) (IsKnownBefore r) ms
   all-carried o r [] [] asked get to heard = tt
   all-carried o r [] (m ∷ ms) asked get to heard = absurd heard
   all-carried o r (j ∷ js) [] asked get to heard = absurd heard
@@ -125,7 +125,7 @@ module _ (R : Relation) (block : ℕ) (resources : List Held) (s : Scene) (known
   )
 
   -- what a piece that is all shows
-  module _ (t : ℕ) (sent m : Content) (part : ShowsPart t proxy_at calls sent m) (state : List ℕ) (is : state ≡ part.held.state) where
+  module _ (t : ℕ) (sent m : Content) (part : ShowsPart t proxy_at (fresh block resources) calls sent m) (state : List ℕ) (is : state ≡ part.held.state) where
     shown : ShowsSo t proxy_at (fresh block resources) calls sent state
     shown = held-shown R proxy_at block resources calls t sent m state known.tale.follow part is
 
@@ -133,7 +133,7 @@ module _ (R : Relation) (block : ℕ) (resources : List Held) (s : Scene) (known
     unfolding shown
     place-is = held-shown-is R proxy_at block resources calls t sent m state known.tale.follow part is
 
-  pub carried-shown : (k o : ℕ) (q r : CoapRequest) (t : ℕ) (sent m : Content) (part : ShowsPart t proxy_at calls sent m) → IsKnownBefore r t sent part.place
+  pub carried-shown : (k o : ℕ) (q r : CoapRequest) (t : ℕ) (sent m : Content) (part : ShowsPart t proxy_at (fresh block resources) calls sent m) → IsKnownBefore r t sent part.place
       → (state : List ℕ) → state ≡ part.held.state → IsAskCopied h o r → IsSameGet q r → q.peer ≡ device_at → GoesBack h k o q
       → ShowsCarried before h k q r resources s.flights s.taken state
   carried-shown k o q r t sent m part known_so state is asked same to back = record {
@@ -148,8 +148,8 @@ module _ (R : Relation) (block : ℕ) (resources : List Held) (s : Scene) (known
       first = subst (λ (p : Peer). IsFirstSending known_so.journal known_so.number t p sent) (sym to ∙ same.1) known_so.first;
     };
     shows = record {
-      moment = (shown t sent m part state is).moment;
-      not_before = (shown t sent m part state is).not_before;
+      moment = when R block resources s known top h page punctual before earlier t sent state (shown t sent m part state is);
+      not_before = not-before R block resources s known top h page punctual before earlier t sent state (shown t sent m part state is);
       count = count (shown t sent m part state is).place;
       held = held-at R block resources s known top h page punctual before earlier t sent state (shown t sent m part state is);
       written = λ n u c w js answered y changes peer path class lt.

@@ -25,7 +25,6 @@ use Rattle.story_laws.specs.Lateness.{ArePunctual}
 use Rattle.story_laws.specs.Reads.{ShowsHeld as ShowsSo}
 use Rattle.story_laws.proofs.Ordering.{done-since, sent-first}
 use Rattle.story_laws.proofs.Posting.{noted-at}
-use Rattle.story_laws.proofs.Quiet.{NoneObserved, first-quietly}
 use Rattle.story_laws.proofs.Showing.{ShowsPart, answer-part, held-shown, held-shown-is}
 use Rattle.three_parties.specs.Flights.{device_at, proxy_at}
 use Rattle.three_parties.specs.Reads.{AreAllDone, AreDone}
@@ -35,8 +34,7 @@ use Rattle.three_parties.proofs.Chapters.{IsPast}
 use Rattle.three_parties.proofs.Executing.{Book, book-of, calls-least, calls_before, done-at, given, networks, ordered}
 use Rattle.three_parties.proofs.Knowing.{Known}
 use Rattle.three_parties.proofs.Linked.{Begins}
-use Rattle.three_parties.proofs.Lists.{all-joined, got-both}
-use Rattle.three_parties.proofs.Mapped.{all-at}
+use Rattle.three_parties.proofs.Lists.{all-at, all-joined, got-both}
 use Rattle.three_parties.proofs.Outrunning.{EndedWrite, ended-early, never-ended, write-ended}
 use Rattle.three_parties.proofs.Pages.{IsEarlier}
 use Rattle.three_parties.proofs.Reading.{all-earlier}
@@ -62,7 +60,7 @@ module _ (R : Relation) (block : ℕ) (resources : List Held) (s : Scene) (known
     pub among : Contains before journal
     pub number : ℕ
     pub first : IsFirstSending journal number since device_at sent
-    pub part : ShowsPart since proxy_at calls sent m
+    pub part : ShowsPart since proxy_at first_device calls sent m
     pub done : (o : ℕ) (q : CoapRequest) → IsAskCopied h o q → o < i → q.peer ≡ device_at → AreAllDone before s.flights s.taken q (count part.place)
 
   -- So it is of all that was copied.
@@ -77,7 +75,7 @@ module _ (R : Relation) (block : ℕ) (resources : List Held) (s : Scene) (known
   -- ---- the journal is turned over
 
   module _ (before : List (List Written)) (t : ℕ) (S : State) (kept : Kept S) (page : IsPast first_device s.flights calls top S.entries)
-      (punctual : ArePunctual page.stands.reading) (none : NoneObserved S.entries)
+      (punctual : ArePunctual page.stands.reading)
       (earlier : AllByRecursion (IsEarlier R first_device s known top page.begun) before) (inherited : IsInherited before S.entries) (more : List Written)
       (own : AreOwn more) where
     abbrev g : List Written
@@ -133,11 +131,10 @@ module _ (R : Relation) (block : ℕ) (resources : List Held) (s : Scene) (known
 
     module _ (i j : ℕ) (sent m : Content) (c : IsReplyCopied ws i j device_at sent m) (get : sent.code ≡ 1) (content : m.code ≡ 69)
         (f : IsFirstSending g c.sent_as c.sent_at device_at sent) (x : IsHeard g device_at c.heard_as c.heard_at m) where
-      part : ShowsPart c.sent_at proxy_at calls sent m
+      part : ShowsPart c.sent_at proxy_at first_device calls sent m
       part =
           answer-part R g device_at proxy_at block resources calls device_at c.sent_as c.sent_at c.heard_as c.heard_at sent m page.stands
           (networks R first_device s g book page.stands punctual) (given R first_device s g book page.stands punctual) refl f x c.token get content
-          (first-quietly g none page.stands c.sent_as c.sent_at device_at sent f)
 
       shown : ShowsSo c.sent_at proxy_at first_device calls sent part.held.state
       shown = held-shown R proxy_at block resources calls c.sent_at sent m part.held.state known.tale.follow part refl
@@ -248,16 +245,16 @@ module _ (R : Relation) (block : ℕ) (resources : List Held) (s : Scene) (known
 
   -- What begins with copies of a journal inherits from that, and from those before.
   pub inherits-next : (before : List (List Written)) (g : List Written) (page : IsPast first_device s.flights calls top g) → ArePunctual page.stands.reading
-      → NoneObserved g → AllByRecursion (IsEarlier R first_device s known top page.begun) before → IsInherited before g → (h : List Written) → Begins g h
+      → AllByRecursion (IsEarlier R first_device s known top page.begun) before → IsInherited before g → (h : List Written) → Begins g h
       → IsInherited (before ++ g ∷ []) h
-  inherits-next before g page punctual none earlier inherited h b =
-      subst (λ (h : List Written). IsInherited (before ++ g ∷ []) h) (sym b.whole) (by g b.entries page punctual none earlier inherited)
+  inherits-next before g page punctual earlier inherited h b =
+      subst (λ (h : List Written). IsInherited (before ++ g ∷ []) h) (sym b.whole) (by g b.entries page punctual earlier inherited)
     where
       by : (g : List Written) → b.state.entries ≡ g → (page : IsPast first_device s.flights calls top g) → ArePunctual page.stands.reading
-          → NoneObserved g → AllByRecursion (IsEarlier R first_device s known top page.begun) before → IsInherited before g
+          → AllByRecursion (IsEarlier R first_device s known top page.begun) before → IsInherited before g
           → IsInherited (before ++ g ∷ []) (copied_entries b.moment b.state ++ b.more)
       by g e =
           subst (λ (g : List Written). (page : IsPast first_device s.flights calls top g) → ArePunctual page.stands.reading
-          → NoneObserved g → AllByRecursion (IsEarlier R first_device s known top page.begun) before → IsInherited before g
+          → AllByRecursion (IsEarlier R first_device s known top page.begun) before → IsInherited before g
           → IsInherited (before ++ g ∷ []) (copied_entries b.moment b.state ++ b.more)) e
-          (λ page punctual none earlier inherited. all-inherited before b.moment b.state b.kept page punctual none earlier inherited b.more b.own)
+          (λ page punctual earlier inherited. all-inherited before b.moment b.state b.kept page punctual earlier inherited b.more b.own)

@@ -17,7 +17,6 @@ pub mod Orders
 pub mod Ordering
 pub mod Knowing
 pub mod Telling
-pub mod Mapped
 pub mod Looking
 pub mod Parts
 pub mod Executing

@@ -97,3 +97,8 @@ all-map P Q f (x ∷ xs) h = (f x h.0, all-map P Q f xs h.1)
 pub all-joined : {X : Type 0} (P : X → Type 0) (xs ys : List X) → AllByRecursion P xs → AllByRecursion P ys → AllByRecursion P (xs ++ ys)
 all-joined P [] ys a b = b
 all-joined P (x ∷ xs) ys a b = (a.0, all-joined P xs ys a.1 b)
+
+pub all-at : {X : Type 0} (P : X → Type 0) (xs : List X) → AllByRecursion P xs → (n : ℕ) (x : X) → slice_get xs n ≡ Some x → P x
+all-at P [] h n x e = absurd (none-some x e)
+all-at P (y ∷ ys) h zero x e = subst P (some-is y x e) h.0
+all-at P (y ∷ ys) h (suc n) x e = all-at P ys h.1 n x e

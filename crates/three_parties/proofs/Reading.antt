@@ -1,5 +1,5 @@
 -- An answer to a GET shows what the resource held, and no less than what was confirmed before.
-use Rattle.std.proofs.Common.{◌≡◌, ◌≢◌, ◌⊎◌, ℕ, ◌<◌, ◌≤◌, inl, inr, List, [], ◌∷◌, length, take, Option, Some, sym, ap, subst, ◌∙◌, arith}
+use Rattle.std.proofs.Common.{◌≡◌, ◌≢◌, ◌⊎◌, ℕ, ◌<◌, ◌≤◌, max, inl, inr, List, [], ◌∷◌, length, take, Option, Some, sym, ap, subst, ◌∙◌, arith}
 use Rattle.std.specs.Prelude.{slice_get, unwrap_or}
 use Rattle.std.specs.List.{AllByRecursion}
 use Rattle.std.proofs.lemmas.Bool.Decides.{leb_tells}
@@ -11,9 +11,8 @@ use Rattle.journal_book.specs.Entries.{Live, Fault, Answers, Written}
 use Rattle.ask_model.specs.declared.cause.Cause.TheVariants as C
 use Rattle.resp_cache.specs.Stored.{Stored}
 use Rattle.history_laws.specs.Justified.{Stands}
-use Rattle.history_laws.specs.Progress.{Point, block_for, first_point}
-use Rattle.history_claims.specs.Headline.{AreHeardFor, IsEntry, IsHeardFor, IsJoined, IsSentFor, IsWriteAnswer, RestsOn, IsJoinedTo}
-use Rattle.history_claims.specs.Stored.{RestsOnRenewed, WasHeardHere, WasStored, WasWhole}
+use Rattle.history_claims.specs.Headline.{IsEntry, IsJoined, IsJoinedTo, IsSentFor, IsWriteAnswer, RestsOn}
+use Rattle.history_claims.specs.Stored.{RestsOnRenewed, WasStored, WasWhole}
 use Rattle.demo_origin.specs.Calls.{Call}
 use Rattle.demo_origin.specs.Done.{left_with, told_by, told_in}
 use Rattle.demo_origin.specs.Once.{heard}
@@ -23,10 +22,9 @@ use Rattle.demo_origin.specs.declared.state.Held.{Held}
 use Rattle.story_laws.specs.Lateness.{ArePunctual}
 use Rattle.story_laws.specs.Networks.{moment_after}
 use Rattle.story_laws.specs.Orders.{AreDoneBefore, WritesShow as Law}
-use Rattle.story_laws.specs.Reads.{ShowsHeld as ShowsSo}
+use Rattle.story_laws.specs.Reads.{AreToldFor, IsToldFor, ShowsHeld as ShowsSo}
 use Rattle.story_laws.proofs.Ordering.{sent-first}
 use Rattle.story_laws.proofs.Posting.{last as reply-of, entry as entry-of, executed as executed-of, done-by}
-use Rattle.story_laws.proofs.Quiet.{NoneObserved, none-notified, sent-quietly}
 use Rattle.three_parties.specs.Flights.{device_at, proxy_at}
 use Rattle.three_parties.specs.Reads.{AreAllDone, AreDone, IsHeldAt, ShowsHeld}
 use Rattle.three_parties.specs.Scenes.{Scene}
@@ -38,7 +36,7 @@ use Rattle.three_parties.proofs.Lists.{got-below, got-in}
 use Rattle.three_parties.proofs.Chapters.{IsPast}
 use Rattle.three_parties.proofs.Tales.{IsDoneBy}
 use Rattle.three_parties.proofs.Pages.{IsEarlier, end}
-use Rattle.three_parties.proofs.Timing.{timed-then, heard-at, more-told, no-less-told, told-before}
+use Rattle.three_parties.proofs.Timing.{moment_then, timed-after, timed-then, timed-upto, heard-at, more-told, no-less-told, told-before}
 
 -- ---- a reply
 
@@ -78,30 +76,46 @@ module _ (R : Relation) (block : ℕ) (resources : List Held) (s : Scene) (known
 
   module _ (since : ℕ) (m : Content) (state : List ℕ)
       (shown : ShowsSo since proxy_at (fresh block resources) calls m state) where
-    hears : (u : ℕ) → moment_after u shown.call.event ≡ shown.moment
-    hears = heard-at shown.call shown.moment proxy_at shown.datagram shown.taken shown.comes
+    -- when it held this: when the device heard the message, or at the last call before, if that came later
+    pub when : ℕ
+    when = max shown.moment (moment_then 0 (take shown.place calls))
 
-    earlier : (e : ℕ) (y : Execution) → slice_get s.taken e ≡ Some y → e < count shown.place → y.moment ≤ shown.moment
+    hears : (u : ℕ) → moment_after u shown.asked.call.event ≡ shown.moment
+    hears = heard-at shown.asked.call shown.moment proxy_at shown.asked.datagram shown.asked.taken shown.asked.comes
+
+    pub not-before : since ≤ when
+    unfolding when
+    not-before = let le = shown.not_before in omega (arith, le)
+
+    earlier : (e : ℕ) (y : Execution) → slice_get s.taken e ≡ Some y → e < count shown.place → y.moment ≤ when
+    unfolding when
     earlier e y f lt =
         let d = known.tale.done e y f in
-        elim (leb_tells d.place shown.place) [
-          | inl k ↦
-              timed-then 0 calls d.place shown.place y.moment shown.moment d.call shown.call known.tale.timed d.stands shown.stands k.1
-              (heard-at d.call y.moment proxy_at d.flight.bytes (Some y.taken) d.comes) hears
-          | inr k ↦ let after = k.1 in let no = ranked-above e y d shown.place (omega (arith, after)) in absurd (omega (arith, lt, no))
+        elim (leb_tells shown.place d.place) [
+          | inl k ↦ let no = ranked-above e y d shown.place k.1 in absurd (omega (arith, lt, no))
+          | inr k ↦
+              let le = timed-upto 0 calls d.place shown.place y.moment d.call known.tale.timed d.stands k.1
+              (heard-at d.call y.moment proxy_at d.flight.bytes (Some y.taken) d.comes) in
+              omega (arith, le)
         ]
 
-    later : (e : ℕ) (y : Execution) → slice_get s.taken e ≡ Some y → count shown.place ≤ e → shown.moment ≤ y.moment
+    later : (e : ℕ) (y : Execution) → slice_get s.taken e ≡ Some y → count shown.place ≤ e → when ≤ y.moment
+    unfolding when
     later e y f le =
         let d = known.tale.done e y f in
+        let at = heard-at d.call y.moment proxy_at d.flight.bytes (Some y.taken) d.comes in
         elim (leb_tells shown.place d.place) [
           | inl k ↦
-              timed-then 0 calls shown.place d.place shown.moment y.moment shown.call d.call known.tale.timed shown.stands d.stands k.1
-              hears (heard-at d.call y.moment proxy_at d.flight.bytes (Some y.taken) d.comes)
+              let asked = shown.later in
+              let then = k.1 in
+              let one = timed-then 0 calls shown.asked.place d.place shown.moment y.moment shown.asked.call d.call known.tale.timed shown.asked.stands d.stands
+              (omega (arith, asked, then)) hears at in
+              let two = timed-after 0 calls shown.place d.place y.moment d.call known.tale.timed d.stands then at in
+              omega (arith, one, two)
           | inr k ↦ let no = ranked-below e y d shown.place k.1 in absurd (omega (arith, le, no))
         ]
 
-    pub held-at : IsHeldAt shown.moment (values 11 m.options) resources s.taken (count shown.place) state
+    pub held-at : IsHeldAt when (values 11 m.options) resources s.taken (count shown.place) state
     held-at = record {
       earlier = earlier;
       later = later;
@@ -156,8 +170,8 @@ module _ (R : Relation) (block : ℕ) (resources : List Held) (s : Scene) (known
     message = m;
     sent = x;
     shows = record {
-      moment = it.0.moment;
-      not_before = it.0.not_before;
+      moment = when x.moment m state it.0;
+      not_before = not-before x.moment m state it.0;
       count = count it.0.place;
       held = held-at x.moment m state it.0;
       written = done;
@@ -180,23 +194,22 @@ module _ (R : Relation) (block : ℕ) (resources : List Held) (s : Scene) (known
           let more = more-told calls call.0.place it.0.place call.0.call call.0.executes.taken call.1 call.0.stands (ap told_by call.0.executes.comes) in
           (own.0, omega (arith, rank, more))
 
-  pub shows : Law R → NoneObserved h → (k o : ℕ) (q r : CoapRequest) (b : Option Block) (j : ℕ) (m : Content) → (x : IsHeardFor h o r b j m) → r.method ≡ 1
+  pub shows : Law R → (k o : ℕ) (q r : CoapRequest) (j : ℕ) (m : Content) → (x : IsToldFor h o r j m) → r.method ≡ 1
       → r.peer ≡ device_at → q.peer ≡ device_at → m.code ≡ 69 → values 23 m.options ≡ [] → GoesBack h k o q
       → ShowsHeld before h k o q r resources s.flights s.taken m.payload
-  shows law none k o q r b j m x get to of content whole back =
-      shows-so k o q r b x.sending x.sent m.payload x.sent_for
-      (law h device_at proxy_at block resources calls (calls_before R (fresh block resources) s h book stands punctual) o r b j m stands
-      (networks R (fresh block resources) s h book stands punctual) (ordered R (fresh block resources) s h book stands punctual) x get to content whole
-      (sent-quietly h none stands o r b x.sending x.sent x.sent_for)) of back
+  shows law k o q r j m x get to of content whole back =
+      shows-so k o q r x.block x.sending x.sent m.payload x.sent_for
+      (law h device_at proxy_at block resources calls (calls_before R (fresh block resources) s h book stands punctual) o r j m stands
+      (networks R (fresh block resources) s h book stands punctual) (ordered R (fresh block resources) s h book stands punctual) x get to content whole) of back
 
 -- ---- an answer
 
--- one reply alone
-pub one-heard : (w : List Written) (k : ℕ) (q : CoapRequest) (point : Point) (js : List ℕ) (ms : List Content) (m : Content) → ms ≡ m ∷ []
-    → AreHeardFor w k q point js ms → (j : ℕ) × IsHeardFor w k q (block_for point) j m
-one-heard w k q point js ms m e all = by js (subst (AreHeardFor w k q point js) e all)
+-- one message alone
+pub one-told : (w : List Written) (k : ℕ) (q : CoapRequest) (js : List ℕ) (ms : List Content) (m : Content) → ms ≡ m ∷ []
+    → AreToldFor w k q js ms → (j : ℕ) × IsToldFor w k q j m
+one-told w k q js ms m e all = by js (subst (AreToldFor w k q js) e all)
   where
-    by : (js : List ℕ) → AreHeardFor w k q point js (m ∷ []) → (j : ℕ) × IsHeardFor w k q (block_for point) j m
+    by : (js : List ℕ) → AreToldFor w k q js (m ∷ []) → (j : ℕ) × IsToldFor w k q j m
     by [] x = absurd x
     by (j ∷ js) x = (j, x.0)
 
@@ -255,13 +268,6 @@ renewed-back h n c k js r m t d w is answered y changes peer path lt =
     early (inl own) write = let same = own.1 in omega (arith, same, lt)
     early (inr (inl joined)) write = joined.1.fresh m write lt
     early (inr (inr fetched)) write = fetched.fresh m write lt
-
--- It was heard as a reply, where nothing is notified.
-pub heard-kept : (h : List Written) → NoneObserved h → (q : CoapRequest) (first : Stored) → (w : WasWhole h q first)
-    → WasHeardHere h first.opening w.other first.list w.messages first.heard
-    → AreHeardFor h first.opening w.other (first_point w.other) first.list w.messages
-heard-kept h none q first w here =
-    elim here.heard [ inl x ↦ x | inr x ↦ absurd (none-notified h none first.opening w.other first.list w.messages x) ]
 
 -- What it was heard for is a GET too.
 pub other-gets : (h : List Written) (q : CoapRequest) (first : Stored) → (w : WasWhole h q first) → w.other.method ≡ 1

@@ -44,6 +44,39 @@ timed-then s (c ∷ cs) (suc a) zero u t x y h e f le is so = absurd (omega (ari
 timed-then s (c ∷ cs) (suc a) (suc b) u t x y h e f le is so =
     timed-then (moment_after s c.event) cs a b u t x y h.1 e f (omega (arith, le)) is so
 
+-- the moment after calls
+abbrev pub moment_then : ℕ → List Call → ℕ
+moment_then s [] = s
+moment_then s (c ∷ cs) = moment_then (moment_after s c.event) cs
+
+timed-last : (s : ℕ) (cs : List Call) (n : ℕ) → AreTimed s cs → s ≤ moment_then s (take n cs)
+timed-last s [] zero h = omega arith
+timed-last s [] (suc n) h = omega arith
+timed-last s (c ∷ cs) zero h = omega arith
+timed-last s (c ∷ cs) (suc n) h =
+    let le = h.0 in
+    let rest = timed-last (moment_after s c.event) cs n h.1 in
+    omega (arith, le, rest)
+
+-- is not before one of them,
+pub timed-upto : (s : ℕ) (cs : List Call) (a n t : ℕ) (c : Call) → AreTimed s cs → slice_get cs a ≡ Some c → a < n
+    → ((u : ℕ) → moment_after u c.event ≡ t) → t ≤ moment_then s (take n cs)
+timed-upto s [] a n t c h e lt is = absurd (none-some c e)
+timed-upto s (y ∷ ys) a zero t c h e lt is = absurd (omega (arith, lt))
+timed-upto s (y ∷ ys) zero (suc n) t c h e lt is =
+    let same : moment_after s y.event ≡ t = ap (λ (c : Call). moment_after s c.event) (some-is y c e) ∙ is s in
+    let rest = timed-last (moment_after s y.event) ys n h.1 in
+    omega (arith, same, rest)
+timed-upto s (y ∷ ys) (suc a) (suc n) t c h e lt is = timed-upto (moment_after s y.event) ys a n t c h.1 e (omega (arith, lt)) is
+
+-- and not after a later one.
+pub timed-after : (s : ℕ) (cs : List Call) (n b t : ℕ) (c : Call) → AreTimed s cs → slice_get cs b ≡ Some c → n ≤ b
+    → ((u : ℕ) → moment_after u c.event ≡ t) → moment_then s (take n cs) ≤ t
+timed-after s [] n b t c h e le is = absurd (none-some c e)
+timed-after s (y ∷ ys) zero b t c h e le is = timed-from s (y ∷ ys) b t c h e is
+timed-after s (y ∷ ys) (suc n) zero t c h e le is = absurd (omega (arith, le))
+timed-after s (y ∷ ys) (suc n) (suc b) t c h e le is = timed-after (moment_after s y.event) ys n b t c h.1 e (omega (arith, le)) is
+
 -- a call that hears something
 pub heard-at : (c : Call) (t : ℕ) (p : Peer) (d : List ℕ) (k : Option Taken) → c.event ≡ heard t p d k → (u : ℕ) → moment_after u c.event ≡ t
 heard-at c t p d k e u = ap (λ (v : Event). moment_after u v) e

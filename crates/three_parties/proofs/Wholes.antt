@@ -10,21 +10,19 @@ use Rattle.blockwise.specs.Joins.{DownloadsJoin}
 use Rattle.journal_book.specs.Entries.{Written}
 use Rattle.resp_cache.specs.Stored.{Stored}
 use Rattle.history_laws.specs.Justified.{Stands}
-use Rattle.history_laws.specs.Progress.{first_point}
 use Rattle.history_laws.specs.Responses.{Response, whole_of}
-use Rattle.history_claims.specs.Headline.{AreHeardFor}
 use Rattle.history_claims.specs.Stored.{WasCarried, WasHeardHere, WasRenewed, WasWhole, never, again}
 use Rattle.demo_origin.specs.Origins.{fresh}
 use Rattle.demo_origin.specs.Values.{Device, Relation}
 use Rattle.demo_origin.specs.declared.state.Held.{Held}
 use Rattle.story_laws.specs.Lateness.{ArePunctual}
 use Rattle.story_laws.specs.Orders.{WholesShow as Law}
-use Rattle.story_laws.specs.Reads.{AreNew}
-use Rattle.story_laws.proofs.Quiet.{NoneObserved, sent-quietly, heard-plainly}
+use Rattle.story_laws.specs.Reads.{AreNew, AreToldFor}
+use Rattle.story_laws.proofs.Told.{kept-told, rests-told}
 use Rattle.story_laws.proofs.Wholes.{body-shown}
 use Rattle.gateway_model.specs.Emissions.{Emission}
 use Rattle.three_parties.specs.Flights.{Going, device_at, proxy_at}
-use Rattle.three_parties.specs.Reads.{EachAfter, GetsShowWhole, KeptShowWhole, ObservesNothing, RenewedShowWhole, ShowsCarried, ShowsFirst, ShowsHeld, WholesShowInTime, journals}
+use Rattle.three_parties.specs.Reads.{EachAfter, GetsShowWhole, KeptShowWhole, RenewedShowWhole, ShowsCarried, ShowsFirst, ShowsHeld, WholesShowInTime, journals}
 use Rattle.three_parties.specs.Scenes.{Scene}
 use Rattle.three_parties.specs.Stories.{IsStory}
 use Rattle.three_parties.specs.declared.story.Execution.{Execution}
@@ -36,7 +34,7 @@ use Rattle.three_parties.proofs.Chapters.{IsPast}
 use Rattle.three_parties.proofs.Inherited.{IsInherited}
 use Rattle.three_parties.proofs.Pages.{IsEarlier}
 use Rattle.three_parties.proofs.Walking.{at_last, each-after, known_last}
-use Rattle.three_parties.proofs.Reading.{GoesBack, heard-kept, live-back, other-gets, renewed-back, shows-so, stored-back}
+use Rattle.three_parties.proofs.Reading.{GoesBack, live-back, other-gets, renewed-back, shows-so, stored-back}
 
 -- A 2.03 renews no body.
 body-stays : (h : List Written) (q : CoapRequest) (first : Stored) (n : ℕ) (s : Stored) → WasRenewed h q first n s
@@ -46,33 +44,32 @@ body-stays h q first n s (again {s = old} o c t j r m asked same was it before) 
 
 module _ (R : Relation) (law : Law R) (join : DownloadsJoin) (block : ℕ) (resources : List Held) (new : AreNew resources) (s : Scene) (known : Known R (fresh block resources) s) (top : ℕ)
     (before : List (List Written)) (h : List Written) (page : IsPast (fresh block resources) s.flights known.tale.calls top h)
-    (punctual : ArePunctual page.stands.reading) (none : NoneObserved h)
+    (punctual : ArePunctual page.stands.reading)
     (earlier : AllByRecursion (IsEarlier R (fresh block resources) s known top page.begun) before)
     (inherited : IsInherited R block resources s known top before h) where
   abbrev its : Book R (fresh block resources) s h
   its = book-of R (fresh block resources) s known top h page
 
-  whole-shows : (k o : ℕ) (q r : CoapRequest) (js : List ℕ) (ms : List Content) (w : Response) → AreHeardFor h o r (first_point r) js ms
+  whole-shows : (k o : ℕ) (q r : CoapRequest) (js : List ℕ) (ms : List Content) (w : Response) → AreToldFor h o r js ms
       → whole_of r ms ≡ Some w → r.method ≡ 1 → r.peer ≡ device_at → q.peer ≡ device_at → w.code ≡ 69
       → GoesBack h k o q → ShowsHeld before h k o q r resources s.flights s.taken w.body
-  whole-shows k o q r js ms w heard whole get to of content back =
+  whole-shows k o q r js ms w told whole get to of content back =
       let it =
       law h device_at proxy_at block resources known.tale.calls (calls_before R (fresh block resources) s h its page.stands punctual) o r js ms w page.stands
-      (networks R (fresh block resources) s h its page.stands punctual) (ordered R (fresh block resources) s h its page.stands punctual) new heard whole get to content
-      (λ k i b m x. sent-quietly h none page.stands k r b i m x) in
+      (networks R (fresh block resources) s h its page.stands punctual) (ordered R (fresh block resources) s h its page.stands punctual) new told whole get to content in
       shows-so R block resources s known top h page punctual before earlier k o q r it.0.block it.0.sending it.0.message w.body it.0.sent (it.0.shown, it.1) of back
 
   gets-whole : GetsShowWhole before resources h s.flights s.taken
   gets-whole n t c k js answered r get to content =
-      whole-shows k r.opening r.request r.request js r.messages r.response (heard-plainly h none n c k js r) r.whole get to to content
+      whole-shows k r.opening r.request r.request js r.messages r.response (rests-told h n c k js r) r.whole get to to content
       (live-back h n c k js r)
 
   here-whole : (k : ℕ) (q : CoapRequest) (first : Stored) (w : WasWhole h q first)
       → WasHeardHere h first.opening w.other first.list w.messages first.heard → q.peer ≡ device_at
       → GoesBack h k first.opening q → ShowsHeld before h k first.opening q w.other resources s.flights s.taken first.response.body
   here-whole k q first w here to back =
-      whole-shows k first.opening q w.other first.list w.messages first.response (heard-kept h none q first w here) w.whole (other-gets h q first w)
-      (sym w.same.1 ∙ to) to w.content back
+      whole-shows k first.opening q w.other first.list w.messages first.response (kept-told h first.opening w.other first.list w.messages first.heard here) w.whole
+      (other-gets h q first w) (sym w.same.1 ∙ to) to w.content back
 
   copies-whole : (k : ℕ) (q : CoapRequest) (first : Stored) (w : WasWhole h q first)
       → WasCarried h first.opening w.other first.list w.messages first.heard → q.peer ≡ device_at
@@ -81,7 +78,7 @@ module _ (R : Relation) (law : Law R) (join : DownloadsJoin) (block : ℕ) (reso
       let get = other-gets h q first w in
       let all = all-carried R block resources s known top before h page punctual earlier inherited first.opening w.other first.list w.messages copied.asked get
       (sym w.same.1 ∙ to) copied.heard in
-      let it = body-shown R proxy_at block resources known.tale.calls known.tale.follow known.tale.timed new (values 11 (request_options w.other))
+      let it = body-shown R proxy_at block resources known.tale.calls known.tale.follow new (values 11 (request_options w.other))
       (IsKnownBefore R block resources s known top before h page punctual earlier inherited w.other) join w.other get w.messages first.response all w.whole w.content in
       carried-shown R block resources s known top before h page punctual earlier inherited k first.opening q w.other it.since it.sent it.message it.part it.known
       first.response.body it.is copied.asked w.same to back
@@ -115,9 +112,9 @@ WholesOne resources flights taken before h =
 pub wholes-of : (R : Relation) → Law R → DownloadsJoin → (holds : Form → Form → List ℕ → List ℕ → Type 0) (takes : Form → Form → List ℕ → Type 0)
     (rules : Rules) (first : Device) (turns : List Turn) (out : List Emission) (flights : List Going) (h : List Written) (last : Device)
     (taken : List Execution) → IsStory holds takes R rules first turns out flights h last taken → Stands h
-    → (block : ℕ) (resources : List Held) → first ≡ fresh block resources → AreNew resources → ObservesNothing rules
+    → (block : ℕ) (resources : List Held) → first ≡ fresh block resources → AreNew resources
     → WholesShowInTime turns resources out h flights taken
-wholes-of R law join holds takes rules first turns out flights h last taken story stands block resources e fresh_ones nothing looks =
+wholes-of R law join holds takes rules first turns out flights h last taken story stands block resources e fresh_ones looks =
     subst (λ (w : List Written). Stands w → EachAfter (WholesOne resources flights taken) [] (journals out w)) (sym new.journal) shown stands
   where
     new : IsStory holds takes R rules (fresh block resources) turns out flights h last taken
@@ -125,7 +122,7 @@ wholes-of R law join holds takes rules first turns out flights h last taken stor
 
     shown : Stands new.world.core.state.entries → EachAfter (WholesOne resources flights taken) [] (journals out new.world.core.state.entries)
     shown stands =
-        each-after R holds takes rules block resources turns out flights h last taken new nothing (WholesOne resources flights taken) stands looks
-        (λ top before w page punctual none earlier inherited.
-        all-whole R law join block resources fresh_ones (at_last R holds takes rules block resources turns out flights h last taken new nothing)
-        (known_last R holds takes rules block resources turns out flights h last taken new nothing) top before w page punctual none earlier inherited)
+        each-after R holds takes rules block resources turns out flights h last taken new (WholesOne resources flights taken) stands looks
+        (λ top before w page punctual earlier inherited.
+        all-whole R law join block resources fresh_ones (at_last R holds takes rules block resources turns out flights h last taken new)
+        (known_last R holds takes rules block resources turns out flights h last taken new) top before w page punctual earlier inherited)

@@ -5,7 +5,6 @@ use Rattle.coap_codec.specs.Spelling.{Content}
 use Rattle.coap_codec.specs.Values.{values}
 use Rattle.coap_codec.specs.declared.block.Block.{Block}
 use Rattle.ask_model.specs.Requests.{CoapRequest}
-use Rattle.ask_model.specs.Views.{Rules}
 use Rattle.journal_book.specs.Entries.{Live, Kept, Answers, Written}
 use Rattle.resp_cache.specs.Stored.{Stored}
 use Rattle.history_claims.specs.Headline.{AsksFor, IsEntry, IsFirstSending, IsSentFor, RestsOn}
@@ -126,10 +125,6 @@ KeptShow before resources h flights taken =
     → (s : IsServed h t c k js) → s.is.whole.messages ≡ m ∷ []
     → s.request.peer ≡ device_at → m.code ≡ 69 → values 23 m.options ≡ []
     → ShowsFirst before h k s.request s.is.first s.is.whole resources flights taken m.payload
-
--- The rules name no host whose resources may be observed (RFC 7641 section 1.2).
-abbrev pub ObservesNothing : Rules → Type 0
-ObservesNothing rules = rules.observed ≡ []
 
 -- So it is of each of these journals, where those before it are told.
 abbrev pub EachAfter : (List (List Written) → List Written → Type 0) → List (List Written)

@@ -10,7 +10,7 @@ ghost use Rattle.story_laws.specs.Reads.{AreNew};
 ghost use Rattle.transformers.specs.Suits.{Suits};
 ghost use Rattle.three_parties.specs.Flights.{going};
 ghost use Rattle.three_parties.specs.Promises.{PostsOnceInTime};
-ghost use Rattle.three_parties.specs.Reads.{GetsShowInTime, ObservesNothing, WholesShowInTime};
+ghost use Rattle.three_parties.specs.Reads.{GetsShowInTime, WholesShowInTime};
 ghost use Rattle.three_parties.specs.Scenes.{TakesTurns};
 ghost use Rattle.three_parties.specs.Stories.{IsRefused, IsStory, opening, scene};
 
@@ -30,10 +30,11 @@ use transformers::{Bank, Relation};
 ///
 /// The story is that of all its turns (`is`). Where the device is a new one, and the proxy looks at
 /// its timers each second, each POST to it that was answered by success was executed exactly once
-/// (`posts`). Where the settings observe nothing, too, each answer to a GET that rests on one reply
-/// (`reads`), or on several (`wholes`), shows a state that the resource held, and no less than what
-/// was confirmed before it was asked for. So it is of each journal, also of an answer that rests on
-/// what the journal began with, as copies of one before.
+/// (`posts`). Each answer to a GET that rests on one reply (`reads`), or on several (`wholes`),
+/// shows a state that the resource held, and no less than what was confirmed before it was asked
+/// for; so does one that rests on a notification, or on one and the pieces that were fetched after
+/// it. So it is of each journal, also of an answer that rests on what the journal began with, as
+/// copies of one before.
 pub fn three_run<R: Relation, H: Behaviour>(
     alloc: Global,
     settings: Settings,
@@ -54,13 +55,12 @@ pub fn three_run<R: Relation, H: Behaviour>(
         → device origin ≡ fresh block resources → PostsOnceInTime turns.now
         (emissions s.outputs.items) s.journal.entries (map going s.flights.items) s.taken.items) }
     ensures reads { IfOk result (λ s. (block : ℕ) (resources : List Held)
-        → device origin ≡ fresh block resources → ObservesNothing (rules_of settings)
-        → GetsShowInTime turns.now resources (emissions s.outputs.items) s.journal.entries
-        (map going s.flights.items) s.taken.items) }
+        → device origin ≡ fresh block resources → GetsShowInTime turns.now resources
+        (emissions s.outputs.items) s.journal.entries (map going s.flights.items) s.taken.items) }
     ensures wholes { IfOk result (λ s. (block : ℕ) (resources : List Held)
         → device origin ≡ fresh block resources → AreNew resources
-        → ObservesNothing (rules_of settings) → WholesShowInTime turns.now resources
-        (emissions s.outputs.items) s.journal.entries (map going s.flights.items) s.taken.items) }
+        → WholesShowInTime turns.now resources (emissions s.outputs.items) s.journal.entries
+        (map going s.flights.items) s.taken.items) }
 {
     // Their contracts say what answers mean for a device, whatever a network does.
     posts_once::<H>();

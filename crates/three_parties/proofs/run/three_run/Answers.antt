@@ -8,7 +8,7 @@ use Rattle.story_laws.specs.Reads.{AreNew}
 use Rattle.gateway_model.specs.Emissions.{emissions}
 use Rattle.three_parties.specs.Flights.{going}
 use Rattle.three_parties.specs.Promises.{PostsOnceInTime}
-use Rattle.three_parties.specs.Reads.{GetsShowInTime, ObservesNothing, WholesShowInTime}
+use Rattle.three_parties.specs.Reads.{GetsShowInTime, WholesShowInTime}
 use Rattle.three_parties.specs.Stories.{IsStory}
 use Rattle.three_parties.proofs.Executing.{if-ok, posts-of}
 use Rattle.three_parties.proofs.Answering.{reads-of}
@@ -31,7 +31,7 @@ returns-clause-reads g c =
     if-ok (λ s. IsStory g.R.Relation.holds g.R.Relation.takes g.H.Behaviour.relation (rules_of c.args.settings) (device c.args.origin)
     c.args.turns.now (emissions s.outputs.items) (map going s.flights.items) s.journal.entries (device s.origin) s.taken.items)
     (λ s. Stands s.journal.entries)
-    (λ s. (block : ℕ) (resources : List Held) → device c.args.origin ≡ fresh block resources → ObservesNothing (rules_of c.args.settings)
+    (λ s. (block : ℕ) (resources : List Held) → device c.args.origin ≡ fresh block resources
     → GetsShowInTime c.args.turns.now resources (emissions s.outputs.items) s.journal.entries (map going s.flights.items) s.taken.items)
     (λ s is stands. reads-of g.H.Behaviour.relation c.writes_show.ensures g.R.Relation.holds g.R.Relation.takes (rules_of c.args.settings) (device c.args.origin)
     c.args.turns.now (emissions s.outputs.items) (map going s.flights.items) s.journal.entries (device s.origin) s.taken.items is stands)
@@ -42,7 +42,7 @@ returns-clause-wholes g c =
     if-ok (λ s. IsStory g.R.Relation.holds g.R.Relation.takes g.H.Behaviour.relation (rules_of c.args.settings) (device c.args.origin)
     c.args.turns.now (emissions s.outputs.items) (map going s.flights.items) s.journal.entries (device s.origin) s.taken.items)
     (λ s. Stands s.journal.entries)
-    (λ s. (block : ℕ) (resources : List Held) → device c.args.origin ≡ fresh block resources → AreNew resources → ObservesNothing (rules_of c.args.settings)
+    (λ s. (block : ℕ) (resources : List Held) → device c.args.origin ≡ fresh block resources → AreNew resources
     → WholesShowInTime c.args.turns.now resources (emissions s.outputs.items) s.journal.entries (map going s.flights.items) s.taken.items)
     (λ s is stands. wholes-of g.H.Behaviour.relation c.wholes_show.ensures c.downloads_join.ensures g.R.Relation.holds g.R.Relation.takes (rules_of c.args.settings) (device c.args.origin)
     c.args.turns.now (emissions s.outputs.items) (map going s.flights.items) s.journal.entries (device s.origin) s.taken.items is stands)
