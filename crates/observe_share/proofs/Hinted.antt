@@ -1,9 +1,11 @@
 -- Where a place has no hint there is no watch of it, and hints stay those of the watches.
-use Rattle.std.proofs.Common.{◌≡◌, ℕ, zero, suc, ◌+◌, ◌/◌, ◌%◌, ◌<◌, ◌≤◌, Bool, true, false, not, cond, ◌&&◌, ◌||◌, List, [], ◌∷◌, ◌++◌, length, map, Option, refl, sym, ap, subst, ◌∙◌, set, take, drop, get_or, arith}
+use Rattle.std.proofs.Common.{◌≡◌, ℕ, zero, suc, ◌+◌, ◌/◌, ◌%◌, ◌<◌, ◌≤◌, Bool, true, false, not, cond, ◌&&◌, ◌||◌, List, [], ◌∷◌, ◌++◌, length, map, Option, Some, None, Any, inl, inr, refl, sym, ap, subst, ◌∙◌, set, take, drop, get_or, arith}
 use Rattle.std.specs.Prelude.{filter, slice_get}
 use Rattle.std.specs.List.{AllByRecursion, list_any, remove}
 use Rattle.std.proofs.lemmas.Bool.{false≢true}
-use Rattle.std.proofs.lemmas.List.{length-append, length-map}
+use Rattle.std.proofs.lemmas.Bool.Decides.{eqb_tells}
+use Rattle.std.proofs.lemmas.List.{length-append, length-map, length-set, get_or-set_same, get_or-set_other, get_or_default}
+use Rattle.std.proofs.lemmas.List.Elements.{All-from_recursion, All-set}
 use Rattle.cache_key.specs.Digests.{rank_of}
 use Rattle.cache_key.specs.Keys.{CacheKey, same_place}
 use Rattle.cache_key.proofs.CallerLemmas.{places_decided, ranked_by_place}
@@ -166,3 +168,32 @@ kept-push rs new r hs hints first least k lt are kept put is = record {
   hinted = subst (AreHinted hints) (sym are) (all-push (λ (x : Registration). is_hinted hints (rank_of x.key) ≡ true) rs r (hints-more hs hints rs kept k.hinted) put);
   least = is;
 }
+
+-- one watch in the place of one that has its key and was asked for when that was
+module _ (rs : List Registration) (i : ℕ) (r q : Registration) (lt : i < length rs) (read : r ≡ get_or rs i r) (alike : q.asked ≡ r.asked) where
+  hinted-renewed : (hs : List Bool) → q.key ≡ r.key → AreHinted hs rs → AreHinted hs (set rs i q)
+  hinted-renewed hs same a =
+      let there : is_hinted hs (rank_of r.key) ≡ true = subst (λ (x : Registration). is_hinted hs (rank_of x.key) ≡ true) (sym read)
+      (All-from_recursion (λ (x : Registration). is_hinted hs (rank_of x.key) ≡ true) rs a i r lt) in
+      hints-set hs rs i q a (ap (λ (k : CacheKey). is_hinted hs (rank_of k)) same ∙ there)
+
+  any-renewed : (t : ℕ) → Any (λ (x : Registration). x.asked ≡ t) rs → Any (λ (x : Registration). x.asked ≡ t) (set rs i q)
+  any-renewed t h = elim (eqb_tells h.0 i) [
+    | inl w ↦
+        let it : h.1 ≡ r = sym h.3 ∙ ap (λ (k : ℕ). get_or rs k h.1) w.1 ∙ get_or_default rs i h.1 r lt ∙ sym read in
+        (i, q, rw (length-set rs i q) lt, get_or-set_same rs i q q lt, alike ∙ ap (λ (x : Registration). x.asked) (sym it) ∙ h.4)
+    | inr w ↦ (h.0, h.1, rw (length-set rs i q) (h.2), get_or-set_other rs i h.0 q h.1 w.1 ∙ h.3, h.4)
+  ]
+
+  least-renewed : (first : Option ℕ) → IsFirstAsked rs first → IsFirstAsked (set rs i q) first
+  least-renewed None none = absurd (let n = ap (λ (xs : List Registration). length xs) none in omega (arith, n, lt))
+  least-renewed (Some t) h =
+      let there : t ≤ r.asked = subst (λ (x : Registration). t ≤ x.asked) (sym read) (h.1 i r lt) in
+      (any-renewed t h.0, All-set (λ (x : Registration). t ≤ x.asked) rs i q (subst (λ (n : ℕ). t ≤ n) (sym alike) there) h.1)
+
+  pub kept-renewed : (new : List Registration) (hs : List Bool) (first : Option ℕ) → IsKept rs hs first → q.key ≡ r.key → new ≡ set rs i q → IsKept new hs first
+  kept-renewed new hs first k same are = record {
+    few = subst (λ (xs : List Registration). length xs ≤ 64) (sym are) (let n = length-set rs i q in let few = k.few in omega (arith, n, few));
+    hinted = subst (AreHinted hs) (sym are) (hinted-renewed hs same k.hinted);
+    least = subst (λ (xs : List Registration). IsFirstAsked xs first) (sym are) (least-renewed first k.least);
+  }

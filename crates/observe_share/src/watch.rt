@@ -241,7 +241,6 @@ impl Watch {
         match notice {
             Notice::Update(version) => {
                 self.standing[place].renew(version, moment);
-                self.first = first_asked(&self.standing);
                 Notified::Updated
             }
             Notice::Other(_) => {

@@ -1,6 +1,10 @@
-use Rattle.std.proofs.Common.{◌≡◌, Some, sym, ◌∙◌}
+use Rattle.std.proofs.Common.{◌≡◌, Some, refl, sym, ap, ◌∙◌}
+use Rattle.std.specs.Prelude.{slice_set}
 use Rattle.std.specs.List.{position}
+use Rattle.observe_share.specs.declared.registration.Registration.{Registration}
 use Rattle.observe_share.specs.Watches.{is_under}
+use Rattle.observe_share.proofs.First.{first_at}
+use Rattle.observe_share.proofs.Hinted.{kept-renewed}
 use Rattle.observe_share.proofs.Noticing.{unknown, older, update, ending, one_read}
 use Rattle.observe_share.proofs.watch.Watch.notified.Goals as goal
 
@@ -43,3 +47,14 @@ returns-in-Other-clause-told c =
     let there : position (is_under c.args.token.now) c.self.inside.standing.items ≡ Some c.in-Some.place = rw (← c.deref.ensures.value) (sym c.place_under.ensures ∙ c.in-Some.is) in
     let same : c.remove-ended.result ≡ c.index.result.now = one_read (is_under c.args.token.now) c.self.inside.standing.items c.in-Some.place _ _ there c.remove-ended.ensures.value c.index.ensures in
     rw (← c.self.view_is, same, c.in-Other.is) ((ending c.args.token.now c.in-Other.field-0 c.args.moment c.self.inside.standing.items c.in-Some.place c.index.result.now there c.index.ensures (rw c.in-Other.is at (sym c.counts.ensures ∙ c.if-not-counts.false))).told)
+
+-- a renewed watch has its key, and was asked for when it was
+pub invariant_of-self : goal.invariant_of-self
+invariant_of-self c =
+    let rs = c.self.inside.standing.items in
+    let r = c.index_mut.result.now in
+    let q = c.renew.new.self in
+    let there : position (is_under c.args.token.now) rs ≡ Some c.in-Some.place = rw (← c.deref.ensures.value) (sym c.place_under.ensures ∙ c.in-Some.is) in
+    let at = first_at (is_under c.args.token.now) rs c.in-Some.place r there c.index_mut.ensures.value in
+    kept-renewed rs c.in-Some.place r q at.place c.index_mut.ensures.value (ap (λ (x : Registration). x.asked) c.renew.ensures)
+    (slice_set rs c.in-Some.place q) c.self.inside.hints.items c.self.inside.first c.self.invariant (ap (λ (x : Registration). x.key) c.renew.ensures) refl
