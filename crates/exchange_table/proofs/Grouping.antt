@@ -1,5 +1,5 @@
 -- Those of one number together: where they stand, and that they stay together.
-use Rattle.std.proofs.Common.{◌≡◌, ◌≢◌, ℕ, zero, suc, ◌+◌, ◌-◌, ◌<◌, ◌≤◌, Bool, true, false, not, cond, List, [], ◌∷◌, ◌++◌, length, take, drop, get_or, Option, Some, None, inl, inr, refl, sym, ap, subst, ◌∙◌, ltb-true, ltb-false, arith}
+use Rattle.std.proofs.Common.{◌≡◌, ◌≢◌, ℕ, zero, suc, ◌+◌, ◌<◌, ◌≤◌, Bool, true, false, not, cond, List, [], ◌∷◌, ◌++◌, length, take, drop, get_or, Option, Some, None, inl, inr, refl, sym, ap, subst, ◌∙◌, ltb-true, ltb-false, arith}
 use Rattle.std.specs.Prelude.{filter, insert}
 use Rattle.std.specs.List.{AllByRecursion}
 use Rattle.std.specs.List.Sorted.{IsNonDecreasingBy}
@@ -38,11 +38,7 @@ all-back P [] (suc i) f = tt
 all-back P (x ∷ xs) zero f = (f 0 x (omega arith) (omega arith), all-back P xs zero (λ k d le lt. f (suc k) d (omega arith) (omega (arith, lt))))
 all-back P (x ∷ xs) (suc i) f = all-back P xs i (λ k d le lt. f (suc k) d (omega (arith, le)) (omega (arith, lt)))
 
-take-none : {X : Type 0} (n : ℕ) → take {A = X} n [] ≡ []
-take-none zero = refl
-take-none (suc n) = refl
-
-so-many : {X : Type 0} (m n : ℕ) (xs : List X) → m ≡ n → take m xs ≡ take n xs
+pub so-many : {X : Type 0} (m n : ℕ) (xs : List X) → m ≡ n → take m xs ≡ take n xs
 so-many m n xs e = ap (λ (k : ℕ). take k xs) e
 
 pub all-insert : {X : Type 0} (P : X → Type 0) (xs : List X) (i : ℕ) (y : X) → AllByRecursion P xs → P y → AllByRecursion P (insert xs i y)
@@ -70,13 +66,13 @@ ascend-filter {X = X} n p (x ∷ xs) r = by (p x) (ascend-filter n p xs r.1)
     by true h = (all-filter (λ y. n x ≤ n y) p xs r.0, h)
     by false h = h
 
-greater : (a b : ℕ) → a ≤ b → b ≢ a → a + 1 ≤ b
+pub greater : (a b : ℕ) → a ≤ b → b ≢ a → a + 1 ≤ b
 greater zero zero le d = absurd (d refl)
 greater zero (suc b) le d = omega arith
 greater (suc a) zero le d = absurd (omega (arith, le))
 greater (suc a) (suc b) le d = let rest = greater a b (omega (arith, le)) (λ e. d (ap suc e)) in omega (arith, rest)
 
--- where those of one number stand, by two searches
+-- where those of one number stand, by a search
 
 module _ {X : Type 0} (num : X → ℕ) where
   pub first-is : (o : ℕ) (rs : List X) (i : ℕ) → i ≤ length rs → Splits num o rs i → IsFirstFrom num o rs i
@@ -86,53 +82,15 @@ module _ {X : Type 0} (num : X → ℕ) where
     from = all-back (λ (r : X). o ≤ num r) rs i (λ k d le lt. ltb-false (num (get_or rs k d)) o (split.1 k d le lt));
   }
 
-  -- the place of what was opened later isn't before
+  -- those of another number
 
-  pub first-below : (o : ℕ) (rs : List X) (i j : ℕ) → IsFirstFrom num o rs i → IsFirstFrom num (o + 1) rs j → i ≤ j
-  first-below o [] zero j f g = omega arith
-  first-below o [] (suc i) j f g = absurd (let w = f.within in omega (arith, w))
-  first-below o (r ∷ rs) zero j f g = omega arith
-  first-below o (r ∷ rs) (suc i) zero f g = absurd (let below = f.before.0 in let above = g.from.0 in omega (arith, below, above))
-  first-below o (r ∷ rs) (suc i) (suc j) f g =
-      let w = f.within in
-      let v = g.within in
-      let rest = first-below o rs i j (record { within = omega (arith, w); before = f.before.1; from = f.from }) (record { within = omega (arith, v); before = g.before.1; from = g.from }) in
-      omega (arith, rest)
-
-  -- between the two stand those who wait for the exchange
-
-  reads-it : (o : ℕ) (r : X) → o ≤ num r → num r < o + 1 → is_by num o r ≡ true
-  reads-it o r le lt = same-as (num r) o (omega (arith, le, lt))
-
-  reads-other : (o : ℕ) (r : X) → num r ≢ o → is_by num o r ≡ false
+  pub reads-other : (o : ℕ) (r : X) → num r ≢ o → is_by num o r ≡ false
   reads-other o r differs = elim (eqb_tells (num r) o) [ inl w ↦ absurd (differs w.1) | inr w ↦ w.0 ]
 
-  above-none : (o : ℕ) (rs : List X) → AllByRecursion (λ (r : X). o + 1 ≤ num r) rs → filter (is_by num o) rs ≡ []
+  pub above-none : (o : ℕ) (rs : List X) → AllByRecursion (λ (r : X). o + 1 ≤ num r) rs → filter (is_by num o) rs ≡ []
   above-none o [] a = refl
   above-none o (r ∷ rs) a =
       let above = a.0 in rw (reads-other o r (λ e. absurd (omega (arith, e, above)))) (above-none o rs a.1)
-
-  pub group-is : (o : ℕ) (rs : List X) (i j : ℕ) → IsFirstFrom num o rs i → IsFirstFrom num (o + 1) rs j → take (j - i) (drop i rs) ≡ filter (is_by num o) rs
-  group-is o [] zero j f g = take-none (j - 0)
-  group-is o [] (suc i) j f g = absurd (let w = f.within in omega (arith, w))
-  group-is o (r ∷ rs) zero zero f g = so-many (0 - 0) 0 (r ∷ rs) (omega arith) ∙ sym (above-none o (r ∷ rs) g.from)
-  group-is o (r ∷ rs) zero (suc j) f g =
-      let w = g.within in
-      let here = reads-it o r f.from.0 g.before.0 in
-      let rest = group-is o rs zero j (record { within = omega arith; before = tt; from = f.from.1 }) (record { within = omega (arith, w); before = g.before.1; from = g.from }) in
-      so-many (suc j - 0) (suc j) (r ∷ rs) (omega arith)
-      ∙ ap (λ (xs : List X). r ∷ xs) (so-many j (j - 0) rs (omega arith) ∙ rest)
-      ∙ ap (λ (b : Bool). cond b (r ∷ filter (is_by num o) rs) (filter (is_by num o) rs)) (sym here)
-  group-is o (r ∷ rs) (suc i) zero f g = absurd (let below = f.before.0 in let above = g.from.0 in omega (arith, below, above))
-  group-is o (r ∷ rs) (suc i) (suc j) f g =
-      let w = f.within in
-      let v = g.within in
-      let below = f.before.0 in
-      let here = reads-other o r (λ e. absurd (omega (arith, e, below))) in
-      let rest = group-is o rs i j (record { within = omega (arith, w); before = f.before.1; from = f.from }) (record { within = omega (arith, v); before = g.before.1; from = g.from }) in
-      so-many (suc j - suc i) (j - i) (drop i rs) (omega arith)
-      ∙ rest
-      ∙ ap (λ (b : Bool). cond b (r ∷ filter (is_by num o) rs) (filter (is_by num o) rs)) (sym here)
 
   -- one more, after those who wait for the same exchange
 
@@ -203,44 +161,6 @@ module _ {X : Type 0} (num : X → ℕ) where
 
   abbrev pub AreThere : (X → Bool) → ℕ → List X → Type 0
   AreThere q o rs = AllByRecursion (λ (r : X). q r ≡ true → num r ≡ o) rs
-
-  not-there : (q : X → Bool) (o : ℕ) (r : X) → (q r ≡ true → num r ≡ o) → num r ≢ o → q r ≡ false
-  not-there q o r there differs = elim (cases_Bool (q r)) [ inl h ↦ absurd (differs (there h)) | inr h ↦ h ]
-
-  pub nowhere-read : (q : X → Bool) (o : ℕ) (rs : List X) → AreThere q o rs → IsNowhere q (filter (is_by num o) rs) → IsNowhere q rs
-  nowhere-read q o [] there none = tt
-  nowhere-read q o (r ∷ rs) there none = by (is_by num o r) refl none (nowhere-read q o rs there.1)
-    where
-      by : (b : Bool) → is_by num o r ≡ b → IsNowhere q (cond b (r ∷ filter (is_by num o) rs) (filter (is_by num o) rs))
-          → (IsNowhere q (filter (is_by num o) rs) → IsNowhere q rs) → IsNowhere q (r ∷ rs)
-      by true is h f = (h.0, f h.1)
-      by false is h f = (not-there q o r there.0 (λ e. false≢true (sym is ∙ same-as (num r) o e)), f h)
-
-  pub only-read : (q : X → Bool) (o : ℕ) (rs : List X) (i m : ℕ) → Ascend num rs → IsFirstFrom num o rs i → AreThere q o rs → IsOnlyAt q (filter (is_by num o) rs) m → IsOnlyAt q rs (i + m)
-  only-read q o [] zero m order f there only = absurd only
-  only-read q o [] (suc i) m order f there only = absurd only
-  only-read q o (r ∷ rs) (suc i) m order f there only =
-      let w = f.within in
-      let below = f.before.0 in
-      let differs : num r ≢ o = λ e. absurd (omega (arith, e, below)) in
-      let here = reads-other o r differs in
-      let next : suc i + m ≡ suc (i + m) = omega arith in
-      subst (IsOnlyAt q (r ∷ rs)) (sym next)
-      (not-there q o r there.0 differs, only-read q o rs i m order.1 (record { within = omega (arith, w); before = f.before.1; from = f.from }) there.1 (rw here at only))
-  only-read q o (r ∷ rs) zero m order f there only =
-      by (is_by num o r) refl m only (λ n. only-read q o rs zero n order.1 (record { within = omega arith; before = tt; from = f.from.1 }) there.1)
-    where
-      by : (b : Bool) → is_by num o r ≡ b → (m : ℕ) → IsOnlyAt q (cond b (r ∷ filter (is_by num o) rs) (filter (is_by num o) rs)) m
-          → ((n : ℕ) → IsOnlyAt q (filter (is_by num o) rs) n → IsOnlyAt q rs (zero + n)) → IsOnlyAt q (r ∷ rs) (zero + m)
-      by true is zero h f = (h.0, nowhere-read q o rs there.1 h.1)
-      by true is (suc n) h f =
-          subst (IsOnlyAt q (r ∷ rs)) (let e : suc n ≡ zero + suc n = omega arith in e)
-          (h.0, subst (IsOnlyAt q rs) (let e : zero + n ≡ n = omega arith in e) (f n h.1))
-      by false is m h g =
-          let from = f.from.0 in
-          let above : o + 1 ≤ num r = greater o (num r) from (λ e. false≢true (sym is ∙ same-as (num r) o e)) in
-          let none : filter (is_by num o) rs ≡ [] = above-none o rs (all-more (λ (y : X). num r ≤ num y) (λ (y : X). o + 1 ≤ num y) (λ y le. omega (arith, le, above)) rs order.0) in
-          absurd (subst (λ (ys : List X). IsOnlyAt q ys m) none h)
 
   -- the one that has the ask reads what it reads
   pub only-there : (q : X → Bool) (rs : List X) (i : ℕ) (d : X) → IsOnlyAt q rs i → AreThere q (num (get_or rs i d)) rs

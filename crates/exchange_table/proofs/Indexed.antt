@@ -19,7 +19,7 @@ use Rattle.exchange_table.specs.declared.index.Named.{Named}
 use Rattle.exchange_table.specs.Places.{RiseBy, IsNowhere, IsOnlyAt}
 use Rattle.exchange_table.specs.Tables.{IsIndexed, IsLatest, IsNewest, has_number, is_named, is_opened_at, name_of, named_anew, opening_in, opening_under, number_in, number_of, opening_of, carried_on, went_on}
 use Rattle.exchange_table.proofs.Standing.{all-at, map-none, map-only, any-none, any-only, only-is, rise-filter, rise-map}
-use Rattle.exchange_table.proofs.Searching.{some-is, none-some, each-so, both-hold, filter-if, map-all, find-filter, or-first, or-second, any-if, any-filter, any-map, any-mapped, any-there, any-push, any-last, find-push, find-last, rise-push, same-as, unequal, eqb-not, all-of}
+use Rattle.exchange_table.proofs.Searching.{some-is, none-some, each-so, both-hold, filter-if, map-all, find-filter, any-filter, any-map, any-mapped, any-there, any-push, any-last, find-push, find-last, rise-push, same-as, unequal, eqb-not, all-of}
 
 -- Under a token stands what bears its number.
 pub under-number : (token : List ℕ) (e : Exchange) → is_under token e ≡ true → number_of e ≡ token_number token

@@ -5,6 +5,7 @@ mod Indexed
 mod Outrun
 mod Reading
 mod Grouping
+mod Seeking
 mod Owning
 mod Marking
 mod Joined

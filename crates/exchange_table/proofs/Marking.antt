@@ -1,5 +1,5 @@
 -- Marks stay those of the exchanges, whatever is done to these.
-use Rattle.std.proofs.Common.{◌≡◌, ◌≢◌, ℕ, ◌<◌, Bool, true, false, not, cond, List, [], ◌∷◌, ◌++◌, length, map, get_or, Some, inl, inr, refl, sym, ap, subst, ◌∙◌, arith}
+use Rattle.std.proofs.Common.{◌≡◌, ◌≢◌, ℕ, ◌<◌, Bool, true, false, not, cond, List, [], ◌∷◌, ◌++◌, length, map, get_or, Some, inl, inr, refl, sym, ap, subst, ◌∙◌}
 use Rattle.std.specs.Prelude.{filter}
 use Rattle.std.specs.List.{AllByRecursion, list_any}
 use Rattle.std.specs.Option.{option_map_or}
@@ -23,7 +23,7 @@ use Rattle.exchange_table.specs.Places.{RiseBy, IsOnlyAt}
 use Rattle.exchange_table.specs.Tables.{IsIndexed, carried_on, is_opened_at, opening_of, went_on}
 use Rattle.exchange_table.proofs.Grouping.{grouped-filter, only-there, through-groups}
 use Rattle.exchange_table.proofs.Indexed.{others-apart}
-use Rattle.exchange_table.proofs.Searching.{below-other, both-hold, map-all, or-first, same-as}
+use Rattle.exchange_table.proofs.Searching.{both-hold, map-all, same-as}
 use Rattle.exchange_table.proofs.Standing.{Tells, rise-filter}
 
 pub mark-tells : (o : ℕ) → Tells opening_marked o (is_mark_of o)

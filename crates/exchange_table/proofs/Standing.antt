@@ -8,7 +8,7 @@ use Rattle.std.proofs.lemmas.Bool.{cases_Bool}
 use Rattle.history_laws.proofs.CallerLemmas.{all-filter, all-more}
 use Rattle.exchange_table.specs.Places.{RiseBy, IsNowhere, IsOnlyAt}
 
-three : (a b : ℕ) → (a < b) ⊎ ((a ≡ b) ⊎ (b < a))
+pub three : (a b : ℕ) → (a < b) ⊎ ((a ≡ b) ⊎ (b < a))
 three zero zero = inr (inl refl)
 three zero (suc b) = inl (omega arith)
 three (suc a) zero = inr (inr (omega arith))

@@ -1,5 +1,5 @@
 -- Lists where those of one number stand together, and the numbers rise.
-use Rattle.std.specs.Prelude.{◌≡◌, ℕ, ◌≤◌, ◌<◌, Bool, ◌==◌, List, [], ◌∷◌, length, take, drop, filter, ⊤}
+use Rattle.std.specs.Prelude.{◌≡◌, ℕ, ◌≤◌, ◌<◌, Bool, ◌==◌, ◌&&◌, ◌||◌, nat_lt, not, List, [], ◌∷◌, length, take, drop, filter, ⊤}
 use Rattle.std.specs.List.{AllByRecursion}
 
 -- None of these numbers of theirs is below one before it.
@@ -10,6 +10,14 @@ Ascend n (x ∷ xs) = AllByRecursion (λ y. n x ≤ n y) xs × Ascend n xs
 -- its number is this
 abbrev pub is_by : {X : Type 0} → (X → ℕ) → ℕ → X → Bool
 is_by n k x = n x == k
+
+-- its number is another
+abbrev pub is_beside : {X : Type 0} → (X → ℕ) → ℕ → X → Bool
+is_beside n k x = not (is_by n k x)
+
+-- It stands before those of this number, or among them with a lower second number than this.
+abbrev pub is_before : {X : Type 0} → (X → ℕ) → (X → ℕ) → ℕ → ℕ → X → Bool
+is_before n m k l x = nat_lt (n x) k || (is_by n k x && nat_lt (m x) l)
 
 -- The groups have the same ones: those of one number stand together, in the same order, and the
 -- groups in the order of the numbers.

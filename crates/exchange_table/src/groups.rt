@@ -2,10 +2,10 @@
 //! through all.
 
 ghost use Rattle.std.specs.Prelude.{◌≡◌, ◌≤◌, ◌<◌, ◌∷◌, ◌++◌, [], List, None, true, IfSome, filter, length, nat_lt, not, vec_capacity, vec_len};
-ghost use Rattle.std.specs.List.{AllByRecursion};
+ghost use Rattle.std.specs.List.{AllByRecursion, position};
 ghost use Rattle.exchange_model.specs.declared.kept.Reader.{Reader as Row};
 ghost use Rattle.exchange_table.specs.Places.{RiseBy, IsOnlyAt, IsNowhere};
-ghost use Rattle.exchange_table.specs.Groups.{AreGrouped, Ascend, IsFirstFrom};
+ghost use Rattle.exchange_table.specs.Groups.{AreGrouped, Ascend, IsFirstFrom, is_before, is_beside};
 ghost use Rattle.exchange_table.specs.Readers.{ask_in, has_ask, opening_read, reads};
 
 use exchange_model::Reader;
@@ -38,14 +38,32 @@ fn first_from(groups: &[Reader], opening: u64) -> usize
     )
 }
 
+/// The first place of one who reads something else.
+fn first_beside(groups: &[Reader], opening: u32) -> Option<usize>
+    ensures { result ≡ position (is_beside opening_read opening) groups.now }
+{
+    groups.iter().position(|reader| reader.opening != opening)
+}
+
+/// Those who wait for the exchange with this opening, where they stand first.
+fn run_of(groups: &[Reader], opening: u32) -> &[Reader]
+    requires order { Ascend opening_read groups.now }
+    requires first { AllByRecursion (λ (r : Row). opening ≤ r.opening) groups.now }
+    ensures { result.now ≡ filter (reads opening) groups.now }
+{
+    match first_beside(groups, opening) {
+        Some(end) => &groups[..end],
+        None => groups,
+    }
+}
+
 /// Those who wait for the exchange with this opening.
 pub fn group_of(groups: &[Reader], opening: u32) -> &[Reader]
     requires { Ascend opening_read groups.now }
     ensures { result.now ≡ filter (reads opening) groups.now }
 {
     let first = first_from(groups, u64::from(opening));
-    let end = first_from(groups, u64::from(opening) + 1);
-    &groups[first..end]
+    run_of(&groups[first..], opening)
 }
 
 /// Puts the reader after those who wait for the same exchange, for which there is a place.
@@ -61,6 +79,33 @@ pub fn put_last(groups: &mut Vec<Reader>, reader: Reader)
     }
 }
 
+/// Whether the reader stands before where the one of this ask does, who waits for the exchange with
+/// this opening.
+fn is_before(reader: &Reader, opening: u32, ask: u32) -> bool
+    ensures { result ≡ is_before opening_read ask_in opening ask reader.now }
+{
+    reader.opening < opening || (reader.opening == opening && reader.ask < ask)
+}
+
+/// The place of the reader of this ask, who waits for the exchange with this opening.
+fn group_place(groups: &[Reader], opening: u32, ask: u32) -> Option<usize>
+    requires order { Ascend opening_read groups.now }
+    requires asks { RiseBy ask_in (filter (reads opening) groups.now) }
+    requires there { AllByRecursion (λ (r : Row). has_ask ask r ≡ true → r.opening ≡ opening)
+        groups.now }
+    ensures below { IfSome result (λ i. i < length groups.now) }
+    ensures some { IfSome result (IsOnlyAt (has_ask ask) groups.now) }
+    ensures none { result ≡ None → IsNowhere (has_ask ask) groups.now }
+{
+    let place = groups.partition_point(
+        |reader: &Reader| -> bool
+            ensures { result ≡ is_before opening_read ask_in opening ask reader.now }
+        { is_before(reader, opening, ask) },
+    );
+    let reader = groups.get(place)?;
+    if reader.ask == ask { Some(place) } else { None }
+}
+
 /// Takes out the reader of this ask, who waits for the exchange with this opening.
 pub fn take_out(groups: &mut Vec<Reader>, opening: u32, ask: u32)
     requires order { Ascend opening_read groups.old.items }
@@ -71,8 +116,7 @@ pub fn take_out(groups: &mut Vec<Reader>, opening: u32, ask: u32)
     ensures fewer { vec_len groups.new ≤ vec_len groups.old }
     ensures capacity { vec_capacity groups.new ≡ vec_capacity groups.old }
 {
-    let first = first_from(groups.as_slice(), u64::from(opening));
-    if let Some(place) = reader_place(group_of(groups.as_slice(), opening), ask) {
-        groups.remove(first + place);
+    if let Some(place) = group_place(groups.as_slice(), opening, ask) {
+        groups.remove(place);
     }
 }

@@ -1,6 +1,6 @@
 use Rattle.std.proofs.Common.{sym, ap, ◌∙◌}
 use Rattle.std.specs.Prelude.{option_and_then, option_map}
-use Rattle.exchange_table.proofs.Reading.{is-not-read, is-read}
+use Rattle.exchange_table.proofs.Reading.{is-read}
 use Rattle.exchange_table.proofs.keyed.reads.Goals as goal
 
 pub returns-in-Some-reading : goal.returns-in-Some-reading
