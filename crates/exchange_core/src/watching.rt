@@ -187,8 +187,8 @@ fn add_ending<R: Relation>(
     Ok(())
 }
 
-/// Adds the tokens of those that a tick ends, at which these exchanges end. Where none of these ends
-/// and nothing is idle, no watch is looked at.
+/// Adds the tokens of those that a tick ends, at which these exchanges end. Where none of these
+/// ends and nothing is idle, no watch is looked at.
 pub fn add_unwatched<R: Relation>(
     tokens: &mut Vec<Token>,
     watches: &Watch,

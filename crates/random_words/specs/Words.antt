@@ -8,8 +8,9 @@ pub record Given (from left : List ℕ) (word : ℕ) : Type 0 where
   pub word_is : word ≡ from_le_bytes w64 (take 8 from)
   pub rest : left ≡ drop 8 from
 
--- A word comes of what was left, or, where that is no whole word, of 256 bytes that were filled anew. Where the
--- system gives none there is no word, and nothing is left that a later one could come of.
+-- A word comes of what was left, or, where that is no whole word, of 256 bytes that were filled
+-- anew. Where the system gives none there is no word, and nothing is left that a later one could
+-- come of.
 abbrev pub Next : List ℕ → List ℕ → Option ℕ → Type 0
 Next old new None = (length old < 8) × (new ≡ [])
 Next old new (Some word) =

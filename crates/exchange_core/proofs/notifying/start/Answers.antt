@@ -9,8 +9,7 @@ use Rattle.exchange_core.proofs.notifying.start.Goals as goal
 pub returns : goal.returns
 returns g c = λ q asked.
     let x = c.args.heeding.now in
-    let link = link_at c.args.s.now.endpoints c.args.peer.now in
-    (
+    let link = link_at c.args.s.now.endpoints c.args.peer.now in (
       c.in-Some.submission,
       starts-as c.args.moment c.len-number.result _ c.args.peer.now c.args.watch.now c.in_ok-share.field-0 c.exchange_for-exchange.result c.args.onward c.args.token.now
           c.in-Some.submission c.in_ok-share.ensures c.exchange_for-exchange.ensures c.len-number.ensures,
