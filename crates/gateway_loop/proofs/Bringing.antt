@@ -18,12 +18,12 @@ use Rattle.gateway_world.specs.Openings.{IsCounted}
 use Rattle.gateway_world.specs.Worlds.{WorldValue}
 use Rattle.gateway_loop.specs.Clients.{ClientValue, Feeds, unserved}
 use Rattle.gateway_loop.specs.Delivery.{AreGiven, IsGiven, given_to}
-use Rattle.gateway_loop.specs.Places.{EachChanges, OnlyAt}
+use Rattle.gateway_loop.specs.Places.{EachChanges, IsEmptied, OnlyAt}
 use Rattle.gateway_loop.specs.Serving.{IsAfter, IsServed, IsServing, Past, brought_in, heard_at, said, then}
 use Rattle.gateway_loop.specs.Sockets.{Are, Grown}
 use Rattle.gateway_loop.specs.Telling.{NotesValue, Tells}
 use Rattle.gateway_loop.proofs.Changing.{each-as, each-from, each-then, each-with, same-or-not}
-use Rattle.gateway_loop.proofs.Served.{once, served-first, served-on, serving-on}
+use Rattle.gateway_loop.proofs.Served.{once, served-carried, served-first, served-on, serving-on}
 
 -- only an input for one opens a connection
 pub counted-other : (x : Happening) (n : Option ℕ) (old new : CoreValue) → (x ≡ H.Open → ⊥) → IsCounted x n old new
@@ -184,4 +184,49 @@ module _ (holds : Form → Form → List ℕ → List ℕ → Type 0) (takes : F
           by (inr (last, is)) =
               subst (IsServed holds takes written gave c (then past (once i out))) (sym (same y (unserved s) is))
               (served-first holds takes written gave c past i out w s after (sym h.numbers ∙ (sym g.count ∙ sym last)) wrote read
+              (quiet-taken holds takes i out w v c opens t) (none c))
+
+  pub serving-carries : (i : Input) (out : List Emission) (w v : WorldValue) (xs us zs ys : List (Option (ClientValue S))) (m n : W)
+      (d : ℕ) (x : ClientValue S) (n0 n1 : NotesValue)
+      → IsServing holds takes written gave sent heard w xs m n0 → Takes holds takes i w out v → i.happening ≡ H.Open
+      → v.core.state.opened ≡ w.core.state.opened + 1 → slice_get xs d ≡ Some (Some x) → IsEmptied d xs us
+      → AreGiven out us zs → ys ≡ zs ++ Some x ∷ []
+      → Grown (sent m) (sent n) (goes_in out) → Grown (heard m) (heard n) (heard_at i) → Tells out n0 n1
+      → IsServing holds takes written gave sent heard v ys n n1
+  serving-carries i out w v xs us zs ys m n d x n0 n1 h t opens more here e g is goes came told =
+      serving-on holds takes written gave sent heard i out w v xs ys m n n0 n1 h t
+      (ap length is ∙ (length-more zs ∙ (ap (λ (k : ℕ). k + 1) (g.count ∙ (e.count ∙ h.numbers)) ∙ sym more)))
+      each goes came told
+    where
+      none : (c : ℕ) → brought_in c i ≡ []
+      none c = subst (λ (x : Happening). brought_by c x ≡ []) (sym opens) refl
+
+      length-more : (all : List (Option (ClientValue S))) → length (all ++ Some x ∷ []) ≡ length all + 1
+      length-more all = search (length-append, rules)
+
+      each : (past : Past) → IsAfter holds takes past w
+          → ((c : ℕ) (x : ClientValue S) → slice_get xs c ≡ Some (Some x) → IsServed holds takes written gave c past x)
+          → (c : ℕ) (y : ClientValue S) → slice_get ys c ≡ Some (Some y)
+          → IsServed holds takes written gave c (then past (once i out)) y
+      each past after old c y at =
+          by (get-push zs (Some x) (Some y) c (sym (ap (λ (all : List (Option (ClientValue S))). slice_get all c) is) ∙ at))
+        where
+          same : (u v : ClientValue S) → Some u ≡ Some v → u ≡ v
+          same u v q = cc
+
+          -- one of the others was there
+          was : (z : ClientValue S) → slice_get us c ≡ Some (Some z) → (c ≡ d) ⊎ (c ≢ d) → slice_get xs c ≡ Some (Some z)
+          was z there (inl q) = absurd (e.none z (sym (ap (slice_get us) q) ∙ there))
+          was z there (inr ne) = sym (e.others c ne) ∙ there
+
+          by : (slice_get zs c ≡ Some (Some y)) ⊎ ((c ≡ length zs) × (Some y ≡ Some x))
+              → IsServed holds takes written gave c (then past (once i out)) y
+          by (inl there) =
+              let b = each-from (Brings i out) us zs c y (brings-none i out us zs none g) there in
+              served-on holds takes written gave c past i out b.0 y (old c b.0 (was b.0 b.1 (same-or-not c d)))
+              b.2.stream b.2.left b.2.unfed b.2.leaving
+          by (inr (last, is_last)) =
+              subst (IsServed holds takes written gave c (then past (once i out))) (sym (same y x is_last))
+              (served-carried holds takes written gave d past i out w c x after
+              (sym h.numbers ∙ (sym e.count ∙ (sym g.count ∙ sym last))) (old d x here)
               (quiet-taken holds takes i out w v c opens t) (none c))

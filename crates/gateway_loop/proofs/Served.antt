@@ -17,7 +17,7 @@ use Rattle.gateway_world.proofs.Running.{takes-more, takes-rules}
 use Rattle.gateway_loop.specs.Clients.{ClientValue, Leaves, Reads, Writes, kept, unserved}
 use Rattle.gateway_loop.specs.Places.{EachChanges, IsEmptied}
 use Rattle.gateway_loop.proofs.Changing.{each-from, same-or-not}
-use Rattle.gateway_loop.specs.Serving.{IsAfter, IsServed, IsServing, Past, brought, brought_in, heard_at, heard_in, said, then}
+use Rattle.gateway_loop.specs.Serving.{IsAfter, IsServed, IsServing, Past, brought, brought_in, brought_over, heard_at, heard_in, said, said_over, then}
 use Rattle.gateway_loop.specs.Sockets.{Are, Grown}
 use Rattle.gateway_loop.specs.Telling.{NotesValue, Tells}
 use Rattle.gateway_loop.proofs.Growing.{are-more, are-same}
@@ -66,18 +66,23 @@ module _ (holds : Form → Form → List ℕ → List ℕ → Type 0) (takes : F
       since = then h.since (once i out);
       past_is = ap (λ (p : Past). then p (once i out)) h.past_is ∙ then-then h.before h.since (once i out);
       opened = h.opened;
+      spans = h.spans;
+      earlier = h.earlier;
       wrote = h.wrote;
       is_written = subst (λ (s : S). Are (written s) h.wrote) (sym stream) h.is_written;
       left = ap (λ (t : List ℕ). h.wrote ++ t) left
           ∙ (sym (append_assoc h.wrote x.left (said c out))
-          ∙ (ap (λ (t : List ℕ). t ++ said c out) h.left ∙ sym (said-both c h.since.given out)));
+          ∙ (ap (λ (t : List ℕ). t ++ said c out) h.left
+          ∙ (append_assoc (said_over h.spans) (said c h.since.given) (said c out)
+          ∙ ap (λ (t : List ℕ). said_over h.spans ++ t) (sym (said-both c h.since.given out)))));
       read = h.read;
       was_read = subst (λ (s : S). Are (gave s) h.read) (sym stream) h.was_read;
       dropped = h.dropped;
       unfed = h.unfed
-          ∙ ap (λ (t : List ℕ). t ++ h.dropped) (ap (λ (t : List ℕ). brought c h.since.inputs ++ t) unfed
-          ∙ (sym (append_assoc (brought c h.since.inputs) (brought_in c i) y.unfed)
-          ∙ ap (λ (t : List ℕ). t ++ y.unfed) (sym (brought-more c h.since.inputs i))));
+          ∙ ap (λ (t : List ℕ). t ++ h.dropped) (ap (λ (t : List ℕ). brought_over h.spans ++ brought c h.since.inputs ++ t) unfed
+          ∙ (sym (append_assoc (brought_over h.spans ++ brought c h.since.inputs) (brought_in c i) y.unfed)
+          ∙ ap (λ (t : List ℕ). t ++ y.unfed) (append_assoc (brought_over h.spans) (brought c h.since.inputs) (brought_in c i)
+          ∙ ap (λ (t : List ℕ). brought_over h.spans ++ t) (sym (brought-more c h.since.inputs i)))));
       none = λ e. h.none (sym leaving ∙ e);
     }
 
@@ -88,13 +93,15 @@ module _ (holds : Form → Form → List ℕ → List ℕ → Type 0) (takes : F
       since = h.since;
       past_is = h.past_is;
       opened = h.opened;
+      spans = h.spans;
+      earlier = h.earlier;
       wrote = h.wrote ++ w.bytes;
       is_written = are-more (written x.stream) (written y.stream) h.wrote w.bytes h.is_written w.went;
       left = append_assoc h.wrote w.bytes y.left ∙ (ap (λ (t : List ℕ). h.wrote ++ t) (sym w.left) ∙ h.left);
       read = h.read;
       was_read = are-same (gave x.stream) (gave y.stream) h.read h.was_read w.quiet;
       dropped = h.dropped;
-      unfed = h.unfed ∙ ap (λ (t : List ℕ). brought c h.since.inputs ++ t ++ h.dropped) (sym w.unfed);
+      unfed = h.unfed ∙ ap (λ (t : List ℕ). brought_over h.spans ++ brought c h.since.inputs ++ t ++ h.dropped) (sym w.unfed);
       none = λ e. h.none (sym w.leaving ∙ e);
     }
 
@@ -118,12 +125,14 @@ module _ (holds : Form → Form → List ℕ → List ℕ → Type 0) (takes : F
     pub served-reads : (x y : ClientValue S) → Reads written gave x y → IsServed holds takes written gave c past x
         → IsServed holds takes written gave c past y
     served-reads x y r h =
-        let p = parted x.leaving (brought c h.since.inputs) x.unfed y.unfed r.bytes h.dropped r.unfed h.none in
+        let p = parted x.leaving (brought_over h.spans ++ brought c h.since.inputs) x.unfed y.unfed r.bytes h.dropped r.unfed h.none in
         record {
           before = h.before;
           since = h.since;
           past_is = h.past_is;
           opened = h.opened;
+          spans = h.spans;
+          earlier = h.earlier;
           wrote = h.wrote;
           is_written = are-same (written x.stream) (written y.stream) h.wrote h.is_written r.quiet;
           left = ap (λ (t : List ℕ). h.wrote ++ t) r.left ∙ h.left;
@@ -144,6 +153,8 @@ module _ (holds : Form → Form → List ℕ → List ℕ → Type 0) (takes : F
       since = h.since;
       past_is = h.past_is;
       opened = h.opened;
+      spans = h.spans;
+      earlier = h.earlier;
       wrote = h.wrote;
       is_written = are-same (written x.stream) (written y.stream) h.wrote h.is_written l.wrote;
       left = ap (λ (t : List ℕ). h.wrote ++ t) l.left ∙ h.left;
@@ -151,9 +162,9 @@ module _ (holds : Form → Form → List ℕ → List ℕ → Type 0) (takes : F
       was_read = are-same (gave x.stream) (gave y.stream) h.read h.was_read l.quiet;
       dropped = x.unfed ++ h.dropped;
       unfed = h.unfed
-          ∙ (append_assoc (brought c h.since.inputs) x.unfed h.dropped
-          ∙ (sym (ap (λ (t : List ℕ). t ++ (x.unfed ++ h.dropped)) (append-nil (brought c h.since.inputs)))
-          ∙ ap (λ (t : List ℕ). brought c h.since.inputs ++ t ++ (x.unfed ++ h.dropped)) (sym l.unfed)));
+          ∙ (append_assoc (brought_over h.spans ++ brought c h.since.inputs) x.unfed h.dropped
+          ∙ (sym (ap (λ (t : List ℕ). t ++ (x.unfed ++ h.dropped)) (append-nil (brought_over h.spans ++ brought c h.since.inputs)))
+          ∙ ap (λ (t : List ℕ). brought_over h.spans ++ brought c h.since.inputs ++ t ++ (x.unfed ++ h.dropped)) (sym l.unfed)));
       none = λ e. absurd (true-false y.leaving l.leaving e);
     }
 
@@ -166,6 +177,8 @@ module _ (holds : Form → Form → List ℕ → List ℕ → Type 0) (takes : F
       since = once i out;
       past_is = refl;
       opened = (w, after, next);
+      spans = [];
+      earlier = tt;
       wrote = [];
       is_written = wrote;
       left = sym none;
@@ -175,6 +188,32 @@ module _ (holds : Form → Form → List ℕ → List ℕ → Type 0) (takes : F
       unfed = sym (ap (λ (t : List ℕ). ((t ++ []) ++ []) ++ []) nothing);
       none = λ e. refl;
     }
+
+    -- a stream that goes on as a connection that opens so
+    pub served-carried : (i : Input) (out : List Emission) (w : WorldValue) (k : ℕ) (x : ClientValue S) → IsAfter holds takes past w
+        → w.core.state.opened ≡ k → IsServed holds takes written gave c past x → said k out ≡ [] → brought_in k i ≡ []
+        → IsServed holds takes written gave k (then past (once i out)) x
+    served-carried i out w k x after next h none nothing =
+        let front : List ℕ = brought_over h.spans ++ brought c h.since.inputs in
+        let given : List ℕ = said_over h.spans ++ said c h.since.given in
+        record {
+          before = past;
+          since = once i out;
+          past_is = refl;
+          opened = (w, after, next);
+          spans = record { number = c; before = h.before; during = h.since } ∷ h.spans;
+          earlier = (h.opened, h.past_is, h.earlier);
+          wrote = h.wrote;
+          is_written = h.is_written;
+          left = h.left ∙ (sym (append-nil given) ∙ ap (λ (t : List ℕ). given ++ t) (sym none));
+          read = h.read;
+          was_read = h.was_read;
+          dropped = h.dropped;
+          unfed = h.unfed
+              ∙ ap (λ (t : List ℕ). t ++ x.unfed ++ h.dropped) (sym (append-nil front)
+              ∙ ap (λ (t : List ℕ). front ++ (t ++ [])) (sym nothing));
+          none = h.none;
+        }
 
   module _ {S W : Type 0} (written gave : S → Option (List ℕ)) (sent heard : W → Option (List Outgoing)) where
     -- It is served on where each connection is.

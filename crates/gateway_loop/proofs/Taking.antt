@@ -14,11 +14,11 @@ use Rattle.gateway_world.specs.Openings.{IsCounted}
 use Rattle.gateway_world.specs.Worlds.{WorldValue}
 use Rattle.gateway_loop.specs.Clients.{BeginsUnfed, ClientValue, Feeds, unserved}
 use Rattle.gateway_loop.specs.Delivery.{AreGiven}
-use Rattle.gateway_loop.specs.Places.{EachChanges, HasUnfed, IsPiece, OnlyAt}
+use Rattle.gateway_loop.specs.Places.{EachChanges, HasUnfed, IsEmptied, IsPiece, OnlyAt}
 use Rattle.gateway_loop.specs.Serving.{IsServing, heard_by, heard_in}
 use Rattle.gateway_loop.specs.Sockets.{Are, Grown}
 use Rattle.gateway_loop.specs.Telling.{NotesValue, Tells}
-use Rattle.gateway_loop.proofs.Bringing.{brings-none, brings-piece, counted-none, counted-other, counted-some, serving-opens, serving-takes}
+use Rattle.gateway_loop.proofs.Bringing.{brings-none, brings-piece, counted-none, counted-other, counted-some, serving-carries, serving-opens, serving-takes}
 use Rattle.gateway_loop.proofs.Changing.{not-same}
 use Rattle.gateway_loop.proofs.Growing.{are-same, grown-then}
 use Rattle.gateway_loop.proofs.Tellings.{last-same}
@@ -190,6 +190,19 @@ module _ (holds : Form → Form → List ℕ → List ℕ → Type 0) (takes : F
   serving-admits i o k out w v xs zs ys m n s n0 n1 h t count opens some g e wrote read goes quiet told =
       serving-opens holds takes written gave sent heard i out w v xs zs ys m n s n0 n1 h t opens
       (counted-some i.happening o k w.core v.core some count) g e wrote read goes
+      (subst (Grown (heard m) (heard n)) (subst (λ (x : Happening). [] ≡ heard_by x) (sym opens) refl) quiet) told
+
+  -- .. or a stream that was served before goes on as it
+  pub serving-resumes : (i : Input) (o : Option ℕ) (k : ℕ) (out : List Emission) (w v : WorldValue)
+      (xs us zs ys : List (Option (ClientValue S))) (m n : W) (d : ℕ) (x : ClientValue S) (n0 n1 : NotesValue)
+      → IsServing holds takes written gave sent heard w xs m n0 → Takes holds takes i w out v
+      → IsCounted i.happening o w.core v.core → i.happening ≡ H.Open → o ≡ Some k
+      → slice_get xs d ≡ Some (Some x) → IsEmptied d xs us → AreGiven out us zs → ys ≡ zs ++ Some x ∷ []
+      → Grown (sent m) (sent n) (goes_in out) → Grown (heard m) (heard n) [] → Tells out n0 n1
+      → IsServing holds takes written gave sent heard v ys n n1
+  serving-resumes i o k out w v xs us zs ys m n d x n0 n1 h t count opens some here e g is goes quiet told =
+      serving-carries holds takes written gave sent heard i out w v xs us zs ys m n d x n0 n1 h t opens
+      (counted-some i.happening o k w.core v.core some count) here e g is goes
       (subst (Grown (heard m) (heard n)) (subst (λ (x : Happening). [] ≡ heard_by x) (sym opens) refl) quiet) told
 
   -- no datagram came in

@@ -15,6 +15,7 @@ pub record ClientValue (S : Type 0) : Type 0 where
 abbrev pub is_leaving : Stage → Bool
 is_leaving At.Open = false
 is_leaving At.Closing = false
+is_leaving At.Parked = false
 is_leaving At.Leaving = true
 
 -- one of which nothing was read, and for which nothing was given out

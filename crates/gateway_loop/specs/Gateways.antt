@@ -8,7 +8,7 @@ use Rattle.gateway_model.specs.declared.input.When.{When}
 use Rattle.gateway_model.specs.Acts.{at}
 use Rattle.gateway_model.specs.Emissions.{emissions}
 use Rattle.gateway_model.specs.Rotating.{Rotates}
-use Rattle.gateway_world.specs.Worlds.{WorldValue, served_in, when_in}
+use Rattle.gateway_world.specs.Worlds.{WorldValue, IsAllAsked, served_in, when_in}
 use Rattle.gateway_loop.specs.Places.{ClientsValue, IsWritten}
 
 pub record GatewayValue (S W : Type 0) : Type 0 where
@@ -21,6 +21,11 @@ pub record GatewayValue (S W : Type 0) : Type 0 where
 pub record MayAsk {S W : Type 0} (n : ℕ) (g : GatewayValue S W) : Type 0 where
   pub written : IsWritten (slice_get g.clients.places n)
   pub idle : HasConn g.world.core.state.conns n None
+
+-- Its stream may go on as another connection: besides, all that came of it was asked.
+pub record MayGoOn {S W : Type 0} (n : ℕ) (g : GatewayValue S W) : Type 0 where
+  pub may_ask : MayAsk n g
+  pub asked : IsAllAsked n g.world
 
 abbrev pub rotation_at : When → Input
 rotation_at when = record { moment = when.moment; word = when.word; happening = H.Rotate }

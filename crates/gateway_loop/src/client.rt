@@ -4,9 +4,10 @@ ghost use Rattle.std.specs.Prelude.{◌≡◌, ◌≢◌, ◌≤◌, ◌<◌, �
 ghost use Rattle.gateway_loop.specs.Clients.{kept, unserved, BeginsUnfed, Leaves, Reads, Writes};
 ghost use Rattle.gateway_loop.specs.Telling.{head_len};
 
+use crate::host::Host;
 use crate::sockets::{Moved, Stream};
 use crate::stage::Stage;
-use crate::waits::{Bearing, On, Times, Waits};
+use crate::waits::{On, Times, Waits};
 use std::alloc::{AllocError, Global};
 use std::marker::Model;
 
@@ -182,24 +183,37 @@ impl<S: Stream> Client<S> {
         self.fed < self.came.len()
     }
 
-    /// Whether it is open between two requests, and may be closed there: nothing is left to be written
-    /// for it.
-    pub fn is_between(&self, bearing: Bearing) -> bool
+    /// Whether it is open, and nothing is left to be written for it.
+    pub fn is_written(&self) -> bool
         ensures { result ≡ true → self.now.left ≡ [] }
     {
-        if self.gone < self.out.len() || self.has_unfed() {
+        if self.gone < self.out.len() {
             return false;
         }
-        self.stage == Stage::Open && self.is_borne(bearing)
+        self.stage == Stage::Open
     }
 
-    /// Whether it is as far as is waited for.
-    fn is_borne(&self, bearing: Bearing) -> bool {
-        match bearing {
-            Bearing::Answer => !self.begun && self.times.is_changed(),
-            Bearing::Rest => !self.begun,
-            Bearing::Nothing => true,
+    /// Its stream is to go on as another connection: nothing is read of it meanwhile.
+    pub fn park(&mut self)
+        ensures { self.new ≡ self.old }
+    {
+        if let Stage::Open = self.stage {
+            self.stage = Stage::Parked;
         }
+    }
+
+    /// Its stream goes on as the connection with this number. False where there will be no signs of
+    /// it.
+    pub fn resume<H: Host<S>>(&mut self, host: &mut H, number: u32) -> bool
+        ensures { self.new ≡ self.old }
+    {
+        if let Stage::Parked = self.stage {
+            self.stage = Stage::Open;
+        }
+        self.readable = true;
+        self.begun = false;
+        self.times.change();
+        host.rename(number, &mut self.stream)
     }
 
     /// Reads once, by way of the buffer, if that may give something.

@@ -12,7 +12,7 @@ use crate::client::{Client, Flow};
 use crate::sockets::Stream;
 use crate::stage::Stage;
 use crate::told::{Notes, Told};
-use crate::waits::{Bearing, Waits};
+use crate::waits::Waits;
 use std::alloc::{AllocError, Global};
 use std::collections::VecDeque;
 use std::marker::Model;
@@ -23,12 +23,12 @@ use std::marker::Model;
 pub struct Clients<S> {
     alloc: Global,
     /// How many places come before those below: they are empty, and nothing is kept of them.
-    past: u32,
-    places: Vec<Option<Client<S>>>,
+    pub(crate) past: u32,
+    pub(crate) places: Vec<Option<Client<S>>>,
     /// Those that may have something to do. One may stand there twice.
     line: VecDeque<u32>,
     /// How many are open.
-    open: usize,
+    pub(crate) open: usize,
     /// What was given out, for who notes it.
     notes: Notes,
 }
@@ -111,7 +111,7 @@ impl<S: Stream + Drop> Clients<S> {
     }
 
     /// It is open no more, if it was.
-    fn count_out(&mut self, number: u32)
+    pub(crate) fn count_out(&mut self, number: u32)
         ensures { self.new ≡ self.old }
     {
         if self.stage(number) == Some(Stage::Open) {
@@ -294,12 +294,12 @@ impl<S: Stream + Drop> Clients<S> {
         }
     }
 
-    /// Whether the connection is open between two requests, and may be closed there.
-    pub fn is_between(&self, number: u32, bearing: Bearing) -> bool
+    /// Whether the connection is open, and nothing is left to be written for it.
+    pub fn is_written(&self, number: u32) -> bool
         ensures { result ≡ true → IsWritten (slice_get self.now.places number) }
     {
         match self.get(number) {
-            Some(client) => client.is_between(bearing),
+            Some(client) => client.is_written(),
             None => false,
         }
     }
@@ -370,7 +370,7 @@ impl<S: Stream + Drop> Clients<S> {
 }
 
 /// Which of so many places is that of the number, where so many others come before them.
-fn place_of(number: u32, past: u32, count: usize) -> Option<usize>
+pub(crate) fn place_of(number: u32, past: u32, count: usize) -> Option<usize>
     ensures some { IfSome result (λ p. (past + p ≡ number) × (p < count)) }
     ensures none { result ≡ None → (number < past) ⊎ (past + count ≤ number) }
 {

@@ -78,6 +78,7 @@ impl<R: Relation, S: Stream + Drop, W: Wire + Drop> Gateway<R, S, W> {
         }
         match self.clients.stage(number) {
             Some(Stage::Open) => self.find_piece(number, buffer),
+            Some(Stage::Parked) => Due::Nothing,
             Some(Stage::Closing) => Due::Farewell,
             Some(Stage::Leaving) => self.drop_some(number, buffer),
             None => Due::Nothing,

@@ -40,6 +40,11 @@ pub trait Host<S: Stream> {
     fn watch(&mut self, number: u32, stream: &mut S) -> bool
         ensures { stream.new ≡ stream.old };
 
+    /// Gives the signs of a connection that is watched under this number from now on. False where it
+    /// can't.
+    fn rename(&mut self, number: u32, stream: &mut S) -> bool
+        ensures { stream.new ≡ stream.old };
+
     /// Waits until there may be a sign, at most for so many milliseconds. False where it can't.
     fn wait(&mut self, most: Option<u64>) -> bool;
 

@@ -6,6 +6,7 @@
 //! Nothing is promised of when a socket is ready, so the loop bears any signs in any order.
 #![tactic(auto)]
 
+mod carrying;
 mod client;
 mod clients;
 mod connections;
@@ -17,6 +18,7 @@ mod hearing;
 mod host;
 mod inputs;
 mod looking;
+mod parking;
 mod patience;
 mod rotation;
 mod sockets;

@@ -8,7 +8,6 @@ ghost use Rattle.transformers.specs.Suits.{Suits};
 use crate::delivery::deliver;
 use crate::gateway::Gateway;
 use crate::sockets::{Stream, Wire};
-use crate::waits::Bearing;
 use gateway_world::{Advanced, Happening, Input, Output, When};
 use http_edge::Memory;
 use limits::{NEARLY_ALL_ENTRIES, NEARLY_ALL_LEN};
@@ -40,12 +39,12 @@ impl<R: Relation, S: Stream + Drop, W: Wire + Drop> Gateway<R, S, W> {
         entries >= NEARLY_ALL_ENTRIES || self.world.bytes() >= NEARLY_ALL_LEN
     }
 
-    /// Whether the connection is open between two requests, and may be closed there: it waits for no
-    /// answer, and nothing is left to be written for it.
-    pub fn is_between(&self, number: u32, bearing: Bearing) -> bool
+    /// Whether the connection may be closed: it is open and waits for no answer, and nothing is left
+    /// to be written for it.
+    pub fn is_written(&self, number: u32) -> bool
         ensures { result ≡ true → MayAsk number self.now }
     {
-        self.world.is_idle(number) && self.clients.is_between(number, bearing)
+        self.world.is_idle(number) && self.clients.is_written(number)
     }
 
     /// Whether the connection waits for no answer, though it is open.
@@ -53,7 +52,7 @@ impl<R: Relation, S: Stream + Drop, W: Wire + Drop> Gateway<R, S, W> {
         self.world.is_idle(number)
     }
 
-    /// Closes the connection between two requests: it takes leave.
+    /// Closes the connection: it takes leave.
     pub fn dismiss(
         self,
         bank: &Bank<R>,

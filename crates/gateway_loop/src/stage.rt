@@ -5,6 +5,9 @@
 pub enum Stage {
     /// What comes is read, asked and answered.
     Open,
+    /// The journal is turned over: nothing is read of it, and then its stream goes on as another
+    /// connection.
+    Parked,
     /// The proxy closed it: it takes leave once all is written.
     Closing,
     /// All is written, and its client told so: what comes is dropped, for a while (RFC 9112 section

@@ -1,6 +1,6 @@
-//! The loop turns its journal over each time that it is nearly full: connections are closed between
-//! two requests, and when nobody is connected and no exchange is open the journal is brought to its
-//! seal and given out.
+//! The loop turns its journal over each time that it is nearly full: the world's connections are closed
+//! between two requests, and when none is left and no exchange is open the journal is brought to its
+//! seal and given out. Then the clients' streams go on as other connections.
 
 ghost use Rattle.std.specs.Prelude.{◌≡◌, IfOk};
 ghost use Rattle.transformers.specs.Suits.{Suits};
@@ -10,7 +10,6 @@ use crate::rotation::{Padded, Rotated};
 use crate::sockets::{Stream, Wire};
 use crate::stage::Stage;
 use crate::turns::Loop;
-use crate::waits::Bearing;
 use gateway_world::{Output, RotateFault};
 use http_edge::Memory;
 use journal_book::Journal;
@@ -19,10 +18,7 @@ use transformers::{Bank, Relation};
 /// How long it is waited until connections are looked at again, in milliseconds.
 pub(crate) const LOOK: u64 = 5;
 
-/// How long the next request of each connection is waited for, in milliseconds.
-const QUIET: u64 = 100;
-
-/// How long a request that was begun is waited for, and a client that takes no answer.
+/// How long a request that was begun is waited for, and a client that takes no answer, in milliseconds.
 const PATIENCE: u64 = 10_000;
 
 /// How long it is waited until a turn that was refused is tried again, in milliseconds.
@@ -41,21 +37,14 @@ pub(crate) struct Turning {
 }
 
 impl Turning {
-    /// For what connections are still waited at this moment.
-    fn bearing(self, moment: u64) -> Bearing {
-        let time = moment.saturating_sub(self.since);
-        if time >= PATIENCE {
-            Bearing::Nothing
-        } else if time >= QUIET {
-            Bearing::Rest
-        } else {
-            Bearing::Answer
-        }
+    /// Whether connections are waited for no more at this moment.
+    fn is_late(self, moment: u64) -> bool {
+        moment.saturating_sub(self.since) >= PATIENCE
     }
 }
 
 impl<R: Relation, S: Stream + Drop, W: Wire + Drop> Loop<R, S, W> {
-    /// Whether connections are closed, since the journal is nearly full.
+    /// Whether the journal is turned over, since it is nearly full: no connection is taken.
     pub fn is_turning(&self) -> bool {
         self.turning.is_some()
     }
@@ -80,8 +69,8 @@ impl<R: Relation, S: Stream + Drop, W: Wire + Drop> Loop<R, S, W> {
         let Some(turning) = it.begun_turning() else {
             return Ok(it);
         };
-        let bearing = turning.bearing(it.moment);
-        it = it.dismiss_all(bank, host, bearing)?;
+        let late = turning.is_late(it.moment);
+        it = it.dismiss_all(bank, host, late)?;
         if it.moment < turning.again || it.gateway.next_due().is_some() || it.is_connected() {
             return Ok(it);
         }
@@ -98,18 +87,8 @@ impl<R: Relation, S: Stream + Drop, W: Wire + Drop> Loop<R, S, W> {
                 since: self.moment,
                 again: 0,
             });
-            self.look_at_all();
         }
         self.turning
-    }
-
-    /// Looks at all connections: who is answered from now on is answered since.
-    fn look_at_all(&mut self)
-        ensures { self.new.gateway ≡ self.old.gateway }
-    {
-        'each: for number in self.gateway.first_number()..self.gateway.next_number() {
-            self.gateway.look(number, self.moment);
-        }
     }
 
     /// Whether a connection is open.
@@ -121,23 +100,28 @@ impl<R: Relation, S: Stream + Drop, W: Wire + Drop> Loop<R, S, W> {
         connected
     }
 
-    /// Closes the connections that are between two requests; and in the end those that don't go on.
+    /// Parks the connections that are between two requests; and closes those that don't get so far
+    /// where it is late.
     fn dismiss_all<H: Host<S>>(
         self,
         bank: &Bank<R>,
         host: &mut H,
-        bearing: Bearing,
+        late: bool,
     ) -> Result<Loop<R, S, W>, Memory>
         requires suits { Suits R.holds R.takes self.gateway.world.rules.routes bank.now }
         ensures rules { IfOk result (λ l. l.gateway.world.rules ≡ self.gateway.world.rules) }
     {
         let mut it = self;
         'each: for number in it.gateway.first_number()..it.gateway.next_number() {
-            if it.gateway.is_between(number, bearing) {
+            if it.gateway.is_between(number) {
+                let when = it.when(host);
+                it.gateway = it.gateway.park(bank, when, number)?;
+                it.parked = true;
+            } else if late && it.gateway.is_written(number) {
                 let when = it.when(host);
                 it.gateway = it.gateway.dismiss(bank, when, number)?;
                 it.farewells.push(number, it.moment)?;
-            } else if bearing == Bearing::Nothing && it.gateway.is_idle(number) {
+            } else if late && it.gateway.is_idle(number) {
                 let when = it.when(host);
                 it.gateway = it.gateway.end(bank, when, number)?;
             }

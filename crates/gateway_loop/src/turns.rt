@@ -77,6 +77,8 @@ pub struct Loop<R: Relation, S: Stream, W: Wire> {
     pub(crate) journal: Option<Journal<R>>,
     /// No numbers are left for the next journal.
     pub(crate) spent: bool,
+    /// Connections were parked.
+    pub(crate) parked: bool,
     /// Those that were given up in the last turn.
     pub(crate) given_up: Vec<GivenUp>,
 }
@@ -103,6 +105,7 @@ impl<R: Relation, S: Stream + Drop, W: Wire + Drop> Loop<R, S, W> {
             turning: None,
             journal: None,
             spent: false,
+            parked: false,
             given_up,
         })
     }
@@ -142,15 +145,18 @@ impl<R: Relation, S: Stream + Drop, W: Wire + Drop> Loop<R, S, W> {
 
     /// Whether there may be connections to be taken.
     fn may_take(&self) -> bool {
-        self.clients && self.moment >= self.resumes && self.turning.is_none()
+        let wanted = self.clients && self.moment >= self.resumes && self.turning.is_none();
+        wanted || self.may_resume()
     }
 
-    /// Takes the connections that are there, and then lets all go on.
+    /// Goes on with the connections that were parked, takes those that are there, and then lets all go
+    /// on.
     fn take_all<H: Host<S>>(self, bank: &Bank<R>, host: &mut H) -> Result<Loop<R, S, W>, Memory>
         requires suits { Suits R.holds R.takes self.gateway.world.rules.routes bank.now }
         ensures rules { IfOk result (λ l. l.gateway.world.rules ≡ self.gateway.world.rules) }
     {
-        let it = self.take_clients(bank, host)?;
+        let it = self.resume_all(bank, host)?;
+        let it = it.take_clients(bank, host)?;
         it.serve_all(bank, host)
     }
 
@@ -193,7 +199,7 @@ impl<R: Relation, S: Stream + Drop, W: Wire + Drop> Loop<R, S, W> {
     /// a farewell is over, clients are taken again, or connections are looked at whose journal is
     /// turned over.
     fn longest_wait(&self) -> Option<u64> {
-        if self.wire || self.gateway.in_line() > 0 {
+        if self.wire || self.gateway.in_line() > 0 || self.may_resume() {
             return Some(0);
         }
         let resumes = match self.turning {

@@ -45,11 +45,6 @@ impl Times {
         self.went = true;
     }
 
-    /// Whether that was so since it was looked at last.
-    pub fn is_changed(self) -> bool {
-        self.changed
-    }
-
     /// For how many milliseconds it has waited for the same, at this moment.
     pub fn waited(self, moment: u64) -> u64 {
         if self.changed {
@@ -79,17 +74,6 @@ impl Times {
         self.changed = false;
         self.went = false;
     }
-}
-
-/// For what a connection is still waited that is to be closed.
-#[derive(Clone, Copy, Debug, PartialEq, Eq)]
-pub enum Bearing {
-    /// One answer more than when it was looked at last.
-    Answer,
-    /// The answer to a request that was begun.
-    Rest,
-    /// Nothing.
-    Nothing,
 }
 
 /// What a connection waits for, and for how long.

@@ -32,6 +32,8 @@ const WAKER: Token = Token(0xffff_ffff_ffff_fffc);
 pub struct Arrival {
     pub number: u32,
     pub address: SocketAddr,
+    /// It was connected before, and goes on under this number.
+    pub carried: bool,
 }
 
 /// The system, as the loop sees it.
@@ -89,6 +91,24 @@ impl<W: Clock + RandomSource + Drop> System<W> {
     }
 }
 
+impl<W: Clock + RandomSource + Drop> System<W> {
+    /// Keeps who came or goes on, until that is looked at. False where memory is refused.
+    fn note_arrival(&mut self, number: u32, address: SocketAddr, carried: bool) -> bool {
+        let arrival = Arrival {
+            number,
+            address,
+            carried,
+        };
+        self.arrivals.push(arrival).is_ok()
+    }
+}
+
+/// Which signs are wanted of a connection, and under which name.
+fn wanted(number: u32) -> (Token, Interest) {
+    let both = Interest::READABLE | Interest::WRITABLE;
+    (Token(number as usize), both)
+}
+
 /// The sign that an event is.
 fn sign_of(event: &Event) -> Sign {
     let token = event.token();
@@ -110,15 +130,24 @@ impl<W: Clock + RandomSource + Drop> Host<Client> for System<W> {
     }
 
     fn watch(&mut self, number: u32, stream: &mut Client) -> bool {
-        let address = stream.address;
-        if self.arrivals.push(Arrival { number, address }).is_err() {
+        if !self.note_arrival(number, stream.address, false) {
             return false;
         }
-        let both = Interest::READABLE | Interest::WRITABLE;
-        let token = Token(number as usize);
+        let (token, both) = wanted(number);
         self.poll
             .registry()
             .register(&mut stream.stream, token, both)
+            .is_ok()
+    }
+
+    fn rename(&mut self, number: u32, stream: &mut Client) -> bool {
+        if !self.note_arrival(number, stream.address, true) {
+            return false;
+        }
+        let (token, both) = wanted(number);
+        self.poll
+            .registry()
+            .reregister(&mut stream.stream, token, both)
             .is_ok()
     }
 

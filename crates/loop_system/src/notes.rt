@@ -89,7 +89,7 @@ impl<'a> Notes<'a> {
         self.seen = count;
     }
 
-    /// Another journal begins, when nobody is connected.
+    /// Another journal begins, when the world has no connection.
     pub fn begin_anew(&mut self) {
         self.seats.clear();
         self.seen = 0;
@@ -109,9 +109,10 @@ impl<'a> Notes<'a> {
         }
     }
 
-    /// One is connected or was turned away. The first of some who were is noted.
+    /// One is connected or was turned away. The first of some who were is noted. Who was connected
+    /// before is counted once.
     fn seat<V: Log>(&mut self, rt: &V, arrival: Arrival, taken: bool) {
-        if let Some(watch) = self.watch {
+        if let (Some(watch), false) = (self.watch, arrival.carried) {
             watch.count_connection(taken);
         }
         if taken && self.wants_told() {

@@ -38,7 +38,7 @@ impl Shelf {
     pub fn look<V: Log + Clock>(&mut self, rt: &V, turning: bool) {
         if turning && !self.noted {
             let number = self.number;
-            info!(rt; target: "hcproxy", "journal {number} is nearly full: connections are closed");
+            info!(rt; target: "hcproxy", "journal {number} is nearly full: no connection is taken");
             self.noted = true;
             self.begin = Instant::now(rt).ok();
         }

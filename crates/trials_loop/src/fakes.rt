@@ -278,6 +278,10 @@ impl<'a> Host<Tape<'a>> for Chance<'a> {
         true
     }
 
+    fn rename(&mut self, _number: u32, _stream: &mut Tape<'a>) -> bool {
+        true
+    }
+
     fn wait(&mut self, _most: Option<u64>) -> bool {
         self.signs = self.dice.below(8);
         self.moment = self.moment.saturating_add(1);

@@ -37,3 +37,9 @@ invariant_of-self-in-None g c =
     serving-writes g.R.Relation.holds g.R.Relation.takes g.S.Stream.written g.S.Stream.gave g.W.Wire.sent g.W.Wire.heard
     c.self.inside.world c.args.number c.self.inside.clients.places c.flush.new.self.places c.self.inside.wire
     c.self.inside.clients.told c.flush.new.self.told c.self.invariant c.flush.ensures.told c.flush.ensures.writes
+
+pub invariant_of-self-in-Some-Parked : goal.invariant_of-self-in-Some-Parked
+invariant_of-self-in-Some-Parked g c =
+    serving-writes g.R.Relation.holds g.R.Relation.takes g.S.Stream.written g.S.Stream.gave g.W.Wire.sent g.W.Wire.heard
+    c.self.inside.world c.args.number c.self.inside.clients.places c.flush.new.self.places c.self.inside.wire
+    c.self.inside.clients.told c.flush.new.self.told c.self.invariant c.flush.ensures.told c.flush.ensures.writes

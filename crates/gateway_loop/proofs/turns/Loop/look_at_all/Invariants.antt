@@ -1,6 +1,0 @@
--- A look changes nothing.
-use Rattle.std.proofs.Common.{◌≡◌}
-use Rattle.gateway_loop.proofs.turns.Loop.look_at_all.Given as goal
-
-abbrev pub invariant-each : goal.invariant-each
-invariant-each g l = l.self.gateway ≡ l.initial.self.gateway

@@ -1,0 +1,147 @@
+//! A client's stream goes on as another connection of the world, so that the journal can be turned
+//! over beside it.
+
+ghost use Rattle.std.specs.Prelude.{◌≡◌, true, IfOk};
+ghost use Rattle.gateway_loop.specs.Gateways.{MayGoOn};
+ghost use Rattle.transformers.specs.Suits.{Suits};
+
+use crate::delivery::deliver;
+use crate::gateway::Gateway;
+use crate::host::Host;
+use crate::sockets::{Stream, Wire};
+use crate::stage::Stage;
+use crate::turns::Loop;
+use gateway_world::{Advanced, Happening, Input, When};
+use http_edge::Memory;
+use transformers::{Bank, Relation};
+
+impl<R: Relation, S: Stream + Drop, W: Wire + Drop> Gateway<R, S, W> {
+    /// Whether the connection is open between two requests, so that its stream may go on as another
+    /// one: it waits for no answer, nothing is left to be written for it, and all that was an input
+    /// was asked.
+    pub fn is_between(&self, number: u32) -> bool
+        ensures { result ≡ true → MayGoOn number self.now }
+    {
+        self.world.is_between(number) && self.clients.is_written(number)
+    }
+
+    /// Closes the connection for the world between two requests: its stream is to go on as another.
+    pub fn park(self, bank: &Bank<R>, when: When, number: u32) -> Result<Gateway<R, S, W>, Memory>
+        requires suits { Suits R.holds R.takes self.world.rules.routes bank.now }
+        requires idle { MayGoOn number self }
+        ensures rules { IfOk result (λ g. g.world.rules ≡ self.world.rules) }
+    {
+        let Gateway {
+            alloc,
+            world,
+            mut clients,
+            mut wire,
+        } = self;
+        clients.park(number);
+        let mut outputs = Vec::new(alloc);
+        let input = Input {
+            moment: when.moment,
+            word: when.word,
+            happening: Happening::Close(number),
+        };
+        let Advanced { world, opened: _ } = world.advance(bank, input, &mut outputs)?;
+        deliver(outputs, &mut clients, &mut wire)?;
+        Ok(Gateway {
+            alloc,
+            world,
+            clients,
+            wire,
+        })
+    }
+
+    /// Opens a connection for the stream of this one, which goes on as it. Where none opens, or there
+    /// will be no signs of it, the stream ends.
+    pub fn resume<H: Host<S>>(
+        self,
+        bank: &Bank<R>,
+        when: When,
+        number: u32,
+        host: &mut H,
+    ) -> Result<Gateway<R, S, W>, Memory>
+        requires suits { Suits R.holds R.takes self.world.rules.routes bank.now }
+        ensures rules { IfOk result (λ g. g.world.rules ≡ self.world.rules) }
+    {
+        let next = self.next_number();
+        let Gateway {
+            alloc,
+            world,
+            mut clients,
+            mut wire,
+        } = self;
+        let Some(mut client) = clients.take(number) else {
+            return Ok(Gateway {
+                alloc,
+                world,
+                clients,
+                wire,
+            });
+        };
+        if !client.resume(host, next) {
+            return Ok(Gateway {
+                alloc,
+                world,
+                clients,
+                wire,
+            });
+        }
+        let mut outputs = Vec::new(alloc);
+        let input = Input {
+            moment: when.moment,
+            word: when.word,
+            happening: Happening::Open,
+        };
+        let Advanced { world, opened } = world.advance(bank, input, &mut outputs)?;
+        deliver(outputs, &mut clients, &mut wire)?;
+        let Some(opened) = opened else {
+            return Ok(Gateway {
+                alloc,
+                world,
+                clients,
+                wire,
+            });
+        };
+        clients.push_back(client)?;
+        clients.line_up(opened)?;
+        Ok(Gateway {
+            alloc,
+            world,
+            clients,
+            wire,
+        })
+    }
+}
+
+impl<R: Relation, S: Stream + Drop, W: Wire + Drop> Loop<R, S, W> {
+    /// Goes on with the streams of the connections that were parked, once the journal is turned over.
+    pub(crate) fn resume_all<H: Host<S>>(
+        self,
+        bank: &Bank<R>,
+        host: &mut H,
+    ) -> Result<Loop<R, S, W>, Memory>
+        requires suits { Suits R.holds R.takes self.gateway.world.rules.routes bank.now }
+        ensures rules { IfOk result (λ l. l.gateway.world.rules ≡ self.gateway.world.rules) }
+    {
+        let mut it = self;
+        if !it.may_resume() {
+            return Ok(it);
+        }
+        it.parked = false;
+        'each: for number in it.gateway.first_number()..it.gateway.next_number() {
+            if it.gateway.stage(number) == Some(Stage::Parked) {
+                let when = it.when(host);
+                it.gateway = it.gateway.resume(bank, when, number, host)?;
+            }
+        }
+        Ok(it)
+    }
+
+    /// Whether connections are parked, and the journal isn't turned over now.
+    pub(crate) fn may_resume(&self) -> bool {
+        self.parked && self.turning.is_none()
+    }
+}

@@ -1,0 +1,48 @@
+//! The connections whose streams go on as others.
+
+ghost use Rattle.std.specs.Prelude.{◌≡◌, ◌++◌, ◌∷◌, [], Some, slice_get, IfSome, OnOk};
+ghost use Rattle.gateway_loop.specs.Places.{IsEmptied};
+
+use crate::client::Client;
+use crate::clients::{Clients, place_of};
+use crate::sockets::Stream;
+use std::alloc::AllocError;
+
+impl<S: Stream + Drop> Clients<S> {
+    /// Takes one that was served before, under the next number.
+    pub fn push_back(&mut self, client: Client<S>) -> Result<(), AllocError>
+        ensures { OnOk result (self.new
+            ≡ record self.old { places = self.old.places ++ Some client ∷ [] }) }
+    {
+        self.places.push(Some(client))?;
+        self.open = self.open.saturating_add(1);
+        Ok(())
+    }
+
+    /// The stream of the connection is to go on as another one.
+    pub fn park(&mut self, number: u32)
+        ensures { self.new ≡ self.old }
+    {
+        self.count_out(number);
+        let Some(place) = place_of(number, self.past, self.places.len()) else {
+            return;
+        };
+        if let Some(client) = &mut self.places[place] {
+            client.park();
+        }
+    }
+
+    /// Takes the connection out, if it is there.
+    pub fn take(&mut self, number: u32) -> Option<Client<S>>
+        ensures was { IfSome result (λ c. slice_get self.old.places number ≡ Some (Some c)) }
+        ensures ends { IsEmptied number self.old.places self.new.places }
+        ensures line { self.new.line ≡ self.old.line }
+        ensures told { self.new.told ≡ self.old.told }
+    {
+        self.count_out(number);
+        match place_of(number, self.past, self.places.len()) {
+            Some(place) => self.places[place].take(),
+            None => None,
+        }
+    }
+}
