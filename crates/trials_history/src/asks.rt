@@ -42,6 +42,22 @@ fn a_request_is_sent_as_its_datagram(rt: HostRuntime) {
     assert!(rt; light_is_sent_as(rt.alloc(), want) == Ok(true));
 }
 
+/// With the ID 0 and no token, it is asked so whether the light that has this ETag is valid still.
+fn light_is_validated_as(alloc: Global, want: &[u8]) -> Result<bool, AllocError> {
+    let mapped = light(alloc)?;
+    match mapped.validate_request(alloc, b"on", 0, &Token::new(&[]))? {
+        Some(sent) => Ok(sent.as_slice() == want),
+        None => Ok(false),
+    }
+}
+
+#[test]
+fn what_is_stale_is_asked_about_by_its_etag(rt: HostRuntime) {
+    // the header, Uri-Host, ETag, and Uri-Path
+    let want = b"\x40\x01\0\0\x3d\0s.example.com\x12on\x75light";
+    assert!(rt; light_is_validated_as(rt.alloc(), want) == Ok(true));
+}
+
 /// The request is refused for this cause, with this status.
 fn is_refused(mapped: &Mapped<Nothing>, cause: Cause, number: u16) -> bool {
     match mapped.meaning() {

@@ -2,9 +2,11 @@
 
 use ask_model::Cause;
 use blockwise::{Answered, LARGEST_SZX, Upload, is_only_piece};
-use coap_codec::{Message, decode, is_forwardable};
+use coap_codec::{Bytes, Message, decode, is_forwardable};
 use journal_book::{Grounds, Numbers};
-use reply_reading::{Finding, Outcome, Response, answer_of, fetched_of, is_tellable};
+use reply_reading::{
+    Finding, Outcome, Response, answer_of, confirms, fetched_of, is_tellable, renewed,
+};
 use std::alloc::Global;
 use std::sync::Arc;
 
@@ -206,4 +208,60 @@ fn what_pieces_say_together(rt: HostRuntime) {
     assert!(rt; said.code == 0x45 && said.max_age == Some(60));
     let whole = b"0123456789abcdefghijklmnopqrstuvwx";
     assert!(rt; said.body.as_slice() == whole.as_slice());
+}
+
+/// A datagram, and whether it says that what has the ETag "e" is valid still.
+static VALID: [(&[u8], bool); 8] = [
+    // 2.03 with this ETag, with another, with a longer one, and with none
+    (b"\x62\x43\x7d\x34te\x41e", true),
+    (b"\x62\x43\x7d\x34te\x41f", false),
+    (b"\x62\x43\x7d\x34te\x42ee", false),
+    (b"\x62\x43\x7d\x34te", false),
+    // 2.05 with this ETag
+    (b"\x62\x45\x7d\x34te\x41e\xffon", false),
+    // unknown options: safe to forward, unsafe, critical
+    (b"\x62\x43\x7d\x34te\x41e\xe1\x06\xf3x", true),
+    (b"\x62\x43\x7d\x34te\x41e\xe1\x06\xf5x", false),
+    (b"\x62\x43\x7d\x34te\x41e\xe1\x06\xf4x", false),
+];
+
+fn valid_rows() -> &'static [(&'static [u8], bool)] {
+    &VALID
+}
+
+/// Whether the datagram says that what has the ETag "e" is valid still.
+fn confirms_e(alloc: Global, bytes: &[u8]) -> Option<bool> {
+    let message = decode(alloc, bytes).ok()?;
+    let tag = Some(Bytes::from_slice(alloc, b"e").ok()?);
+    Some(confirms(&tag, &message) && !confirms(&None, &message))
+}
+
+#[test]
+fn a_2_03_confirms_what_has_its_etag(rt: HostRuntime) {
+    for &(bytes, valid) in valid_rows() {
+        assert!(rt; confirms_e(rt.alloc(), bytes) == Some(valid), "{bytes:?}");
+    }
+}
+
+/// The response that the first datagram is, as the other one renews it.
+fn renewed_in(alloc: Global, first: &[u8], valid: &[u8]) -> Option<Response> {
+    let response = response_in(alloc, first)?;
+    let message = decode(alloc, valid).ok()?;
+    renewed(alloc, &response, &message).ok()
+}
+
+#[test]
+fn a_2_03_renews_the_age_and_the_format_that_it_names(rt: HostRuntime) {
+    // ETag, Content-Format 258 and Max-Age 60
+    let full = b"\x42\x45\x12\x99te\x42\x01\x02\x82\x01\x02\x21\x3c\xffon";
+    // ETag and Max-Age 30
+    let aged = b"\x62\x43\x7d\x34te\x42\x01\x02\xa1\x1e";
+    let said = renewed_in(rt.alloc(), full, aged).expect(&rt, "a response");
+    assert!(rt; said.code == 0x45 && said.body.as_slice() == b"on".as_slice());
+    assert!(rt; said.format == Some(0x0102) && said.max_age == Some(30));
+    assert!(rt; has_tag(&said, &[1, 2]));
+    // ETag and Content-Format 50
+    let named = b"\x62\x43\x7d\x34te\x42\x01\x02\x81\x32";
+    let said = renewed_in(rt.alloc(), full, named).expect(&rt, "a response");
+    assert!(rt; said.format == Some(50) && said.max_age.is_none());
 }
