@@ -7,8 +7,9 @@
 //! history says. A call is made of these, and keeps the journal legal and at rest. A call that
 //! doesn't fit seals the journal instead.
 //!
-//! The definitions stand in `specs/`, to be read in this order: `State`, `Reads`, `Steps`, `Laws`;
-//! `Resting`, `Calls`, `Keeping`; `Room`, `Sealing`; `Growing`.
+//! The definitions stand in `specs/`, to be read in this order: `State`, `Watching`, `Steps`,
+//! `Matters`, `Hearing`, `Reads`, `Laws`; `Resting`, `Calls`, `Keeping`, `Entering`; `Room`,
+//! `Sealing`; `Growing`, `Due`, `Rotating`.
 #![tactic(auto)]
 
 mod growing;

@@ -25,6 +25,6 @@ pub use laws::{
 };
 pub use worked::{
     spoiled_answers, spoiled_sendings, worked_carried, worked_copies, worked_endings, worked_late,
-    worked_messages, worked_pieces, worked_readers, worked_store, worked_updates, worked_uploads,
-    worked_watches,
+    worked_messages, worked_pieces, worked_readers, worked_renewed, worked_store, worked_updates,
+    worked_uploads, worked_watches,
 };
