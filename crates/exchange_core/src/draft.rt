@@ -15,9 +15,9 @@ ghost use Rattle.exchange_core.specs.Drafts.{AllKeep, Drafts, IsAlone, KeepsConn
 use crate::answer::Answer;
 use crate::noting::note_all;
 use crate::outgoing::Datagram;
-use coap_codec::Bytes;
 use exchange_model::Conn;
 use journal_book::{Entry, Event};
+use message_layer::Bytes;
 use std::alloc::{AllocError, Global};
 use std::collections::VecDeque;
 use std::marker::Model;
@@ -174,7 +174,7 @@ impl<R: Relation> Draft<R> {
         &mut self,
         moment: u64,
         peer: Peer,
-        bytes: &[u8],
+        bytes: &Bytes,
         timeout: Option<u32>,
     ) -> Result<(), AllocError>
         requires { self.old.next < 4294967295 }
@@ -192,13 +192,13 @@ impl<R: Relation> Draft<R> {
         &mut self,
         moment: u64,
         peer: Peer,
-        bytes: &[u8],
+        bytes: &Bytes,
         timeout: Option<u32>,
     ) -> Result<(), AllocError>
         requires { self.old.next < 4294967295 }
         ensures { OnOk result (self.new ≡ draft_sending moment peer bytes.now timeout self.old) }
     {
-        let kept = Arc::new(self.alloc, Bytes::from_slice(self.alloc, bytes)?)?;
+        let kept = Arc::try_clone(bytes.shared())?;
         let bytes = Arc::try_clone(&kept)?;
         self.add(Entry {
             moment,

@@ -59,7 +59,7 @@ fn draft_reply<R: Relation>(
     ensures answers { OnOk result (draft.new.answers ≡ draft.old.answers) }
 {
     if let Some(bytes) = reply {
-        draft.send(moment, peer, bytes.as_slice(), None)?;
+        draft.send(moment, peer, bytes, None)?;
     }
     Ok(())
 }

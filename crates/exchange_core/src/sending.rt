@@ -27,7 +27,7 @@ pub fn draft_first<R: Relation>(
 {
     if let Some(first) = first {
         let timeout = first.message.timeout as u32;
-        draft.send(moment, peer, first.datagram.as_slice(), Some(timeout))?;
+        draft.send(moment, peer, &first.datagram, Some(timeout))?;
     }
     Ok(())
 }

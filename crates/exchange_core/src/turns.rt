@@ -35,7 +35,7 @@ fn draft_first<R: Relation>(
 {
     if let Some(first) = next {
         let timeout = first.message.timeout as u32;
-        draft.send(moment, peer, first.datagram.as_slice(), Some(timeout))?;
+        draft.send(moment, peer, &first.datagram, Some(timeout))?;
     }
     Ok(())
 }
@@ -57,7 +57,7 @@ fn draft_turn<R: Relation>(
 {
     match turn {
         Ticking::Rests => {}
-        Ticking::Copies(bytes) => draft.send(moment, peer, bytes.as_slice(), None)?,
+        Ticking::Copies(bytes) => draft.send(moment, peer, bytes, None)?,
         Ticking::GivesUp(_, next) => draft_first(draft, peer, next, moment)?,
     }
     Ok(())

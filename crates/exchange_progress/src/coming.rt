@@ -76,6 +76,18 @@ fn begin_anew(restarts: u8, number: u32) -> Coming
     })
 }
 
+/// The numbers, and one more at the end.
+fn with_last(alloc: Global, numbers: Vec<u32>, number: u32) -> Result<Numbers, AllocError>
+    ensures { IfOk result (λ n. n ≡ numbers.items ++ number ∷ []) }
+{
+    if numbers.is_empty() {
+        return Numbers::from_slice(alloc, &[number]);
+    }
+    let mut numbers = numbers;
+    numbers.push(number)?;
+    Numbers::from_slice(alloc, &numbers)
+}
+
 /// The piece is the last: all of them are one response.
 fn join<R: Relation>(
     alloc: Global,
@@ -89,12 +101,8 @@ fn join<R: Relation>(
         (fetched_in journal.now.entries opening pieces.now ++ reply_at number (content m) ∷ [])))) }
     ensures sayable { IfOk result AsksSayable }
 {
-    let Earlier {
-        mut numbers,
-        messages,
-    } = fetched_in(alloc, journal, pieces, opening)?;
-    numbers.push(number)?;
-    let numbers = Numbers::from_slice(alloc, &numbers)?;
+    let Earlier { numbers, messages } = fetched_in(alloc, journal, pieces, opening)?;
+    let numbers = with_last(alloc, numbers, number)?;
     let finding = fetched_of(alloc, numbers, messages, m)?;
     Ok(Coming::Ends(Ended::Found(finding)))
 }
@@ -112,9 +120,8 @@ fn answer<R: Relation>(
         (fetched_in journal.now.entries opening pieces.now ++ reply_at number (content m) ∷ [])))) }
     ensures sayable { IfOk result AsksSayable }
 {
-    let Earlier { mut numbers, .. } = fetched_in(alloc, journal, pieces, opening)?;
-    numbers.push(number)?;
-    let numbers = Numbers::from_slice(alloc, &numbers)?;
+    let Earlier { numbers, .. } = fetched_in(alloc, journal, pieces, opening)?;
+    let numbers = with_last(alloc, numbers, number)?;
     let finding = answer_of(alloc, numbers, m)?;
     Ok(Coming::Ends(Ended::Found(finding)))
 }

@@ -10,5 +10,5 @@ returns-clause-coming g c =
     let a = c.args in
     joined-found (fetched_in a.journal.now.entries a.opening a.pieces.now) a.number (content a.m)
     (map content c.in_ok-numbers.field-0.messages.items) c.in_ok-numbers-2.numbers c.in_ok-finding.finding
-    c.in_ok-finding.ensures c.in_ok-numbers.ensures.messages (c.in_ok-numbers-2.ensures ∙ (c.deref.ensures.value ∙ (c.in_ok-push.ensures.items
-    ∙ ap (λ (ns : List ℕ). ns ++ a.number ∷ []) c.in_ok-numbers.ensures.numbers)))
+    c.in_ok-finding.ensures c.in_ok-numbers.ensures.messages (c.in_ok-numbers-2.ensures
+    ∙ ap (λ (ns : List ℕ). ns ++ a.number ∷ []) c.in_ok-numbers.ensures.numbers)
