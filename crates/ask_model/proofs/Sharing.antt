@@ -1,12 +1,13 @@
 -- Requests that ask the same: their messages are equal, and what one asks the same as, the other does too.
 use Rattle.std.proofs.Common.{◌≡◌, ℕ, Bool, true, false, cond, ◌&&◌, List, [], ◌∷◌, length, Option, Some, None, refl, sym, ap, ◌∙◌, arith}
-use Rattle.std.specs.Prelude.{is_none, ◌==◌}
+use Rattle.std.specs.Prelude.{is_none, unwrap_or, ◌==◌}
 use Rattle.std.proofs.lemmas.Bool.{and_parts}
 use Rattle.std.proofs.lemmas.Bool.Decides.{Decides-eqb}
+use Rattle.cache_key.specs.Digests.{digests_of}
 use Rattle.cache_key.specs.Keys.{CacheKey, same_key}
 use Rattle.cache_key.proofs.CallerLemmas.{keys_decided}
 use Rattle.ask_model.specs.Requests.{CoapRequest, Sense, Requests, Refuses, Manner, Plainly, Observing, Validating, asking}
-use Rattle.ask_model.specs.Sharing.{asked_key, asked_place, is_get, asks_same, asks_same_by, key_read}
+use Rattle.ask_model.specs.Sharing.{asked_digests, asked_key, asked_place, is_get, asks_same, asks_same_by, key_read}
 
 -- a GET has the method 1, and neither format nor body
 record IsGet (q : CoapRequest) : Type 0 where
@@ -101,3 +102,15 @@ pub both-read : (s u : Sense) (k l : CacheKey) → Some k ≡ key_read s → Som
 both-read (Requests q) (Requests r) k l e f = both-gets (is_get q) (is_get r) k l (asked_key q) (asked_key r) e f
 both-read (Requests q) (Refuses cause status) k l e f = absurd cc
 both-read (Refuses cause status) u k l e f = absurd cc
+
+-- What is read has the digests that were made of what is asked.
+pub read_digests : (s : Sense) (key : CacheKey) → Some key ≡ key_read s → asked_digests s ≡ digests_of key
+read_digests (Requests q) key e = by (is_get q) e
+  where
+    by : (b : Bool) → Some key ≡ cond b (Some (asked_key q)) None → digests_of (asked_key q) ≡ digests_of key
+    by true is = ap digests_of (some_same (sym is))
+      where
+        some_same : Some (asked_key q) ≡ Some key → asked_key q ≡ key
+        some_same k = ap (λ (o : Option CacheKey). unwrap_or o key) k
+    by false is = absurd (cc is)
+read_digests (Refuses cause status) key e = absurd (cc e)

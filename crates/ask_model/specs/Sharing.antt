@@ -1,6 +1,8 @@
 -- Which requests one response may answer (RFC 7252 section 5.6).
 use Rattle.std.specs.Prelude.{◌≡◌, ℕ, Bool, true, false, not, ◌&&◌, List, length, Option, Some, None, is_none, ◌==◌, if◌then◌else◌}
 use Rattle.cache_key.specs.declared.place.Place.{Place}
+use Rattle.cache_key.specs.declared.digest.Digests.{Digests}
+use Rattle.cache_key.specs.Digests.{digests_of}
 use Rattle.cache_key.specs.Keys.{CacheKey, key_of, place_of, same_key, same_place}
 use Rattle.ask_model.specs.Requests.{CoapRequest, Sense, Requests, Refuses, Manner, asking}
 
@@ -32,6 +34,11 @@ AsksAlike =
 abbrev pub key_read : Sense → Option CacheKey
 key_read (Requests q) = if is_get q then Some (asked_key q) else None
 key_read (Refuses cause status) = None
+
+-- the digests of the key that a request asks under
+abbrev pub asked_digests : Sense → Digests
+asked_digests (Requests q) = digests_of (asked_key q)
+asked_digests (Refuses cause status) = record { place = 0; key = 0 }
 
 -- the place that any other request changes
 abbrev pub place_written : Sense → Option Place

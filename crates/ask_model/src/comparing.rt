@@ -2,12 +2,12 @@
 
 ghost use Rattle.std.specs.Prelude.{◌≡◌, ℕ, List, option_map};
 ghost use Rattle.cache_key.specs.Keys.{key_of, place_of};
-ghost use Rattle.ask_model.specs.Sharing.{asks_same_by, key_read, outdates_by, place_written};
+ghost use Rattle.ask_model.specs.Sharing.{asked_digests, asks_same_by, key_read, outdates_by, place_written};
 ghost use Rattle.ask_model.specs.Views.{sense_of};
 
 use crate::meaning::Meaning;
 use crate::request::{GET, bytes_of};
-use cache_key::Reading;
+use cache_key::{Digests, Reading};
 
 /// What a GET reads. Anything else reads nothing.
 pub(crate) fn reading_of<'a>(meaning: &'a Meaning, body: &[u8]) -> Option<Reading<'a>>
@@ -62,6 +62,21 @@ pub(crate) fn writing_of(meaning: &Meaning) -> Option<Reading<'_>>
             })
         }
         Meaning::Refuse(_, _) => None,
+    }
+}
+
+/// The digests of the key that a request asks under.
+pub(crate) fn digests_in(meaning: &Meaning) -> Digests
+    ensures { (body : List ℕ) → result ≡ asked_digests (sense_of meaning.now body) }
+{
+    match meaning {
+        Meaning::Ask {
+            target,
+            peer,
+            accept,
+            ..
+        } => Digests::of(peer, target, *accept),
+        Meaning::Refuse(_, _) => Digests { place: 0, key: 0 },
     }
 }
 

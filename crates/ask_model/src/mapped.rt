@@ -6,7 +6,7 @@ ghost use Rattle.limits.specs.declared.TheConstants.{MAX_BODY_LEN, MAX_MESSAGE_L
 ghost use Rattle.ask_model.specs.Views.{came_of, body_of, sense_of, rules_of};
 ghost use Rattle.ask_model.specs.Maps.{Maps, wanted_of};
 ghost use Rattle.cache_key.specs.Keys.{key_of, place_of};
-ghost use Rattle.ask_model.specs.Sharing.{asks_same_by, key_read, outdates_by, place_written};
+ghost use Rattle.ask_model.specs.Sharing.{asked_digests, asks_same_by, key_read, outdates_by, place_written};
 ghost use Rattle.ask_model.specs.Sizes.{came_size};
 ghost use Rattle.ask_model.specs.Observing.{IsObserving};
 ghost use Rattle.ask_model.specs.Validating.{IsValidating};
@@ -17,7 +17,7 @@ use crate::meaning::Meaning;
 use crate::request::{body_in, bytes_of, datagram_of, observing_of};
 use crate::settings::Settings;
 use crate::validating::validating_of;
-use cache_key::Reading;
+use cache_key::{Digests, Lookup, Reading};
 use coap_codec::{Block, Bytes, Token};
 use http_edge::Incoming;
 use media_map::Wanted;
@@ -33,6 +33,8 @@ pub struct Mapped<R: Relation> {
     came: Incoming,
     meaning: Meaning,
     wanted: Option<Wanted>,
+    /// those of the key that it asks under, made once
+    digests: Digests,
     settings: Arc<Settings>,
     relation: PhantomData<R>,
 }
@@ -44,6 +46,7 @@ impl<R: Relation> Drop for Mapped<R> {
             came: _,
             meaning: _,
             wanted: _,
+            digests: _,
             settings: _,
             relation: _,
         } = self;
@@ -58,6 +61,7 @@ impl<R: Relation> Model for Mapped<R> {
     ghost use Rattle.std.specs.Arc.{arc_value};
     ghost use Rattle.ask_model.specs.Views.{came_of, body_of, sense_of, rules_of};
     ghost use Rattle.ask_model.specs.Maps.{Maps, wanted_of};
+    ghost use Rattle.ask_model.specs.Sharing.{asked_digests};
     ghost use Rattle.ask_model.specs.Sizes.{came_size};
     ghost use Rattle.std.specs.Prelude.{◌≡◌, ◌≤◌};
     ghost use Rattle.limits.specs.declared.TheConstants.{MAX_REQUEST_SIZE};
@@ -73,7 +77,8 @@ impl<R: Relation> Model for Mapped<R> {
         (sense_of m.meaning (body_of (came_of m.came)))
         × (m.wanted ≡ wanted_of (rules_of (arc_value m.settings)) (came_of m.came)
         (sense_of m.meaning (body_of (came_of m.came))))
-        × (came_size (came_of m.came) ≤ MAX_REQUEST_SIZE) };
+        × (came_size (came_of m.came) ≤ MAX_REQUEST_SIZE)
+        × (m.digests ≡ asked_digests (sense_of m.meaning (body_of (came_of m.came)))) };
 }
 
 impl<R: Relation> Mapped<R> {
@@ -93,10 +98,12 @@ impl<R: Relation> Mapped<R> {
         ensures sense { result.sense ≡ sense_of meaning (body_of (came_of came)) }
         ensures rules { result.rules ≡ rules_of (arc_value settings) }
     {
+        let digests = comparing::digests_in(&meaning);
         Mapped {
             came,
             meaning,
             wanted,
+            digests,
             settings,
             relation: PhantomData,
         }
@@ -151,6 +158,21 @@ impl<R: Relation> Mapped<R> {
             ≡ key_read self.now.sense }
     {
         comparing::reading_of(self.meaning(), body_in(self.came()))
+    }
+
+    /// The digests of the key that it asks under, where it isn't refused.
+    pub fn digests(&self) -> Digests
+        ensures { result ≡ asked_digests self.now.sense }
+    {
+        self.digests
+    }
+
+    /// What it reads, to be looked for.
+    pub fn lookup(&self) -> Option<Lookup<'_>>
+        ensures { result ≡ key_read self.now.sense }
+    {
+        let reading = self.reading()?;
+        Some(Lookup::with(&reading, self.digests()))
     }
 
     /// What it changes, where it isn't a GET: what is kept of that place is out of date once it

@@ -92,6 +92,23 @@ impl Key {
         })
     }
 
+    /// The key that is looked for, whose digests were made before.
+    pub fn of_sought(alloc: Global, sought: &Lookup<'_>) -> Result<Key, AllocError>
+        ensures { IfOk result (λ k. k ≡ sought.now) }
+    {
+        let reading = &sought.reading;
+        let parts = Parts {
+            place: Place::of(reading.peer, reading.target)?,
+            host: reading.target.host.copy()?,
+            query: reading.target.query.copy()?,
+            accept: reading.accept,
+        };
+        Ok(Key {
+            digests: sought.digests,
+            parts: Arc::new(alloc, parts)?,
+        })
+    }
+
     /// Its digests, and those of its place.
     pub fn digests(&self) -> Digests
         ensures { result ≡ digests_of self.now }

@@ -1,7 +1,7 @@
 //! What many keys are looked through for.
 
 ghost use Rattle.std.specs.Prelude.{◌≡◌};
-ghost use Rattle.cache_key.specs.Digests.{rank_of};
+ghost use Rattle.cache_key.specs.Digests.{digests_of, rank_of};
 ghost use Rattle.cache_key.specs.Keys.{key_of};
 
 use crate::digest::Digests;
@@ -39,6 +39,26 @@ impl<'a> Lookup<'a> {
             digests: Digests::of(&reading.peer, reading.target, reading.accept),
         }
     }
+
+    /// The same, where the digests of the key are known.
+    pub fn with(reading: &Reading<'a>, digests: Digests) -> Lookup<'a>
+        requires { let key = key_of reading.now.peer reading.now.target.now reading.now.accept in
+            digests ≡ digests_of key }
+        ensures { result ≡ key_of reading.now.peer reading.now.target.now reading.now.accept }
+    {
+        Lookup {
+            reading: *reading,
+            digests,
+        }
+    }
+
+    /// The digests of the key that is looked for, and of its place.
+    pub fn digests(&self) -> Digests
+        ensures { result ≡ digests_of self.now }
+    {
+        self.digests
+    }
+
     /// The rank of the key that is looked for.
     pub fn rank(&self) -> u32
         ensures { result ≡ rank_of self.now }

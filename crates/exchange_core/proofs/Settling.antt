@@ -1,12 +1,12 @@
 -- What the end of an exchange does to the store, and a datagram to the other tables, is what the step says.
-use Rattle.std.proofs.Common.{◌≡◌, ℕ, ◌+◌, Bool, true, false, cond, eqb, List, [], ◌∷◌, ◌++◌, map, Option, Some, None, refl, sym, ap, subst, ◌∙◌, ◌||◌, arith, length-append}
+use Rattle.std.proofs.Common.{◌≡◌, ◌≤◌, ℕ, ◌+◌, Bool, true, false, cond, eqb, List, [], ◌∷◌, ◌++◌, map, Option, Some, None, refl, sym, ap, subst, ◌∙◌, ◌||◌, arith, length-append, take_all}
 use Rattle.std.specs.Prelude.{filter, option_and_then, slice_get, take, ◌&&◌, ◌==◌, ◌-◌, is_none, is_some, length}
 use Rattle.std.specs.Option.{option_map_or}
 use Rattle.limits.specs.declared.TheConstants.{MAX_STORED}
 use Rattle.coap_codec.specs.declared.block.Block.{Block}
 use Rattle.cache_key.specs.Keys.{CacheKey}
-use Rattle.resp_cache.specs.Stored.{Stored, stored_of}
-use Rattle.resp_cache.specs.Stores.{is_elsewhere, placed}
+use Rattle.resp_cache.specs.Stored.{Stored, is_never_fresh, stored_of}
+use Rattle.resp_cache.specs.Stores.{is_elsewhere, others, placed}
 use Rattle.resp_cache.specs.declared.pair.Pair.{Pair}
 use Rattle.ask_model.specs.Requests.{CoapRequest}
 use Rattle.ask_model.specs.Sharing.{asked_key, asked_place}
@@ -34,18 +34,29 @@ use Rattle.exchange_core.specs.declared.matter.Going.{Going}
 use Rattle.exchange_core.specs.declared.matter.Notification.{Notification}
 use Rattle.exchange_core.specs.declared.matter.Starting.{Starting}
 use Rattle.exchange_core.specs.declared.matter.Matter.TheVariants as M
+use Rattle.exchange_core.specs.declared.storing.Put.{Put}
+use Rattle.exchange_core.specs.declared.storing.Put.TheVariants as P
 use Rattle.exchange_core.specs.Hearing.{IsFirstBy, IsFirstSo, is_first}
 use Rattle.exchange_core.specs.Matters.{IsMatter}
-use Rattle.exchange_core.specs.Storing.{content_told, if_newest, is_newest_found, if_unchanged, key_ended, key_got, pair_of, put_for, put_in, renewed_for, settled_with, stored_for}
+use Rattle.exchange_core.specs.Storing.{content_told, if_newest, is_newest_found, is_outdating, if_unchanged, key_ended, key_got, outdated_under, put_for, put_in, put_under, renewed_for, settled_with, stored_for}
 
 -- what is put, or else what is there
-abbrev with_pair : Option Pair → List Pair → List Pair → List Pair
-with_pair (Some p) qs ps = take MAX_STORED (placed p.key p.stored ps)
-with_pair None qs ps = qs
+abbrev with_put : Put → Option CacheKey → List Pair → List Pair → List Pair
+with_put (P.Stores p) key qs ps = take MAX_STORED (placed p.key p.stored ps)
+with_put P.Outdates key qs ps = outdated_under key ps
+with_put P.Nothing key qs ps = qs
+
+placed-either : (b : Bool) (s : Stored) (k : CacheKey) (qs ps : List Pair) → is_never_fresh s ≡ b
+    → take MAX_STORED (placed k s ps)
+    ≡ with_put (cond b P.Outdates (P.Stores (record { key = k; stored = s }))) (Some k) qs ps
+placed-either true s k qs ps is =
+    ap (λ (c : Bool). take MAX_STORED (cond c (others k ps) (record { key = k; stored = s } ∷ others k ps))) is
+placed-either false s k qs ps is = refl
 
 by-tests : (m r b : Bool) (f : Option Stored) (k : CacheKey) (fl ps : List Pair)
     → cond m (cond ((m && r) && b) (put_by f k ps) ps) fl
-    ≡ with_pair (pair_of (cond b (cond (m && r) (Some k) None) None) f)
+    ≡ with_put (put_under (cond b (cond (m && r) (Some k) None) None) f)
+    (cond b (cond (m && r) (Some k) None) None)
     (cond m (cond ((m && r) && b) (put_by None k ps) ps) fl) ps
 by-tests false r true f k fl ps = refl
 by-tests false r false f k fl ps = refl
@@ -53,21 +64,23 @@ by-tests true false true f k fl ps = refl
 by-tests true false false f k fl ps = refl
 by-tests true true false f k fl ps = refl
 by-tests true true true None k fl ps = refl
-by-tests true true true (Some s) k fl ps = refl
+by-tests true true true (Some s) k fl ps = placed-either (is_never_fresh s) s k ps ps refl
 
 by-request : (o : Option CoapRequest) (b : Bool) (f : Option Stored) (ps : List Pair)
     → settled_by o b f ps
-    ≡ with_pair (pair_of (cond b (option_and_then key_got o) None) f) (settled_by o b None ps) ps
+    ≡ with_put (put_under (cond b (option_and_then key_got o) None) f)
+    (cond b (option_and_then key_got o) None) (settled_by o b None ps) ps
 by-request None true f ps = refl
 by-request None false f ps = refl
 by-request (Some q) b f ps =
     by-tests (q.method == 1) (is_none q.format && (length q.body == 0)) b f (asked_key q)
     (filter (is_elsewhere (asked_place q)) ps) ps
 
-with-same : (ws : List Written) (e : Option Exchange) (put : Option Pair) (ps : List Pair)
-    → with_pair put (settled ws e None ps) ps ≡ settled_with ws e put ps
-with-same ws e None ps = refl
-with-same ws e (Some p) ps = refl
+with-same : (ws : List Written) (e : Option Exchange) (put : Put) (ps : List Pair)
+    → with_put put (key_ended ws e) (settled ws e None ps) ps ≡ settled_with ws e put ps
+with-same ws e P.Nothing ps = refl
+with-same ws e (P.Stores p) ps = refl
+with-same ws e P.Outdates ps = refl
 
 settled-put : (ws : List Written) (e : Option Exchange) (f : Option Stored) (ps : List Pair)
     → settled ws e f ps ≡ settled_with ws e (put_for ws e f) ps
@@ -191,37 +204,105 @@ pub stales-over : (n : ℕ) (new : Numbers) (e : Exchange) (ended : Ended) (x : 
     → filter (is_about_another e.opening) xs ≡ stales_by x xs
 stales-over n new e ended x xs i = sym (ap (λ (y : Matter). stales_by y xs) i.1)
 
-pub pair-none : (key : Option CacheKey) → pair_of key None ≡ None
-pair-none None = refl
-pair-none (Some key) = refl
+pub put-none : (key : Option CacheKey) → put_under key None ≡ P.Nothing
+put-none None = refl
+put-none (Some key) = refl
 
-pub put-turned : (t : ℕ) (ws : List Written) (e : Exchange) (how : Ending) → how ≡ Turned → None ≡ put_for ws (Some e) (newest_content ws t e how)
-put-turned t ws e how is = sym (ap (λ (u : Ending). put_for ws (Some e) (newest_content ws t e u)) is ∙ pair-none (key_ended ws (Some e)))
+pub put-turned : (t : ℕ) (ws : List Written) (e : Exchange) (how : Ending) → how ≡ Turned → P.Nothing ≡ put_for ws (Some e) (newest_content ws t e how)
+put-turned t ws e how is = sym (ap (λ (u : Ending). put_for ws (Some e) (newest_content ws t e u)) is ∙ put-none (key_ended ws (Some e)))
 
 -- It isn't new, or it is.
-pub put-old : (ws : List Written) (e : Exchange) (f : Found) (s : Option Stored) → is_newest_found e f ≡ false → None ≡ put_for ws (Some e) (if_newest e f s)
-put-old ws e f s old = sym (ap (λ (b : Bool). put_for ws (Some e) (cond b s None)) old ∙ pair-none (key_ended ws (Some e)))
+pub put-old : (ws : List Written) (e : Exchange) (f : Found) (s : Option Stored) → is_newest_found e f ≡ false → P.Nothing ≡ put_for ws (Some e) (if_newest e f s)
+put-old ws e f s old = sym (ap (λ (b : Bool). put_for ws (Some e) (cond b s None)) old ∙ put-none (key_ended ws (Some e)))
 
-pub put-new : (ws : List Written) (e : Exchange) (f : Found) (s : Option Stored) (o : Option Pair) → is_newest_found e f ≡ true → o ≡ put_for ws (Some e) s
+pub put-new : (ws : List Written) (e : Exchange) (f : Found) (s : Option Stored) (o : Put) → is_newest_found e f ≡ true → o ≡ put_for ws (Some e) s
     → o ≡ put_for ws (Some e) (if_newest e f s)
 put-new ws e f s o new is = is ∙ sym (ap (λ (b : Bool). put_for ws (Some e) (cond b s None)) new)
 
+-- It is never fresh, or it is stored.
+outdates : (key : CacheKey) (s : Option Stored) → is_outdating s ≡ true → P.Outdates ≡ put_under (Some key) s
+outdates key None e = absurd (not-true e)
+  where
+    not-true : false ≡ true → ⊥
+    not-true k = cc
+outdates key (Some s) e = sym (ap (λ (b : Bool). cond b P.Outdates (P.Stores (record { key = key; stored = s }))) e)
+
+pub put-outdates : (ws : List Written) (e : Exchange) (key : CacheKey) (s : Option Stored) → Some key ≡ key_ended ws (Some e) → is_outdating s ≡ true
+    → P.Outdates ≡ put_for ws (Some e) s
+put-outdates ws e key s is out = outdates key s out ∙ ap (λ (k : Option CacheKey). put_under k s) is
+
+pub put-stores : (ws : List Written) (e : Exchange) (key : CacheKey) (s : Stored) → Some key ≡ key_ended ws (Some e) → is_never_fresh s ≡ false
+    → P.Stores (record { key = key; stored = s }) ≡ put_for ws (Some e) (Some s)
+put-stores ws e key s is fresh =
+    sym (ap (λ (b : Bool). cond b P.Outdates (P.Stores (record { key = key; stored = s }))) fresh)
+    ∙ ap (λ (k : Option CacheKey). put_under k (Some s)) is
+
+-- What a notification puts is what its key holds after it.
+abbrev pair_in : Pair → Put → Pair
+pair_in p (P.Stores q) = q
+pair_in p P.Outdates = p
+pair_in p P.Nothing = p
+
+few-taken : (ps : List Pair) → length ps ≤ MAX_STORED → take MAX_STORED ps ≡ ps
+few-taken ps few = take_all MAX_STORED ps few
+
+pub retold-stores : (key : CacheKey) (found : Option Stored) (p : Pair) (ps : List Pair) → P.Stores p ≡ put_under (Some key) found
+    → take MAX_STORED (placed p.key p.stored ps) ≡ retold key found ps
+retold-stores key None p ps e = absurd (cc e)
+retold-stores key (Some s) p ps e = by (is_never_fresh s) e
+  where
+    by : (b : Bool) → P.Stores p ≡ cond b P.Outdates (P.Stores (record { key = key; stored = s }))
+        → take MAX_STORED (placed p.key p.stored ps) ≡ take MAX_STORED (placed key s ps)
+    by true is = absurd (cc is)
+    by false is = ap (λ (q : Pair). take MAX_STORED (placed q.key q.stored ps)) (ap (pair_in p) is)
+
+pub retold-outdates : (key : CacheKey) (found : Option Stored) (ps : List Pair) → length (others key ps) ≤ MAX_STORED → P.Outdates ≡ put_under (Some key) found
+    → others key ps ≡ retold key found ps
+retold-outdates key None ps few e = absurd (cc e)
+retold-outdates key (Some s) ps few e = by (is_never_fresh s) refl e
+  where
+    by : (b : Bool) → is_never_fresh s ≡ b → P.Outdates ≡ cond b P.Outdates (P.Stores (record { key = key; stored = s }))
+        → others key ps ≡ take MAX_STORED (placed key s ps)
+    by true is e =
+        sym (ap (λ (c : Bool). take MAX_STORED (cond c (others key ps) (record { key = key; stored = s } ∷ others key ps))) is
+        ∙ few-taken (others key ps) few)
+    by false is e = absurd (cc e)
+
+pub retold-nothing : (key : CacheKey) (found : Option Stored) (ps : List Pair) → P.Nothing ≡ put_under (Some key) found
+    → others key ps ≡ retold key found ps
+retold-nothing key None ps e = refl
+retold-nothing key (Some s) ps e = by (is_never_fresh s) e
+  where
+    by : (b : Bool) → P.Nothing ≡ cond b P.Outdates (P.Stores (record { key = key; stored = s }))
+        → others key ps ≡ take MAX_STORED (placed key s ps)
+    by true is = absurd (cc is)
+    by false is = absurd (cc is)
+
+pub outdated-some : (ws : List Written) (e : Exchange) (key : CacheKey) (ps qs : List Pair) → Some key ≡ key_ended ws (Some e) → qs ≡ others key ps → length qs ≤ MAX_STORED
+    → qs ≡ outdated_under (key_ended ws (Some e)) ps
+outdated-some ws e key ps qs is same few =
+    same ∙ (sym (few-taken (others key ps) (subst (λ (rs : List Pair). length rs ≤ MAX_STORED) same few))
+    ∙ ap (λ (k : Option CacheKey). outdated_under k ps) is)
+
+pub outdated-none : (ws : List Written) (e : Exchange) (ps : List Pair) → None ≡ key_ended ws (Some e) → ps ≡ outdated_under (key_ended ws (Some e)) ps
+outdated-none ws e ps is = ap (λ (k : Option CacheKey). outdated_under k ps) is
+
 -- the store after it
 
-pub stored-over : (n t : ℕ) (ws : List Written) (new : Numbers) (e : Exchange) (ended : Ended) (x : Matter) (put : Option Pair) (ps : List Pair) → IsMatter n new (M.Over e ended) x
+pub stored-over : (n t : ℕ) (ws : List Written) (new : Numbers) (e : Exchange) (ended : Ended) (x : Matter) (put : Put) (ps : List Pair) → IsMatter n new (M.Over e ended) x
     → put ≡ put_in ws t x → settled_with ws (Some e) put ps ≡ store_by ws t x ps
 stored-over n t ws new e ended x put ps i is =
-    ap (λ (o : Option Pair). settled_with ws (Some e) o ps) (is ∙ ap (put_in ws t) i.1)
+    ap (λ (o : Put). settled_with ws (Some e) o ps) (is ∙ ap (put_in ws t) i.1)
     ∙ (sym (settled-put ws (Some e) (newest_content ws t e i.0) ps) ∙ sym (ap (λ (y : Matter). store_by ws t y ps) i.1))
 
-pub stored-tells : (n t : ℕ) (ws : List Written) (new : Numbers) (k : Notification) (x : Matter) (put : Option Pair) (ps qs : List Pair) → IsMatter n new (M.Tells k) x
-    → put ≡ put_in ws t x → ((found : Option Stored) → put ≡ pair_of (Some k.key) found → qs ≡ retold k.key found ps) → qs ≡ store_by ws t x ps
+pub stored-tells : (n t : ℕ) (ws : List Written) (new : Numbers) (k : Notification) (x : Matter) (put : Put) (ps qs : List Pair) → IsMatter n new (M.Tells k) x
+    → put ≡ put_in ws t x → ((found : Option Stored) → put ≡ put_under (Some k.key) found → qs ≡ retold k.key found ps) → qs ≡ store_by ws t x ps
 stored-tells n t ws new k x put ps qs i is so =
-    so k.found (is ∙ (ap (put_in ws t) i.1 ∙ ap (λ (key : CacheKey). pair_of (Some key) k.found) (sym i.2)))
+    so k.found (is ∙ (ap (put_in ws t) i.1 ∙ ap (λ (key : CacheKey). put_under (Some key) k.found) (sym i.2)))
     ∙ (ap (λ (key : CacheKey). retold key k.found ps) i.2 ∙ sym (ap (λ (y : Matter). store_by ws t y ps) i.1))
 
-pub stored-starts : (n t : ℕ) (ws : List Written) (new : Numbers) (k : Starting) (x : Matter) (put : Option Pair) (ps qs : List Pair) → IsMatter n new (M.Starts k) x
-    → put ≡ put_in ws t x → ((found : Option Stored) → put ≡ pair_of (Some k.key) found → qs ≡ retold k.key found ps) → qs ≡ store_by ws t x ps
+pub stored-starts : (n t : ℕ) (ws : List Written) (new : Numbers) (k : Starting) (x : Matter) (put : Put) (ps qs : List Pair) → IsMatter n new (M.Starts k) x
+    → put ≡ put_in ws t x → ((found : Option Stored) → put ≡ put_under (Some k.key) found → qs ≡ retold k.key found ps) → qs ≡ store_by ws t x ps
 stored-starts n t ws new k x put ps qs i is so =
     so None (is ∙ ap (put_in ws t) i.2)
     ∙ (ap (λ (key : CacheKey). retold key None ps) i.3 ∙ sym (ap (λ (y : Matter). store_by ws t y ps) i.2))

@@ -3,13 +3,11 @@ use Rattle.std.specs.Prelude.{◌≡◌, ℕ, ◌+◌, ◌≤◌, Bool, true, fa
 use Rattle.std.specs.Arc.{arc_value}
 use Rattle.limits.specs.declared.TheConstants.{LAST_MOMENT, MAX_REQUEST_SIZE}
 use Rattle.blockwise.specs.Uploads.{begun}
-use Rattle.cache_key.specs.declared.digest.Digests.{Digests}
-use Rattle.cache_key.specs.Digests.{digests_of}
 use Rattle.observe_share.specs.Watches.{without}
 use Rattle.uri_map.specs.declared.peer.Peer.{Peer}
 use Rattle.resp_cache.specs.Stored.{Stored}
 use Rattle.ask_model.specs.Requests.{Sense, Requests, Refuses}
-use Rattle.ask_model.specs.Sharing.{asked_key}
+use Rattle.ask_model.specs.Sharing.{asked_digests}
 use Rattle.ask_model.specs.Sizes.{capped, came_size}
 use Rattle.ask_model.specs.Datagrams.{asked_peer}
 use Rattle.ask_model.specs.Views.{Mapping}
@@ -52,11 +50,6 @@ asked_method (Refuses cause status) = 0
 abbrev pub asked_work : Sense → Work
 asked_work (Requests q) = first_work q
 asked_work (Refuses cause status) = W.Gives (begun 0 6)
-
--- the digests of what it reads or changes
-abbrev pub asked_digests : Sense → Digests
-asked_digests (Requests q) = digests_of (asked_key q)
-asked_digests (Refuses cause status) = record { place = 0; key = 0 }
 
 -- the exchange that the ask with this number opens for what it means
 abbrev pub exchange_by : ℕ → List ℕ → Peer → Sense → Bool → Option FirstSending → ℕ → Exchange

@@ -1,12 +1,12 @@
 -- What the end of an exchange does to the store.
-use Rattle.std.specs.Prelude.{ℕ, Bool, false, ◌||◌, length, List, ◌∷◌, Option, Some, None, option_and_then, take, ◌==◌, if◌then◌else◌}
+use Rattle.std.specs.Prelude.{◌≡◌, ℕ, Bool, true, false, ◌||◌, length, List, ◌∷◌, Option, Some, None, option_and_then, take, ◌==◌, if◌then◌else◌}
 use Rattle.limits.specs.declared.TheConstants.{MAX_STORED}
 use Rattle.cache_key.specs.Keys.{CacheKey}
 use Rattle.ask_model.specs.Requests.{CoapRequest}
 use Rattle.ask_model.specs.Sharing.{asked_key, is_get}
 use Rattle.journal_book.specs.Entries.{Grounds, Live, Written}
-use Rattle.resp_cache.specs.Stored.{Stored, stored_of}
-use Rattle.resp_cache.specs.Stores.{placed}
+use Rattle.resp_cache.specs.Stored.{Stored, is_never_fresh, stored_of}
+use Rattle.resp_cache.specs.Stores.{others, placed}
 use Rattle.resp_cache.specs.declared.pair.Pair.{Pair}
 use Rattle.history_laws.specs.Responses.{Response}
 use Rattle.history_laws.specs.Storing.{content}
@@ -14,6 +14,8 @@ use Rattle.reply_reading.specs.Findings.{Found, Told, Tells, Fails}
 use Rattle.exchange_model.specs.declared.kept.Exchange.{Exchange}
 use Rattle.exchange_model.specs.Matters.{Matter, Over, Tells as Notifies, asked_in, moment_in}
 use Rattle.exchange_model.specs.Hearing.{newest_content, settled}
+use Rattle.exchange_core.specs.declared.storing.Put.{Put}
+use Rattle.exchange_core.specs.declared.storing.Put.TheVariants as P
 use Rattle.exchange_core.specs.Ending.{last_moment}
 
 -- the whole 2.05 that is told, if it is one
@@ -55,21 +57,36 @@ is_newest_found e f = is_newest_by e.newest f.grounds
 abbrev pub if_newest : Exchange → Found → Option Stored → Option Stored
 if_newest e f s = if is_newest_found e f then s else None
 
--- what it puts into the store
-abbrev pub pair_of : Option CacheKey → Option Stored → Option Pair
-pair_of (Some key) (Some s) = Some (record { key = key; stored = s })
-pair_of _ _ = None
+-- what a response that was found does to what is stored under the key
+abbrev pub is_outdating : Option Stored → Bool
+is_outdating None = false
+is_outdating (Some s) = is_never_fresh s
 
-abbrev pub put_for : List Written → Option Exchange → Option Stored → Option Pair
-put_for ws ended found = pair_of (key_ended ws ended) found
+abbrev pub put_under : Option CacheKey → Option Stored → Put
+put_under (Some key) (Some s) =
+    if is_never_fresh s then P.Outdates else P.Stores (record { key = key; stored = s })
+put_under _ _ = P.Nothing
+
+abbrev pub put_for : List Written → Option Exchange → Option Stored → Put
+put_for ws ended found = put_under (key_ended ws ended) found
 
 -- what a message puts into the store, which is this to the exchanges
-abbrev pub put_in : List Written → ℕ → Matter → Option Pair
+abbrev pub put_in : List Written → ℕ → Matter → Put
 put_in ws t (Over e how) = put_for ws (Some e) (newest_content ws t e how)
-put_in ws t (Notifies r found) = pair_of (Some r.key) found
-put_in ws t x = None
+put_in ws t (Notifies r found) = put_under (Some r.key) found
+put_in ws t x = P.Nothing
+
+-- Room is needed for what is stored alone.
+abbrev pub HasRoomToPut : Put → Bool → Type 0
+HasRoomToPut (P.Stores p) room = room ≡ true
+HasRoomToPut _ room = Unit {0}
+
+abbrev pub outdated_under : Option CacheKey → List Pair → List Pair
+outdated_under None ps = ps
+outdated_under (Some key) ps = take MAX_STORED (others key ps)
 
 -- what is stored after that, or after the end of an exchange that puts nothing
-abbrev pub settled_with : List Written → Option Exchange → Option Pair → List Pair → List Pair
-settled_with ws ended (Some p) ps = take MAX_STORED (placed p.key p.stored ps)
-settled_with ws ended None ps = settled ws ended None ps
+abbrev pub settled_with : List Written → Option Exchange → Put → List Pair → List Pair
+settled_with ws ended (P.Stores p) ps = take MAX_STORED (placed p.key p.stored ps)
+settled_with ws ended P.Outdates ps = outdated_under (key_ended ws ended) ps
+settled_with ws ended P.Nothing ps = settled ws ended None ps

@@ -31,7 +31,6 @@ ghost use Rattle.exchange_core.specs.States.{state_of, seen, given_in, outgoing,
 use crate::answer::Ticket;
 use crate::draft::Draft;
 use crate::fault::AskFault;
-use crate::joining::digests_of;
 use crate::numbering::token_of;
 use crate::room;
 use crate::sealing::seal;
@@ -200,7 +199,7 @@ fn exchange_of<R: Relation>(
         current: true,
         newest: true,
         work: work_of(mapped),
-        digests: digests_of(mapped),
+        digests: mapped.digests(),
     }
 }
 

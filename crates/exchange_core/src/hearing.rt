@@ -20,7 +20,7 @@ ghost use Rattle.exchange_core.specs.Places.{IsOrdered};
 ghost use Rattle.exchange_core.specs.Sending.{IsTimed};
 ghost use Rattle.exchange_core.specs.Sound.{IsSound};
 ghost use Rattle.exchange_core.specs.States.{state_of, seen, given_in, outgoing, SeesSame};
-ghost use Rattle.exchange_core.specs.Storing.{put_in};
+ghost use Rattle.exchange_core.specs.Storing.{HasRoomToPut, put_in};
 
 use crate::draft::Draft;
 use crate::ending::{Telling, draft_tellings, readers_told};
@@ -33,14 +33,14 @@ use crate::room::takes;
 use crate::sealing::seal;
 use crate::sending::draft_first;
 use crate::state::{State, commit, make_places, start};
-use crate::storing::{make_room_for, put_of, retell, settle};
+use crate::storing::{Put, make_room_for, put_of, retell, settle};
 use crate::watching::retire;
 use coap_codec::{Bytes as Whole, Token};
 use exchange_table::{Exchanges, Fetched, Readers, Stales};
 use journal_book::{Entry, Event, Journal};
 use message_layer::{Bytes, FirstSending, Hearing, Heeding, Submission};
 use observe_share::{Notice, Registration, Watch};
-use resp_cache::{Pair, Store};
+use resp_cache::Store;
 use std::alloc::{AllocError, Global};
 use std::collections::VecDeque;
 use transformers::Relation;
@@ -110,7 +110,7 @@ fn told_of(
 #[derive(Drop)]
 struct Brought<R: Relation> {
     draft: Draft<R>,
-    put: Option<Pair>,
+    put: Put,
 }
 
 /// All that the datagram brings, which is this to the exchanges.
@@ -239,13 +239,8 @@ fn change_stales(stales: &mut Stales, matter: &Matter)
 }
 
 /// The store after the datagram: what is put, where something is.
-fn change_store<R: Relation>(
-    store: &mut Store,
-    journal: &Journal<R>,
-    matter: &Matter,
-    put: Option<Pair>,
-)
-    requires { IfSome put (λ p. store.old.room ≡ true) }
+fn change_store<R: Relation>(store: &mut Store, journal: &Journal<R>, matter: &Matter, put: Put)
+    requires { HasRoomToPut put store.old.room }
     ensures { (n t : ℕ) (new : Numbers) (x : ModelMatter) → IsMatter n new matter.now x
         → put ≡ put_in journal.now.entries t x
         → store.new.pairs ≡ store_by journal.now.entries t x store.old.pairs }
@@ -319,9 +314,9 @@ fn change_tables<R: Relation>(
     heeding: Heeding,
     matter: Matter,
     watching: Watching,
-    put: Option<Pair>,
+    put: Put,
 )
-    requires room { IfSome put (λ p. s.old.store.room ≡ true) }
+    requires room { HasRoomToPut put s.old.store.room }
     requires piece { s.old.fetched.room ≡ true }
     requires watch { IfSome watching.more (λ r. s.old.watches.room ≡ true) }
     requires watched { IfSome watching.more (λ r. length s.old.watches.standing < 64) }

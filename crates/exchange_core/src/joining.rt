@@ -10,7 +10,6 @@ ghost use Rattle.exchange_model.specs.Matters.{IsDigested};
 ghost use Rattle.exchange_model.specs.Hearing.{Numbers};
 ghost use Rattle.exchange_model.specs.Sealing.{asks_in_room};
 ghost use Rattle.exchange_table.specs.Joining.{is_joined_by};
-ghost use Rattle.exchange_core.specs.Beginning.{asked_digests};
 ghost use Rattle.exchange_core.specs.Drafts.{Drafts};
 ghost use Rattle.exchange_core.specs.Joining.{MayJoin};
 ghost use Rattle.exchange_core.specs.Sound.{IsSound};
@@ -24,29 +23,13 @@ use crate::room;
 use crate::sealing::seal;
 use crate::state::{State, commit, make_places, start};
 use crate::watching::touch;
-use ask_model::{Mapped, Meaning};
-use cache_key::Digests;
+use ask_model::Mapped;
 use exchange_model::{Exchange, Reader};
 use exchange_table::Exchanges;
 use journal_book::{Entry, Event, Journal};
 use std::alloc::{AllocError, Global};
 use std::sync::Arc;
 use transformers::Relation;
-
-/// The digests of what the request reads or changes.
-pub fn digests_of<R: Relation>(mapped: &Mapped<R>) -> Digests
-    ensures { result ≡ asked_digests mapped.now.sense }
-{
-    match mapped.meaning() {
-        Meaning::Ask {
-            target,
-            peer,
-            accept,
-            ..
-        } => Digests::of(peer, target, *accept),
-        Meaning::Refuse(_, _) => Digests { place: 0, key: 0 },
-    }
-}
 
 /// The open exchange that the request joins.
 pub fn find_joined<R: Relation>(

@@ -35,10 +35,10 @@ pub fn find_stored<R: Relation>(
 ) -> Result<Option<StoredResponse>, AllocError>
     ensures { IfOk result (λ o. o ≡ served_for mapped.now.sense moment store.now.pairs) }
 {
-    let Some(reading) = mapped.reading() else {
+    let Some(sought) = mapped.lookup() else {
         return Ok(None);
     };
-    match store.fresh(&reading, moment) {
+    match store.fresh(&sought, moment) {
         Some(stored) => Ok(Some(stored.share()?)),
         None => Ok(None),
     }
@@ -48,8 +48,8 @@ pub fn find_stored<R: Relation>(
 fn touch<R: Relation>(store: &mut Store, moment: u64, mapped: &Mapped<R>)
     ensures { store.new.pairs ≡ moved_for mapped.now.sense moment store.old.pairs }
 {
-    if let Some(reading) = mapped.reading() {
-        store.touch(&reading, moment);
+    if let Some(sought) = mapped.lookup() {
+        store.touch(&sought, moment);
     }
 }
 

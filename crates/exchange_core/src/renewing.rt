@@ -97,10 +97,10 @@ pub fn find_stale<R: Relation>(
     ensures { IfOk result (λ o. o
         ≡ stale_for mapped.now.sense moment journal.now.entries store.now.pairs) }
 {
-    let Some(reading) = mapped.reading() else {
+    let Some(sought) = mapped.lookup() else {
         return Ok(None);
     };
-    let Some(stored) = store.stale(&reading, moment) else {
+    let Some(stored) = store.stale(&sought, moment) else {
         return Ok(None);
     };
     if stored.response().etag.is_none() {

@@ -4,7 +4,6 @@ ghost use Rattle.std.specs.Prelude.{◌≡◌, find};
 ghost use Rattle.std.specs.List.{AllByRecursion};
 ghost use Rattle.std.specs.Option.{option_copied};
 ghost use Rattle.cache_key.specs.Digests.{digests_of};
-ghost use Rattle.cache_key.specs.Keys.{key_of};
 ghost use Rattle.exchange_model.specs.Matters.{IsDigested};
 ghost use Rattle.exchange_table.specs.Joining.{is_joined_at, is_joined_by, is_joined_marked};
 ghost use Rattle.exchange_table.specs.Marks.{AreMarked, key_in};
@@ -15,7 +14,7 @@ use crate::marks::{Mark, half_of, marked};
 use crate::outrunning::asked;
 use crate::places::opening_place;
 use ask_model::Mapped;
-use cache_key::{Digests, Reading};
+use cache_key::Lookup;
 use exchange_model::Exchange;
 use journal_book::Journal;
 use transformers::Relation;
@@ -76,12 +75,11 @@ fn find_marked<R: Relation>(
         .copied()
 }
 
-/// The digest of the key that is read.
-fn digest_of(reading: &Reading<'_>) -> u32
-    ensures { let key = key_of reading.now.peer reading.now.target.now reading.now.accept in
-        result ≡ key_in (digests_of key) }
+/// The digest of the key that is looked for.
+fn digest_of(sought: &Lookup<'_>) -> u32
+    ensures { result ≡ key_in (digests_of sought.now) }
 {
-    half_of(Digests::of(&reading.peer, reading.target, reading.accept).key)
+    half_of(sought.digests().key)
 }
 
 /// The row that the request joins, where each has the digests of what it was opened for.
@@ -97,10 +95,10 @@ pub fn joined<'a, R: Relation>(
     ensures { option_copied result
         ≡ find (is_joined_by journal.now.entries mapped.now.sense) rows.now }
 {
-    let Some(reading) = mapped.reading() else {
+    let Some(sought) = mapped.lookup() else {
         return None;
     };
-    let alike = marked(keys, digest_of(&reading));
+    let alike = marked(keys, digest_of(&sought));
     match find_marked(alike, rows, journal, mapped) {
         Some(mark) => row_at(rows, mark.opening),
         None => None,

@@ -23,5 +23,8 @@ abbrev pub is_fresh : ℕ → Stored → Bool
 is_fresh t s = nat_lt t (s.heard + lifetime s.response.max_age)
 
 -- It isn't even fresh when it is heard.
+abbrev pub has_no_lifetime : Response → Bool
+has_no_lifetime r = lifetime r.max_age == 0
+
 abbrev pub is_never_fresh : Stored → Bool
-is_never_fresh s = lifetime s.response.max_age == 0
+is_never_fresh s = has_no_lifetime s.response

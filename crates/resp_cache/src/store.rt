@@ -1,9 +1,9 @@
 //! The store.
 
-ghost use Rattle.std.specs.Prelude.{◌≡◌, ◌==◌, ◌&&◌, [], drop, filter, find, is_some, length, not, take, IfOk, IfSome, None, OnErr, OnOk, true, false};
+ghost use Rattle.std.specs.Prelude.{◌≡◌, ◌≤◌, ◌==◌, ◌&&◌, [], drop, filter, find, is_some, length, not, take, IfOk, IfSome, None, OnErr, OnOk, true, false};
 ghost use Rattle.std.specs.Option.{option_copied, option_to_list};
 ghost use Rattle.limits.specs.declared.TheConstants.{MAX_STORED};
-ghost use Rattle.cache_key.specs.Keys.{key_of, place_of};
+ghost use Rattle.cache_key.specs.Keys.{place_of};
 ghost use Rattle.resp_cache.specs.Stored.{is_never_fresh};
 ghost use Rattle.resp_cache.specs.Stores.{IsStore, is_of, is_elsewhere, is_fresh_under, others, placed, served, stale_under, with_moved, with_room};
 ghost use Rattle.resp_cache.specs.Slots.{slot_at};
@@ -14,7 +14,9 @@ use crate::pair::Pair;
 use crate::ring::Ring;
 use crate::search::{pair_at, slot_of, slot_sought};
 use crate::stored::StoredResponse;
-use crate::table::{Table, copy_table, drop_key, drop_place, make_room, put_first, use_slot};
+use crate::table::{
+    Table, copy_table, drop_key, drop_place, drop_sought, make_room, put_first, use_slot,
+};
 use cache_key::{Key, Lookup, Reading};
 use std::alloc::{AllocError, Global};
 use std::marker::Model;
@@ -36,14 +38,12 @@ impl Model for Store {
     ghost invariant = { λ s. IsTable s.table };
 }
 
-/// The pair of what is read.
-fn pair_under<'a>(table: &'a Table, reading: &Reading<'_>) -> Option<&'a Pair>
+/// The pair of what is looked for.
+fn pair_under<'a>(table: &'a Table, sought: &Lookup<'_>) -> Option<&'a Pair>
     requires { IsTable table.now }
-    ensures { let key = key_of reading.now.peer reading.now.target.now reading.now.accept in
-        option_copied result ≡ find (is_of key) (pairs_of table.now) }
+    ensures { option_copied result ≡ find (is_of sought.now) (pairs_of table.now) }
 {
-    let sought = Lookup::of(reading);
-    let slot = slot_sought(&table.slots, &table.names, &sought)?;
+    let slot = slot_sought(&table.slots, &table.names, sought)?;
     pair_at(&table.slots, slot)
 }
 
@@ -125,12 +125,11 @@ impl Store {
         self.table.names.is_empty()
     }
 
-    /// The response to what is read, if it is fresh at this moment in milliseconds.
-    pub fn fresh(&self, reading: &Reading<'_>, moment: u64) -> Option<&StoredResponse>
-        ensures { let key = key_of reading.now.peer reading.now.target.now reading.now.accept in
-            option_copied result ≡ served key moment self.now.pairs }
+    /// The response to what is looked for, if it is fresh at this moment in milliseconds.
+    pub fn fresh(&self, sought: &Lookup<'_>, moment: u64) -> Option<&StoredResponse>
+        ensures { option_copied result ≡ served sought.now moment self.now.pairs }
     {
-        let pair = pair_under(&self.table, reading)?;
+        let pair = pair_under(&self.table, sought)?;
         if pair.stored.is_fresh(moment) {
             Some(&pair.stored)
         } else {
@@ -139,22 +138,19 @@ impl Store {
     }
 
     /// The response that is fresh is used: its pair comes to the front.
-    pub fn touch(&mut self, reading: &Reading<'_>, moment: u64)
-        ensures { let key = key_of reading.now.peer reading.now.target.now reading.now.accept in
-            self.new ≡ with_moved key moment self.old }
+    pub fn touch(&mut self, sought: &Lookup<'_>, moment: u64)
+        ensures { self.new ≡ with_moved sought.now moment self.old }
     {
-        let sought = Lookup::of(reading);
-        if let Some(slot) = slot_fresh(&self.table, &sought, moment) {
+        if let Some(slot) = slot_fresh(&self.table, sought, moment) {
             use_slot(&mut self.table, slot);
         }
     }
 
-    /// The response to what is read, if it isn't fresh any more.
-    pub fn stale(&self, reading: &Reading<'_>, moment: u64) -> Option<&StoredResponse>
-        ensures { let key = key_of reading.now.peer reading.now.target.now reading.now.accept in
-            option_copied result ≡ stale_under key moment self.now.pairs }
+    /// The response to what is looked for, if it isn't fresh any more.
+    pub fn stale(&self, sought: &Lookup<'_>, moment: u64) -> Option<&StoredResponse>
+        ensures { option_copied result ≡ stale_under sought.now moment self.now.pairs }
     {
-        let old = pair_under(&self.table, reading)?;
+        let old = pair_under(&self.table, sought)?;
         if old.stored.is_fresh(moment) {
             None
         } else {
@@ -203,9 +199,19 @@ impl Store {
     /// Takes out the key's response, fresh or not.
     pub fn take_out(&mut self, key: &Key)
         ensures pairs { self.new.pairs ≡ others key.now self.old.pairs }
+        ensures few { length self.new.pairs ≤ MAX_STORED }
         ensures room { self.old.room ≡ true → self.new.room ≡ true }
     {
         drop_key(&mut self.table, key);
+    }
+
+    /// Takes out the response to what is looked for, fresh or not.
+    pub fn outdate(&mut self, sought: &Lookup<'_>)
+        ensures pairs { self.new.pairs ≡ others sought.now self.old.pairs }
+        ensures few { length self.new.pairs ≤ MAX_STORED }
+        ensures room { self.old.room ≡ true → self.new.room ≡ true }
+    {
+        drop_sought(&mut self.table, sought);
     }
 
     /// Takes out the responses of the place that a write changed, which ended.

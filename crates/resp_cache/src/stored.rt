@@ -1,7 +1,7 @@
 //! Responses that are stored.
 
 ghost use Rattle.std.specs.Prelude.{◌≡◌, IfOk};
-ghost use Rattle.resp_cache.specs.Stored.{lifetime, is_fresh, is_never_fresh};
+ghost use Rattle.resp_cache.specs.Stored.{lifetime, is_fresh, has_no_lifetime, is_never_fresh};
 
 use crate::response::Response;
 use std::alloc::{AllocError, Global};
@@ -45,6 +45,15 @@ fn lifetime_of(max_age: Option<u32>) -> u64
     ensures { result ≡ lifetime max_age }
 {
     1000 * u64::from(max_age.unwrap_or(DEFAULT_MAX_AGE))
+}
+
+impl Response {
+    /// Whether its Max-Age is 0, so that it isn't stored.
+    pub fn is_never_fresh(&self) -> bool
+        ensures { result ≡ has_no_lifetime self.now }
+    {
+        lifetime_of(self.max_age) == 0
+    }
 }
 
 impl StoredResponse {
@@ -121,7 +130,7 @@ impl StoredResponse {
     pub fn is_never_fresh(&self) -> bool
         ensures { result ≡ is_never_fresh self.now }
     {
-        lifetime_of(self.record.response.max_age) == 0
+        self.record.response.is_never_fresh()
     }
 
     /// The same once more, which isn't copied.

@@ -13,7 +13,7 @@ ghost use Rattle.resp_cache.specs.Tables.{IsTable, has_free, has_name_room, has_
 use crate::names::{Named, drop_name, put_name};
 use crate::pair::Pair;
 use crate::ring::Ring;
-use crate::search::{slot_near, slot_of};
+use crate::search::{slot_near, slot_of, slot_sought};
 use cache_key::{Key, Lookup, Reading};
 use limits::MAX_STORED;
 use std::alloc::{AllocError, Global};
@@ -206,6 +206,18 @@ pub fn drop_key(table: &mut Table, key: &Key)
     ensures table { IsTable table.new }
 {
     if let Some(slot) = slot_of(&table.slots, &table.names, key) {
+        vacate(table, slot);
+    }
+}
+
+/// Takes out the pair of what is looked for.
+pub fn drop_sought(table: &mut Table, sought: &Lookup<'_>)
+    requires { IsTable table.old }
+    ensures pairs { pairs_of table.new ≡ others sought.now (pairs_of table.old) }
+    ensures room { has_table_room table.old ≡ true → has_table_room table.new ≡ true }
+    ensures table { IsTable table.new }
+{
+    if let Some(slot) = slot_sought(&table.slots, &table.names, sought) {
         vacate(table, slot);
     }
 }

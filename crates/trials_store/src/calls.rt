@@ -2,6 +2,7 @@
 
 use crate::samples::{is_missing, is_served, key, key_of, puts, reading, response, target};
 use crate::telling::check;
+use cache_key::{Digests, Key, Lookup};
 use resp_cache::{Pair, Store, StoredResponse, the_last_used_stay};
 use std::alloc::{AllocError, Global};
 use uri_map::Target;
@@ -91,11 +92,50 @@ fn puts_in_room(store: &mut Store, alloc: Global, segment: &str) -> Result<bool,
 /// It is there until it is taken out, and a look leaves all as it was.
 fn is_taken_out(store: &mut Store, alloc: Global, segment: &str) -> Result<bool, AllocError> {
     let target = target(alloc, segment)?;
-    let reading = reading(&target, None);
-    let fresh = store.fresh(&reading, 59_999).is_some();
-    let stale = store.fresh(&reading, 60_000).is_none();
+    let sought = Lookup::of(&reading(&target, None));
+    let fresh = store.fresh(&sought, 59_999).is_some();
+    let stale = store.fresh(&sought, 60_000).is_none();
     store.take_out(&key_of(alloc, segment, None)?);
-    Ok(fresh && stale && store.fresh(&reading, 0).is_none())
+    Ok(fresh && stale && store.fresh(&sought, 0).is_none())
+}
+
+/// What is looked for is taken out.
+fn is_outdated(store: &mut Store, alloc: Global) -> Result<bool, AllocError> {
+    let light = target(alloc, "light")?;
+    let sought = Lookup::of(&reading(&light, Some(0)));
+    store.outdate(&sought);
+    Ok(store.fresh(&sought, 0).is_none())
+}
+
+#[test]
+fn what_is_outdated_goes_alone(rt: HostRuntime) {
+    let alloc = rt.alloc();
+    let mut store = two_places(alloc).expect(&rt, "memory");
+    check(&rt, "it goes", is_outdated(&mut store, alloc) == Ok(true));
+    check(&rt, "one is left", store.len() == 1);
+    check(&rt, "once more", is_outdated(&mut store, alloc) == Ok(true));
+    check(&rt, "one still", store.len() == 1);
+}
+
+/// The key of what is looked for is that of its reading, also where the digests are known.
+fn is_key_sought(alloc: Global) -> Result<bool, AllocError> {
+    let light = target(alloc, "light")?;
+    let reading = reading(&light, Some(0));
+    let digests = Digests::of(&reading.peer, reading.target, reading.accept);
+    let sought = Lookup::with(&reading, digests);
+    let made = Key::of_sought(alloc, &sought)?;
+    let other = key(alloc, 1)?;
+    Ok(
+        made.is_same(&key(alloc, 0)?)
+            && made.is_sought(&sought)
+            && made.digests().key == sought.digests().key
+            && !made.is_same(&other),
+    )
+}
+
+#[test]
+fn a_key_is_made_of_what_is_looked_for(rt: HostRuntime) {
+    check(&rt, "the key", is_key_sought(rt.alloc()) == Ok(true));
 }
 
 #[test]

@@ -2,7 +2,7 @@
 
 use crate::samples::{key, reading, response, target, uses};
 use crate::telling::check;
-use cache_key::Reading;
+use cache_key::{Lookup, Reading};
 use resp_cache::Store;
 use std::alloc::{AllocError, Global};
 
@@ -17,7 +17,7 @@ fn store_of(alloc: Global, heard: u64, max_age: Option<u32>) -> Result<Store, Al
 fn is_fresh(store: &mut Store, reading: &Reading<'_>, moment: u64) -> Option<bool> {
     match (
         uses(store, reading, moment),
-        store.stale(reading, moment).is_some(),
+        store.stale(&Lookup::of(reading), moment).is_some(),
     ) {
         (true, false) => Some(true),
         (false, true) => Some(false),
@@ -81,5 +81,9 @@ fn another_accept_is_not_served(rt: HostRuntime) {
     let alloc = rt.alloc();
     let store = store_of(alloc, 0, None).expect(&rt, "memory");
     let light = target(alloc, "light").expect(&rt, "memory");
-    assert!(rt; store.fresh(&reading(&light, None), 1).is_none());
+    assert!(rt;
+        store
+            .fresh(&Lookup::of(&reading(&light, None)), 1)
+            .is_none()
+    );
 }

@@ -1,6 +1,6 @@
 //! Readings and responses of one device.
 
-use cache_key::{Key, Reading};
+use cache_key::{Key, Lookup, Reading};
 use coap_codec::Bytes;
 use resp_cache::{Location, Response, Store, StoredResponse, Values};
 use std::alloc::{AllocError, Global};
@@ -77,8 +77,9 @@ pub fn puts(store: &mut Store, alloc: Global, accept: u16) -> Result<bool, Alloc
 
 /// Whether what is read is served at this moment, and is the last used then.
 pub fn uses(store: &mut Store, reading: &Reading<'_>, moment: u64) -> bool {
-    let served = store.fresh(reading, moment).is_some();
-    store.touch(reading, moment);
+    let sought = Lookup::of(reading);
+    let served = store.fresh(&sought, moment).is_some();
+    store.touch(&sought, moment);
     served
 }
 

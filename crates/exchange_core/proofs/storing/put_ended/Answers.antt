@@ -1,21 +1,21 @@
-use Rattle.std.proofs.Common.{◌≡◌, Option, subst}
+use Rattle.std.proofs.Common.{◌≡◌, subst}
 use Rattle.std.specs.Prelude.{IfOk}
-use Rattle.resp_cache.specs.declared.pair.Pair.{Pair}
 use Rattle.exchange_progress.specs.Coming.{IsEnded}
 use Rattle.exchange_progress.specs.declared.coming.Ended.{Ended}
+use Rattle.exchange_core.specs.declared.storing.Put.{Put}
 use Rattle.exchange_core.proofs.Settling.{put-ended, put-renewed, put-turned}
 use Rattle.exchange_core.proofs.storing.put_ended.Goals as goal
 
 pub returns-in-Found : goal.returns-in-Found
 returns-in-Found g c = λ n how i.
-    subst (λ (o : Option Pair). IfOk c.put_found.result (λ (r : Option Pair). r ≡ o))
+    subst (λ (o : Put). IfOk c.put_found.result (λ (r : Put). r ≡ o))
     (put-ended n c.args.moment c.args.journal.now.entries c.args.exchange.now c.in-Found.finding how
     (subst (λ (k : Ended). IsEnded n k how) c.in-Found.is i))
     c.put_found.ensures
 
 pub returns-in-Renewed : goal.returns-in-Renewed
 returns-in-Renewed g c = λ n how i.
-    subst (λ (o : Option Pair). IfOk c.put_renewed.result (λ (r : Option Pair). r ≡ o))
+    subst (λ (o : Put). IfOk c.put_renewed.result (λ (r : Put). r ≡ o))
     (put-renewed n c.args.moment c.in-Renewed.opening c.args.journal.now.entries c.args.exchange.now c.in-Renewed.finding how
     (subst (λ (k : Ended). IsEnded n k how) c.in-Renewed.is i))
     c.put_renewed.ensures

@@ -1,5 +1,4 @@
-use Rattle.std.proofs.Common.{◌≡◌, ◌∙◌, ap, None, find, refl, rules, sym}
-use Rattle.cache_key.specs.Keys.{CacheKey, key_of}
+use Rattle.std.proofs.Common.{◌≡◌, ◌∙◌, None, find, refl, rules, sym}
 use Rattle.resp_cache.specs.Stores.{is_of}
 use Rattle.resp_cache.specs.Tables.{pairs_of}
 use Rattle.resp_cache.proofs.Looking.{found_in, none_in}
@@ -9,8 +8,8 @@ pub returns-in_err-slot : goal.returns-in_err-slot
 returns-in_err-slot c =
     let t = c.args.table.now in
     let none = rw c.deref.ensures.value at (c.in_err-slot.ensures.none refl) in
-    let nothing : find (is_of (key_of c.args.reading.now.peer c.args.reading.now.target.now c.args.reading.now.accept)) (pairs_of t) ≡ None =
-    ap (λ (key : CacheKey). find (is_of key) (pairs_of t)) (sym c.of-sought.ensures) ∙ none_in c.of-sought.result t.slots.items t.ring.items none in
+    let nothing : find (is_of c.args.sought.now) (pairs_of t) ≡ None =
+    none_in c.args.sought.now t.slots.items t.ring.items none in
     rw nothing (search rules)
 
 pub returns : goal.returns
@@ -18,5 +17,4 @@ returns c =
     let t = c.args.table.now in
     let some = rw c.deref.ensures.value at c.in_ok-slot.ensures.some in
     rw c.deref-3.ensures.value at c.pair_at.ensures
-    ∙ (sym (found_in c.of-sought.result t.slots.items t.ring.items t.names.items c.in_ok-slot.slot c.requires some)
-    ∙ ap (λ (key : CacheKey). find (is_of key) (pairs_of t)) c.of-sought.ensures)
+    ∙ sym (found_in c.args.sought.now t.slots.items t.ring.items t.names.items c.in_ok-slot.slot c.requires some)
