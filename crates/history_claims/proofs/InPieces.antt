@@ -66,7 +66,7 @@ abbrev first_byte : List ℕ → ℕ
 first_byte [] = 0
 first_byte (b ∷ bytes) = b
 
-abbrev third : List Entry → ℕ
+abbrev pub third : List Entry → ℕ
 third (a ∷ b ∷ o ∷ more) = first_byte o.value
 third options = 0
 

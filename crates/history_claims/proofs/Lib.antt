@@ -60,3 +60,4 @@ mod InWorked
 mod Observed
 mod InCopies
 mod InRenewed
+mod InUpdates

@@ -18,6 +18,7 @@ use Rattle.history_laws.specs.WorkedReaders as R
 use Rattle.history_laws.specs.WorkedRenewed as N
 use Rattle.history_laws.specs.WorkedSpoiled as S
 use Rattle.history_laws.specs.WorkedStore as K
+use Rattle.history_laws.specs.WorkedUpdates as D
 use Rattle.history_laws.specs.WorkedWatches as O
 use Rattle.history_claims.specs.Headline.{IsSentFor, IsRepeat, IsPending, RestsOn}
 use Rattle.history_claims.specs.Stored.{IsServed, RestsOnRenewed}
@@ -251,6 +252,17 @@ Updated = IsServed (entries O.served) 4000 1 9 (6 ∷ [])
 -- Not so: the one before it, which that outdates.
 abbrev pub Outdated : Type 0
 Outdated = IsServed (entries O.served) 4000 1 9 (5 ∷ []) → ⊥
+
+-- The first piece of an update came in entry 5, and its rest in entry 9. Both answer a GET that
+-- joined between them, and are kept for an equal one.
+abbrev pub UpdatedInPieces : Type 0
+UpdatedInPieces =
+    RestsOn (entries D.served_both) 10 1 8 (5 ∷ 9 ∷ [])
+    × IsServed (entries D.served_both) 1300 1 11 (5 ∷ 9 ∷ [])
+
+-- Not so: the rest alone.
+abbrev pub RestAlone : Type 0
+RestAlone = RestsOn (entries D.told_the_rest) 10 1 8 (9 ∷ []) → ⊥
 
 -- The response of entry 5 is asked about by its ETag when it is stale, and the 2.03 of entry 9
 -- renews it. So it is told, and kept for an equal GET up to its last fresh millisecond; and once it

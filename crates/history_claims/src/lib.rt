@@ -12,5 +12,6 @@ pub use laws::{
 pub use order::{asked_once, in_order, worked_once, worked_order};
 pub use worked::{
     not_excused, not_so, worked_answers, worked_carried, worked_causes, worked_copies,
-    worked_pieces, worked_readers, worked_renewed, worked_store, worked_uploads, worked_watches,
+    worked_pieces, worked_readers, worked_renewed, worked_store, worked_updates, worked_uploads,
+    worked_watches,
 };

@@ -41,6 +41,8 @@ ghost use Rattle.history_claims.specs.Worked.{
   CarriedOutrun,
   Updated,
   Outdated,
+  UpdatedInPieces,
+  RestAlone,
   Renewed,
   OtherTag,
   ValidLate,
@@ -143,6 +145,17 @@ pub fn worked_watches()
     ensures updated { Updated }
     ensures outdated { Outdated }
 {}
+
+/// An update in two pieces, the second of which is fetched: both answer a GET that joined between
+/// them, and are kept for an equal GET (RFC 7641 section 3.2, RFC 7959 section 2.6). And what isn't
+/// so: the second alone as an answer.
+pub fn worked_updates()
+    ensures both { UpdatedInPieces }
+    ensures rest { RestAlone }
+{
+    // Its contract says that this journal is legal.
+    history_laws::worked_updates();
+}
 
 /// A stored response that a 2.03 renews, once and again: told, and kept for an equal GET (RFC 7252
 /// section 5.9.1.3). And what doesn't: a 2.03 with another ETag, one that answers the next message,
