@@ -21,6 +21,7 @@ use Rattle.gateway_model.specs.Tellings.{terms_of}
 use Rattle.gateway_model.specs.Unasked.{unasked_in}
 use Rattle.gateway_model.specs.Waiting.{IsDrained}
 use Rattle.history_claims.proofs.CallerLemmas.{asks-once, names-cause}
+use Rattle.history_claims.specs.Order.{KeepsOrder}
 use Rattle.gateway_connections.specs.Inlets.{TableValue}
 use Rattle.gateway_model.proofs.CallerLemmas.{CountsOpened, input-counts, rotation-is}
 use Rattle.gateway_world.specs.declared.engine.Engine.{Engine}
@@ -35,13 +36,13 @@ use Rattle.gateway_world.proofs.Promises.{led-closes, led-sends, led-tells, inpu
 
 module _ {R : Type 0} (holds : Form → Form → List ℕ → List ℕ → Type 0) (takes : Form → Form → List ℕ → Type 0) (rules : Rules) where
   -- An input is taken once the connections are marked as they are.
-  taken-led : (i : Input) (m t : ℕ) (old mid new : Engine R) (before after : List (Output R))
+  taken-led : KeepsOrder → (i : Input) (m t : ℕ) (old mid new : Engine R) (before after : List (Output R))
       → LeadsBy (terms_of holds takes rules) (record { moment = t; word = i.word }) (IsInOrder i.happening) old before mid after
       → emissions before ≡ [] → t ≡ counted m i.moment → new.core ≡ mid.core → new.table.current ≡ mid.table.current
       → IsKept holds takes rules m old → IsDrained mid.core → KeptInRoom old.core.state → Stands mid.core.state.entries
       → (IsTooMuch i.happening (served_of old) → ⊥) → IsKept holds takes rules t new
       → TakesActs holds takes i (world_of old rules m) (emissions after) (world_of new rules t)
-  taken-led i m t old mid new before after l none now core current h drained kept stands room then =
+  taken-led law i m t old mid new before after l none now core current h drained kept stands room then =
       subst (λ (v : CoreValue). TakesActs holds takes i (world_of old rules m) (emissions after)
       (record { core = v; inlets = new.table.current; rules = rules; moment = t })) (sym core)
       (by (handled (terms_of holds takes rules) i (world_of old rules m) mid.core mid.table.current new.table.current t
@@ -58,6 +59,7 @@ module _ {R : Type 0} (holds : Form → Form → List ℕ → List ℕ → Type 
         told = led-tells holds takes rules _ _ old mid before after l none h.1 drained stands h.4;
         causes = names-cause mid.core.state.entries stands;
         once = asks-once mid.core.state.entries stands;
+        in_order = law mid.core.state.entries stands;
         asks = heeded holds takes rules i (world_of old rules m) mine (emissions after) handles;
         sends = led-sends holds takes rules _ _ old mid before after l none h.1 drained;
         shows = input-shows (terms_of holds takes rules) i (world_of old rules m) mine (emissions after) handles kept;
@@ -69,12 +71,12 @@ module _ {R : Type 0} (holds : Form → Form → List ℕ → List ℕ → Type 
       }
 
   -- So is one at which the journal was to be given out.
-  pub taken-rotated : (i : Input) (m t : ℕ) (old mid new : Engine R) (before after : List (Output R)) → i.happening ≡ H.Rotate
+  pub taken-rotated : KeepsOrder → (i : Input) (m t : ℕ) (old mid new : Engine R) (before after : List (Output R)) → i.happening ≡ H.Rotate
       → RotatesBy (record { moment = t; word = i.word }) old before mid after
       → emissions before ≡ [] → t ≡ counted m i.moment → new.core ≡ mid.core → new.table.current ≡ mid.table.current
       → Stands old.core.state.entries → Stands mid.core.state.entries → IsKept holds takes rules t new
       → TakesRotation holds takes i (world_of old rules m) (emissions after) (world_of new rules t)
-  taken-rotated i m t old mid new before after wants r none now core current stood stands then = record {
+  taken-rotated law i m t old mid new before after wants r none now core current stood stands then = record {
     wants = wants;
     stands = stood;
     rotates =
@@ -88,20 +90,21 @@ module _ {R : Type 0} (holds : Form → Form → List ℕ → List ℕ → Type 
     mapped = then.4;
     causes = names-cause new.core.state.entries (subst (λ (v : CoreValue). Stands v.state.entries) (sym core) stands);
     once = asks-once new.core.state.entries (subst (λ (v : CoreValue). Stands v.state.entries) (sym core) stands);
+    in_order = law new.core.state.entries (subst (λ (v : CoreValue). Stands v.state.entries) (sym core) stands);
     rests = record { drained = then.1; rests = then.3 };
   }
 
   -- What happens is one or the other.
-  pub taken-stepped : (i : Input) (m t : ℕ) (old mid new : Engine R) (before after : List (Output R))
+  pub taken-stepped : KeepsOrder → (i : Input) (m t : ℕ) (old mid new : Engine R) (before after : List (Output R))
       → StepsBy (terms_of holds takes rules) (record { moment = t; word = i.word }) i.happening old before mid after
       → emissions before ≡ [] → t ≡ counted m i.moment → new.core ≡ mid.core → new.table.current ≡ mid.table.current
       → IsKept holds takes rules m old → IsDrained mid.core → KeptInRoom old.core.state → Stands old.core.state.entries
       → Stands mid.core.state.entries → (IsTooMuch i.happening (served_of old) → ⊥) → IsKept holds takes rules t new
       → Takes holds takes i (world_of old rules m) (emissions after) (world_of new rules t)
-  taken-stepped i m t old mid new before after (inl l) none now core current h drained kept stood stands room then =
-      inl (taken-led i m t old mid new before after l none now core current h drained kept stands room then)
-  taken-stepped i m t old mid new before after (inr r) none now core current h drained kept stood stands room then =
-      inr (taken-rotated i m t old mid new before after r.0 r.1 none now core current stood stands then)
+  taken-stepped law i m t old mid new before after (inl l) none now core current h drained kept stood stands room then =
+      inl (taken-led law i m t old mid new before after l none now core current h drained kept stands room then)
+  taken-stepped law i m t old mid new before after (inr r) none now core current h drained kept stood stands room then =
+      inr (taken-rotated law i m t old mid new before after r.0 r.1 none now core current stood stands then)
 
 -- Which connection opens with an input.
 

@@ -6,6 +6,7 @@ use Rattle.journal_book.specs.Entries.{Written}
 use Rattle.history_laws.specs.Justified.{Stands}
 use Rattle.history_claims.specs.Causes.{AreCaused}
 use Rattle.history_claims.specs.Once.{AreAskedOnce}
+use Rattle.history_claims.specs.Order.{AreInOrder}
 use Rattle.gateway_model.specs.declared.input.Happening.TheVariants as H
 use Rattle.gateway_model.specs.declared.input.Input.{Input}
 use Rattle.gateway_model.specs.Acts.{at}
@@ -22,8 +23,8 @@ module _ (holds : Form → Form → List ℕ → List ℕ → Type 0)
     (takes : Form → Form → List ℕ → Type 0) where
   -- An input is taken that doesn't bring too much. What it leads to are acts in order; what is
   -- told, asked and sent is what the new entries say; the own errors in the journal name their
-  -- causes, and its asks cost a device no more than they have to; what came in shows in the new
-  -- entries; who is closed has a reason; and after it nothing waits.
+  -- causes, its asks cost a device no more than they have to, and its messages go out in order;
+  -- what came in shows in the new entries; who is closed has a reason; and after it nothing waits.
   pub record TakesActs (i : Input) (old : WorldValue) (out : List Emission) (new : WorldValue)
       : Type 0 where
     pub room : IsTooMuch i.happening (served_in old) → ⊥
@@ -31,6 +32,7 @@ module _ (holds : Form → Form → List ℕ → List ℕ → Type 0)
     pub told : TellsAll holds takes old.rules old.core new.core out
     pub causes : AreCaused new.core.state.entries
     pub once : AreAskedOnce new.core.state.entries
+    pub in_order : AreInOrder new.core.state.entries
     pub asks :
         AllHeed (IsMapped holds takes old.rules) i.happening (served_in old) (served_in new)
     pub sends : SendsJust old.core out new.core
@@ -41,8 +43,8 @@ module _ (holds : Form → Form → List ℕ → List ℕ → Type 0)
 
   -- Or the journal, which stands, is to be given out: it is, and the world goes on with a new one;
   -- or it isn't, and only the moment goes on. In the journal that there is then what was asked is
-  -- mapped, own errors name their causes, and asks cost no more than they have to; and nothing
-  -- waits.
+  -- mapped, own errors name their causes, asks cost no more than they have to, and messages went
+  -- out in order; and nothing waits.
   pub record TakesRotation (i : Input) (old : WorldValue) (out : List Emission) (new : WorldValue)
       : Type 0 where
     pub wants : i.happening ≡ H.Rotate
@@ -54,6 +56,7 @@ module _ (holds : Form → Form → List ℕ → List ℕ → Type 0)
     pub mapped : AreMapped holds takes old.rules new.core.state.entries
     pub causes : AreCaused new.core.state.entries
     pub once : AreAskedOnce new.core.state.entries
+    pub in_order : AreInOrder new.core.state.entries
     pub rests : IsAtRest new
 
   abbrev pub Takes : Input → WorldValue → List Emission → WorldValue → Type 0

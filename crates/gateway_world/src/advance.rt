@@ -11,6 +11,7 @@ use crate::engine::{Context, Engine};
 use crate::state::World;
 use exchange_core::Core;
 use gateway_model::{Input, Output, When};
+use history_claims::in_order;
 use http_edge::Memory;
 use limits::{LAST_MOMENT, MAX_UNREAD};
 use transformers::{Bank, Relation};
@@ -87,6 +88,8 @@ impl<R: Relation> World<R> {
         ensures opened { IfOk result (λ a. IsCounted input.entry.happening a.opened
             self.core a.world.core) }
     {
+        // Its contract says in which order a journal that stands has messages go out.
+        in_order();
         let World {
             settings,
             engine,

@@ -12,6 +12,7 @@ use ask_model::Settings;
 use exchange_core::Core;
 use gateway_connections::Table;
 use gateway_model::{Happening, Input, Output, When};
+use history_claims::in_order;
 use http_edge::Memory;
 use journal_book::Journal;
 use limits::LAST_MOMENT;
@@ -68,6 +69,8 @@ impl<R: Relation> World<R> {
             ↔ IsErrOf result WorldFault.Backlog }
         ensures rests { IsAtRest self.new }
     {
+        // Its contract says in which order a journal that stands has messages go out.
+        in_order();
         if self.is_too_much(input.happening) {
             return Err(WorldFault::Backlog);
         }

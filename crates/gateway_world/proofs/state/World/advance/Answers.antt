@@ -27,7 +27,7 @@ returns-clause-takes g c =
     let view = ap (λ (e : Engine _). world_of e (rules_of (arc_value c.self.inside.settings)) c.self.inside.moment) same ∙ c.self.view_is in
     let room = subst (λ (w : WorldValue). IsTooMuch c.args.input.happening (served_in w) → ⊥) (sym view) c.requires.room in
     rw (← view)
-    (taken-stepped g.R.Relation.holds g.R.Relation.takes _ c.args.input _ c.max-moment.result c.deref_mut-engine.result.now c.step.new.self _ _ _
+    (taken-stepped g.R.Relation.holds g.R.Relation.takes _ c.in_order.ensures c.args.input _ c.max-moment.result c.deref_mut-engine.result.now c.step.new.self _ _ _
     c.in_ok-opened.ensures.steps (ap emissions c.clear.ensures.items)
     (let a = c.max-moment.ensures in let b = c.min.ensures in omega (arith, a, b)) refl c.mark.ensures.current
     kept c.in_ok-opened.ensures.drained c.journal.ensures.kept c.journal.ensures.stands c.journal-2.ensures.stands room (invariant_of-result g c))

@@ -46,7 +46,7 @@ returns-in-Ok-clause-takes g c =
     let room = subst (λ (w : WorldValue). IsTooMuch c.args.input.happening (served_in w) → ⊥) (sym view)
     (λ full. subst IsOff (c.is_too_much.ensures.1 full) (subst IsOff (sym c.if-is_too_much.false) tt)) in
     rw (← view)
-    (taken-stepped g.R.Relation.holds g.R.Relation.takes _ c.args.input _ c.max-moment.result c.deref_mut-engine.result.now c.step.new.self _ _ _
+    (taken-stepped g.R.Relation.holds g.R.Relation.takes _ c.in_order.ensures c.args.input _ c.max-moment.result c.deref_mut-engine.result.now c.step.new.self _ _ _
     c.in-Ok.ensures.steps (ap emissions c.new-outputs.ensures.items)
     (let a = c.max-moment.ensures in let b = c.min.ensures in omega (arith, a, b)) refl c.mark.ensures.current
     kept c.in-Ok.ensures.drained c.journal.ensures.kept c.journal.ensures.stands c.journal-in-Ok.ensures.stands room (invariant_of-self g c))
