@@ -1,6 +1,6 @@
 -- What outputs do to the connections.
 use Rattle.std.specs.Prelude.{◌≡◌, ℕ, List, [], ◌∷◌, ◌++◌, flat_map, Option}
-use Rattle.gateway_model.specs.Emissions.{Emission, Says, Closed}
+use Rattle.gateway_model.specs.Emissions.{Emission, Says, Closed, GivenUp}
 use Rattle.gateway_loop.specs.Clients.{ClientValue}
 use Rattle.gateway_loop.specs.Places.{EachChanges}
 use Rattle.gateway_loop.specs.Serving.{said}
@@ -21,6 +21,7 @@ AreGiven {S} out old new = EachChanges (IsGiven {S = S} out) old new
 abbrev pub readied_by : Emission → List ℕ
 readied_by (Says c bytes) = c ∷ []
 readied_by (Closed c) = c ∷ []
+readied_by (GivenUp c) = c ∷ []
 readied_by _ = []
 
 abbrev pub readied : List Emission → List ℕ

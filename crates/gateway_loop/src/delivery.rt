@@ -65,6 +65,10 @@ fn deliver_one<R: Relation, S: Stream + Drop, W: Wire>(
             clients.close(number);
             clients.line_up(number)
         }
+        Output::GivenUp(number) => {
+            clients.close(number);
+            clients.line_up(number)
+        }
         Output::Turned => Ok(()),
         // What is told of the journal is taken before.
         Output::Rotated(_) | Output::Unrotated(_) => Ok(()),

@@ -20,24 +20,24 @@ use Rattle.exchange_model.specs.Resting.{HasConn}
 use Rattle.exchange_model.specs.Growing.{at_moment}
 use Rattle.exchange_model.specs.Sealing.{asks_in_room, hears_in_room, ticks_in_room}
 use Rattle.exchange_core.specs.declared.fault.AskFault.TheVariants as AskFault
-use Rattle.exchange_core.specs.Calls.{IsAsked, AsksSo}
-use Rattle.exchange_core.specs.Drafts.{untaken_of}
+use Rattle.exchange_core.specs.Calls.{IsAsked, IsClosed, AsksSo}
 use Rattle.exchange_core.specs.Values.{CoreValue, Untaken, stepped}
 use Rattle.gateway_model.specs.declared.input.When.{When}
-use Rattle.gateway_model.specs.Acts.{Act, Opens, TurnsAway, Takes, Hears, Passes, Asks, Denies, Sends, Tells, GoesOn, Rests, Leaves, Misses, Served, Terms, IsDenying, IsClosing, Ends, IsTelling, Does, at, continue_text}
+use Rattle.gateway_model.specs.Acts.{IsAllTold, Act, Opens, TurnsAway, Takes, Hears, Passes, Asks, Denies, Sends, Tells, GoesOn, GivesUp, Forgoes, Rests, Leaves, Misses, Served, Terms, IsDenying, IsClosing, Ends, IsTelling, IsForgoing, Does, at, continue_text}
 use Rattle.gateway_model.specs.Closing.{shut_in, IsLastAnswer}
-use Rattle.gateway_model.specs.Emissions.{Emission, Says, Goes, Closed}
+use Rattle.gateway_model.specs.Emissions.{Emission, Says, Goes, Closed, GivenUp}
 use Rattle.gateway_model.specs.Unasked.{Unasked, unasked_at, extended}
 use Rattle.gateway_model.specs.Waiting.{AreApart}
-use Rattle.gateway_model.proofs.Awaiting.{IsToTell, entry-more, same-entry, steps-by, told-of, others-told, which}
+use Rattle.gateway_model.proofs.Awaiting.{IsToTell, entry-more, steps-by, told-of, which}
 use Rattle.gateway_model.proofs.Enters.{goes, stays-sealed}
 use Rattle.gateway_model.proofs.Moving.{hears-move, ticks-move, denied-is}
 use Rattle.gateway_model.proofs.Numbers.{at-number, extended-number}
 use Rattle.gateway_model.proofs.Opened.{here}
 use Rattle.gateway_model.proofs.Serving.{item-others, gone-shut}
+use Rattle.gateway_model.proofs.ServesFor.{told-forgone}
 use Rattle.gateway_model.proofs.Standing.{others-left}
-use Rattle.gateway_model.proofs.Untold.{AreToOthers, left-all, left-apart, told-one, told-apart, IsToldBy}
-use Rattle.gateway_model.proofs.Closings.{Gone, ActCloses, same-closes, changed-before, steps-close, asks-apart, asks-close}
+use Rattle.gateway_model.proofs.Untold.{AreToOthers, IsToldBy}
+use Rattle.gateway_model.proofs.Closings.{Gone, ActCloses, same-closes, changed-before, steps-close, asks-apart, asks-close, taken-apart, taken-gone, taken-still-apart, taken-others, taken-still, taken-ask, taken-entries}
 
 -- a connection is closed
 
@@ -50,6 +50,9 @@ not-left false c p x ys t f (inr h) = f h
 shut-out : (c : ℕ) (p : Option ℕ) (cs : List Conn) → HasConn (filter (λ (x : Conn). not (x.id == c)) cs) c p → ⊥
 shut-out c p [] h = h
 shut-out c p (x ∷ xs) h = not-left (x.id == c) c p x (filter (λ (y : Conn). not (y.id == c)) xs) refl (shut-out c p xs) h
+
+pub closed-gone : (t c : ℕ) (p : Option ℕ) (v u : CoreValue) → IsClosed t c v u → HasConn u.state.conns c p → ⊥
+closed-gone t c p v u h has = shut-out c p v.state.conns (subst (λ (x : CoreValue). HasConn x.state.conns c p) h.1 has)
 
 still-shut : (b : Bool) (d : ℕ) (p : Option ℕ) (x : Conn) (ys : List Conn) → ((x.id ≡ d) × (x.pending ≡ p) → ⊥) → (HasConn ys d p → ⊥)
     → HasConn (cond b (x ∷ ys) ys) d p → ⊥
@@ -64,15 +67,15 @@ others-shut c d p (x ∷ xs) f h =
     still-shut (not (x.id == c)) d p x (filter (λ (y : Conn). not (y.id == c)) xs) (λ e. f (inl e))
     (others-shut c d p xs (λ k. f (inr k))) h
 
-record ShutsOne (c : ℕ) (mid new : Served) : Type 0 where
-  moment : ℕ
-  entries : new.core.state.entries ≡ mid.core.state.entries ++ at_moment moment (Shuts c) ∷ []
-  untaken : new.core.untaken ≡ mid.core.untaken
-  sealed : mid.core.state.sealed ≡ true → new.core.state.sealed ≡ true
-  own : AreToOthers c mid.core.untaken → Gone c new
-  others : (d : ℕ) → d ≢ c → Gone d mid → Gone d new
+pub record ShutsOne (c : ℕ) (mid new : Served) : Type 0 where
+  pub moment : ℕ
+  pub entries : new.core.state.entries ≡ mid.core.state.entries ++ at_moment moment (Shuts c) ∷ []
+  pub untaken : new.core.untaken ≡ mid.core.untaken
+  pub sealed : mid.core.state.sealed ≡ true → new.core.state.sealed ≡ true
+  pub own : AreToOthers c mid.core.untaken → Gone c new
+  pub others : (d : ℕ) → d ≢ c → Gone d mid → Gone d new
 
-shuts-one : (w : When) (c : ℕ) (mid new : Served) → IsClosing w c mid new → ShutsOne c mid new
+pub shuts-one : (w : When) (c : ℕ) (mid new : Served) → IsClosing w c mid new → ShutsOne c mid new
 shuts-one w c mid new h = record {
   moment = at w mid;
   entries = ap (λ (v : CoreValue). v.state.entries) h.0.1;
@@ -194,47 +197,87 @@ denies-close M w c old mid new out h k e sealed =
     (denies-close-by M w c old mid new h (denied-core (at w old) w.word c h.ask old.core mid.core h.denied)
     (shuts-one w c mid new k) sealed)
 
+-- an answer is taken, and its connection closed
+
+module _ (w : When) (c k : ℕ) (old mid new : Served) (h : IsForgoing c k old mid) (shut : ShutsOne c mid new) where
+  long-entries : new.core.state.entries ≡ old.core.state.entries ++ at_moment shut.moment (Shuts c) ∷ []
+  long-entries =
+      shut.entries ∙ ap (λ (es : List Written). es ++ at_moment shut.moment (Shuts c) ∷ []) (taken-entries c k old mid h)
+
+  tell-shut : (d j u : ℕ) (a : Ask) (later : List Written) → IsToTell old.core.untaken d j
+      → (j ≡ k) ⊎ (j ≢ k) → IsEntry (new.core.state.entries ++ later) j u (Asked d a)
+      → IsToTell new.core.untaken d j ⊎ Contains (c ∷ []) d
+  tell-shut d j u a later told (inr ne) e =
+      inl (subst (λ (us : List Untaken). IsToTell us d j) (sym shut.untaken) (taken-still c k old mid h d j ne told))
+  tell-shut d j u a later told (inl same) e =
+      let long : new.core.state.entries ++ later
+      ≡ old.core.state.entries ++ (at_moment shut.moment (Shuts c) ∷ [] ++ later) =
+      ap (λ (es : List Written). es ++ later) long-entries
+      ∙ append_assoc old.core.state.entries (at_moment shut.moment (Shuts c) ∷ []) later in
+      let own = taken-ask c k old mid h d j u a (at_moment shut.moment (Shuts c) ∷ [] ++ later) same
+      (subst (λ (es : List Written). IsEntry es j u (Asked d a)) long e) in
+      inr (here c d [] (sym own.0))
+
+-- nobody is told it
+
+gives-up-by : (M : Terms) (c : ℕ) (old new : Served) → ShutsOne c old new → IsAllTold c old.core
+    → ((d : ℕ) → Gone d old → d ≢ c) → (old.core.state.sealed ≡ true → new.core.state.sealed ≡ true)
+    → ActCloses M old new (GivenUp c ∷ [])
+gives-up-by M c old new shut all_told others sealed = record {
+  more = at_moment shut.moment (Shuts c) ∷ [];
+  entries = shut.entries;
+  shut = refl;
+  sealed = sealed;
+  turned = (tt, tt);
+  gone = λ d g. (shut.others d (others d g) g, (λ same. others d g (sym same), tt));
+  form = λ a. inr (inr (inr (record { conn = c; is = refl; gone = shut.own all_told })));
+  apart = λ a. subst AreApart (sym shut.untaken) a;
+  told = λ d j t a later told e last. inl (subst (λ (us : List Untaken). IsToTell us d j) (sym shut.untaken) told);
+  answered = (tt, tt);
+}
+
+gives-up-close : (M : Terms) (w : When) (c : ℕ) (old : Served) (out : List Emission) (new : Served) → Does M w (GivesUp c) old out new
+    → (old.core.state.sealed ≡ true → new.core.state.sealed ≡ true) → ActCloses M old new out
+gives-up-close M w c old out new h sealed =
+    subst (ActCloses M old new) (sym h.1)
+    (gives-up-by M c old new (shuts-one w c old new h.0) h.2
+    (λ d g same. g.shut h.0.0.0.0 (subst (λ (i : ℕ). HasConn old.core.state.conns i h.0.0.0.0) (sym same) h.0.0.0.1)) sealed)
+
+forgoes-by : (M : Terms) (w : When) (c k : ℕ) (old mid new : Served) → IsForgoing c k old mid → ShutsOne c mid new
+    → (old.core.state.sealed ≡ true → new.core.state.sealed ≡ true) → ActCloses M old new (GivenUp c ∷ [])
+forgoes-by M w c k old mid new h shut sealed = record {
+  more = at_moment shut.moment (Shuts c) ∷ [];
+  entries = long-entries w c k old mid new h shut;
+  shut = refl;
+  sealed = sealed;
+  turned = (tt, tt);
+  gone = λ d g. (
+    shut.others d (λ same. taken-apart c k old mid h d g (sym same)) (taken-gone c k old mid h d g),
+    (taken-apart c k old mid h d g, tt),
+  );
+  form = λ a. inr (inr (inr (record { conn = c; is = refl; gone = shut.own (taken-others c k old mid h a) })));
+  apart = λ a. subst AreApart (sym shut.untaken) (taken-still-apart c k old mid h a);
+  told = λ d j u a later told e last. tell-shut w c k old mid new h shut d j u a later told (which j k) e;
+  answered = (tt, tt);
+}
+
+forgoes-close : (M : Terms) (w : When) (c k : ℕ) (old : Served) (out : List Emission) (new : Served) → Does M w (Forgoes c k) old out new
+    → (old.core.state.sealed ≡ true → new.core.state.sealed ≡ true) → ActCloses M old new out
+forgoes-close M w c k old out new h sealed =
+    subst (ActCloses M old new) (sym h.3)
+    (forgoes-by M w c k old h.0 new h.1 (shuts-one w c h.0 new h.2) sealed)
+
 -- an answer that is told
 
 tells-close : (M : Terms) (w : When) (c k : ℕ) (old : Served) (out : List Emission) (new : Served) → IsTelling M w c k old out new
     → (old.core.state.sealed ≡ true → new.core.state.sealed ≡ true) → ActCloses M old new out
 tells-close M w c k old out new h sealed = subst (ActCloses M old new) (sym h.given) (by (closes h.answer.mapping.came) refl h.ends)
   where
+    taken : IsForgoing c k old h.told
+    taken = told-forgone M w c k old out new h
+
     apart : (d : ℕ) → Gone d old → c ≢ d
-    apart d g same = told-one d old.core.untaken (untaken_of h.answer) g.told h.taken.1 (h.conn ∙ same)
-
-    told_gone : (d : ℕ) → Gone d old → Gone d h.told
-    told_gone d g = record {
-      told = subst (λ (v : CoreValue). AreToOthers d v.untaken) (sym h.taken.3) (left-all (λ (u : Untaken). u.conn ≢ d) k old.core.untaken g.told);
-      shut = λ p has. g.shut p (subst (λ (v : CoreValue). HasConn v.state.conns d p) h.taken.3 has);
-      unasked = λ x e. g.unasked x (subst (λ (xs : List Unasked). unasked_at d xs ≡ Some x) h.unasked e);
-    }
-
-    told_apart : AreApart old.core.untaken → AreApart h.told.core.untaken
-    told_apart a = subst (λ (v : CoreValue). AreApart v.untaken) (sym h.taken.3) (left-apart k old.core.untaken a)
-
-    told_others : AreApart old.core.untaken → AreToOthers c h.told.core.untaken
-    told_others a =
-        subst (λ (v : CoreValue). AreToOthers c v.untaken) (sym h.taken.3)
-        (subst (λ (j : ℕ). AreToOthers c (filter (λ (u : Untaken). not (u.ask == j)) old.core.untaken)) h.taken.0
-        (subst (λ (i : ℕ). AreToOthers i (filter (λ (u : Untaken). not (u.ask == h.answer.ask)) old.core.untaken)) h.conn
-        (told-apart old.core.untaken (untaken_of h.answer) a h.taken.1)))
-
-    told_still : (d j : ℕ) → j ≢ k → IsToTell old.core.untaken d j → IsToTell h.told.core.untaken d j
-    told_still d j ne told =
-        subst (λ (v : CoreValue). IsToTell v.untaken d j) (sym h.taken.3) (others-told d k j old.core.untaken ne told)
-
-    -- the ask of this answer
-    own_ask : (d j t : ℕ) (a : Ask) (ws : List Written) → j ≡ k → IsEntry (old.core.state.entries ++ ws) j t (Asked d a)
-        → (d ≡ c) × (a ≡ ask_of h.answer.mapping)
-    own_ask d j t a ws e stands =
-        let given = h.taken.2 in
-        let mine : IsEntry (old.core.state.entries ++ ws) h.answer.ask t (Asked d a) =
-        subst (λ (i : ℕ). IsEntry (old.core.state.entries ++ ws) i t (Asked d a)) (e ∙ sym h.taken.0) stands in
-        let same = same-entry (old.core.state.entries ++ ws) h.answer.ask t given.asked d h.answer.conn a
-        (ask_of h.answer.mapping) mine
-        (entry-more old.core.state.entries ws h.answer.ask given.asked (Asked h.answer.conn (ask_of h.answer.mapping)) given.ask_stands) in
-        (same.0 ∙ h.conn, same.1)
+    apart = taken-apart c k old h.told taken
 
     last_answer : (ws : List Written) → closes h.answer.mapping.came ≡ true
         → IsLastAnswer M (old.core.state.entries ++ ws) c (answer_text h.response)
@@ -253,49 +296,30 @@ tells-close M w c k old out new h sealed = subst (ActCloses M old new) (sym h.gi
           text = refl;
         })
 
-    told_entries : h.told.core.state.entries ≡ old.core.state.entries
-    told_entries = ap (λ (v : CoreValue). v.state.entries) h.taken.3
-
     still_entries : (s : Served) → s ≡ h.told → s.core.state.entries ≡ old.core.state.entries ++ []
-    still_entries s e = ap (λ (x : Served). x.core.state.entries) e ∙ (told_entries ∙ sym (append-nil old.core.state.entries))
-
-    long_entries : (shut : ShutsOne c h.told new)
-        → new.core.state.entries ≡ old.core.state.entries ++ at_moment shut.moment (Shuts c) ∷ []
-    long_entries shut = shut.entries ∙ ap (λ (es : List Written). es ++ at_moment shut.moment (Shuts c) ∷ []) told_entries
-
-    tell_shut : (shut : ShutsOne c h.told new) (d j u : ℕ) (a : Ask) (later : List Written) → IsToTell old.core.untaken d j
-        → (j ≡ k) ⊎ (j ≢ k) → IsEntry (new.core.state.entries ++ later) j u (Asked d a)
-        → IsToTell new.core.untaken d j ⊎ Contains (c ∷ []) d
-    tell_shut shut d j u a later told (inr ne) e =
-        inl (subst (λ (us : List Untaken). IsToTell us d j) (sym shut.untaken) (told_still d j ne told))
-    tell_shut shut d j u a later told (inl same) e =
-        let long : new.core.state.entries ++ later
-        ≡ old.core.state.entries ++ (at_moment shut.moment (Shuts c) ∷ [] ++ later) =
-        ap (λ (es : List Written). es ++ later) (long_entries shut)
-        ∙ append_assoc old.core.state.entries (at_moment shut.moment (Shuts c) ∷ []) later in
-        let own = own_ask d j u a (at_moment shut.moment (Shuts c) ∷ [] ++ later) same
-        (subst (λ (es : List Written). IsEntry es j u (Asked d a)) long e) in
-        inr (here c d [] (sym own.0))
+    still_entries s e =
+        ap (λ (x : Served). x.core.state.entries) e
+        ∙ (taken-entries c k old h.told taken ∙ sym (append-nil old.core.state.entries))
 
     closes_so : (shut : ShutsOne c h.told new) → closes h.answer.mapping.came ≡ true
         → ActCloses M old new (Says c (answer_text h.response) ∷ Closed c ∷ [])
     closes_so shut t = record {
       more = at_moment shut.moment (Shuts c) ∷ [];
-      entries = long_entries shut;
+      entries = long-entries w c k old h.told new taken shut;
       shut = refl;
       sealed = sealed;
       turned = (tt, (tt, tt));
-      gone = λ d g. (shut.others d (λ same. apart d g (sym same)) (told_gone d g), (apart d g, (apart d g, tt)));
-      form = λ a. inr (inr (record {
+      gone = λ d g. (shut.others d (λ same. apart d g (sym same)) (taken-gone c k old h.told taken d g), (apart d g, (apart d g, tt)));
+      form = λ a. inr (inr (inl (record {
         conn = c;
         bytes = answer_text h.response;
         is = refl;
-        answer = subst (λ (es : List Written). IsLastAnswer M es c (answer_text h.response)) (sym (long_entries shut))
+        answer = subst (λ (es : List Written). IsLastAnswer M es c (answer_text h.response)) (sym (long-entries w c k old h.told new taken shut))
             (last_answer (at_moment shut.moment (Shuts c) ∷ []) t);
-        gone = shut.own (told_others a);
-      }));
-      apart = λ a. subst AreApart (sym shut.untaken) (told_apart a);
-      told = λ d j u a later told e last. tell_shut shut d j u a later told (which j k) e;
+        gone = shut.own (taken-others c k old h.told taken a);
+      })));
+      apart = λ a. subst AreApart (sym shut.untaken) (taken-still-apart c k old h.told taken a);
+      told = λ d j u a later told e last. tell-shut w c k old h.told new taken shut d j u a later told (which j k) e;
       answered = (tt, tt);
     }
 
@@ -310,9 +334,9 @@ tells-close M w c k old out new h sealed = subst (ActCloses M old new) (sym h.gi
       shut = refl;
       sealed = sealed;
       turned = (tt, tt);
-      gone = λ d g. (subst (Gone d) (sym ends.0) (told_gone d g), (apart d g, tt));
+      gone = λ d g. (subst (Gone d) (sym ends.0) (taken-gone c k old h.told taken d g), (apart d g, tt));
       form = λ a. inl (tt, tt);
-      apart = λ a. subst (λ (s : Served). AreApart s.core.untaken) (sym ends.0) (told_apart a);
+      apart = λ a. subst (λ (s : Served). AreApart s.core.untaken) (sym ends.0) (taken-still-apart c k old h.told taken a);
       told = λ d j u a later told e last. tell d j u a later told (which j k) e last;
       answered = tt;
     })
@@ -320,11 +344,11 @@ tells-close M w c k old out new h sealed = subst (ActCloses M old new) (sym h.gi
         tell : (d j u : ℕ) (a : Ask) (later : List Written) → IsToTell old.core.untaken d j → (j ≡ k) ⊎ (j ≢ k)
             → IsEntry (new.core.state.entries ++ later) j u (Asked d a) → closes a.came ≡ true
             → IsToTell new.core.untaken d j ⊎ Contains [] d
-        tell d j u a later told (inr ne) e last = inl (subst (λ (s : Served). IsToTell s.core.untaken d j) (sym ends.0) (told_still d j ne told))
+        tell d j u a later told (inr ne) e last = inl (subst (λ (s : Served). IsToTell s.core.untaken d j) (sym ends.0) (taken-still c k old h.told taken d j ne told))
         tell d j u a later told (inl same) e last =
             let long : new.core.state.entries ++ later ≡ old.core.state.entries ++ ([] ++ later) =
             ap (λ (es : List Written). es ++ later) (still_entries new ends.0) ∙ append_assoc old.core.state.entries [] later in
-            let own = own_ask d j u a later same (subst (λ (es : List Written). IsEntry es j u (Asked d a)) long e) in
+            let own = taken-ask c k old h.told taken d j u a later same (subst (λ (es : List Written). IsEntry es j u (Asked d a)) long e) in
             absurd (both_ways (closes h.answer.mapping.came) t (sym (ap (λ (b : Ask). closes b.came) own.1) ∙ last))
 
 -- each act of an input but those of openings and closes
@@ -373,6 +397,8 @@ act-closes M w (GoesOn c) old out new i h =
     (λ x n. at-number c old.unasked h.0.before h.0.stands)
     (subst (λ (xs : List Unasked). unasked_at d xs ≡ Some x) h.0.left e)) refl (tt, tt) (tt, tt)
     (λ d g. (λ same. g.unasked h.0.before (subst (λ (i : ℕ). unasked_at i old.unasked ≡ Some h.0.before) same h.0.stands), tt)))
+act-closes M w (GivesUp c) old out new i h = gives-up-close M w c old out new h (goes M w (GivesUp c) old out new tt h).sealed
+act-closes M w (Forgoes c k) old out new i h = forgoes-close M w c k old out new h (goes M w (Forgoes c k) old out new tt h).sealed
 act-closes M w (Rests c) old out new i h =
     subst (ActCloses M old new) (sym h.1)
     (same-closes M old new [] (ap (λ (v : CoreValue). v.state) h.0) (ap (λ (v : CoreValue). v.untaken) h.0)

@@ -1,9 +1,10 @@
 -- Whom acts close, and what acts leave that close nobody.
-use Rattle.std.proofs.Common.{◌≡◌, ◌≢◌, ◌⊎◌, inl, inr, ℕ, ◌+◌, true, List, [], ◌∷◌, ◌++◌, length, map, Option, Some, None, refl, sym, ap, ◌∙◌, subst}
-use Rattle.std.specs.Prelude.{⊤}
-use Rattle.std.specs.List.{AllByRecursion, Contains}
+use Rattle.std.proofs.Common.{◌≡◌, ◌≢◌, ◌⊎◌, inl, inr, ℕ, ◌+◌, true, not, List, [], ◌∷◌, ◌++◌, length, map, Option, Some, None, refl, sym, ap, ◌∙◌, subst}
+use Rattle.std.specs.Prelude.{⊤, ◌==◌}
+use Rattle.std.specs.List.{AllByRecursion, Contains, filter}
 use Rattle.std.proofs.lemmas.List.{append-nil, append_cancel_left}
 use Rattle.ask_model.specs.Views.{Ask}
+use Rattle.journal_book.specs.Views.{ask_of}
 use Rattle.journal_book.specs.Entries.{Deed, Opens as Opened, Asks as Asked, Sends as Sent, Hears as Heard, Passes as Passed, Answers, Shuts, Seals, Carries, Written}
 use Rattle.http_mapping.specs.Means.{closes}
 use Rattle.history_claims.specs.Headline.{IsEntry}
@@ -14,25 +15,27 @@ use Rattle.exchange_model.specs.Growing.{Adds, at_moment, IsOfAsk}
 use Rattle.exchange_model.specs.Sealing.{asks_in_room}
 use Rattle.exchange_model.proofs.CallerLemmas.{asks-add, asks-answer}
 use Rattle.exchange_core.specs.Calls.{AsksSo}
+use Rattle.exchange_core.specs.Drafts.{untaken_of}
 use Rattle.exchange_core.specs.Values.{CoreValue, Untaken, answered_in}
 use Rattle.gateway_model.specs.declared.input.When.{When}
-use Rattle.gateway_model.specs.Acts.{Served, Terms, IsAsking, at}
+use Rattle.gateway_model.specs.Acts.{Served, Terms, IsAsking, IsForgoing, at}
 use Rattle.gateway_model.specs.Closing.{closed_in, shut_by, shut_in, IsNotTo, IsLastAnswer, IsNoTurn}
-use Rattle.gateway_model.specs.Emissions.{Emission, Says, Closed}
+use Rattle.gateway_model.specs.Emissions.{Emission, Says, Closed, GivenUp}
 use Rattle.gateway_model.specs.Unasked.{Unasked, unasked_at, changed_at}
 use Rattle.gateway_model.specs.Waiting.{conn_id, AreApart}
-use Rattle.gateway_model.proofs.Awaiting.{IsToTell, told-more, StepsTo, steps-ids, AsksTo, which}
+use Rattle.gateway_model.proofs.Awaiting.{IsToTell, entry-more, same-entry, others-told, told-more, StepsTo, steps-ids, AsksTo, which}
 use Rattle.gateway_model.proofs.Moving.{IsInner, AreInner}
 use Rattle.gateway_model.proofs.Numbers.{asks-ids}
 use Rattle.gateway_model.proofs.Opened.{open-conn, conn-open, open-ids}
 use Rattle.gateway_model.proofs.Order.{all-append, all-as}
 use Rattle.gateway_model.proofs.Serving.{asks-to, item-others}
 use Rattle.gateway_model.proofs.Standing.{others-same, own-before}
-use Rattle.gateway_model.proofs.Untold.{AreToOthers, all-to-others, apart-with, apart-both, all-own, IsToldBy, each-told}
+use Rattle.gateway_model.proofs.Untold.{AreToOthers, all-to-others, apart-with, apart-both, all-own, left-all, left-apart, told-one, told-apart, IsToldBy, each-told}
 
 -- It closes none.
 abbrev pub IsPlain : Emission → Type 0
 IsPlain (Closed c) = ⊥
+IsPlain (GivenUp c) = ⊥
 IsPlain _ = ⊤
 
 -- The connection isn't open, and nothing waits to be told to it.
@@ -55,8 +58,14 @@ pub record Ended (M : Terms) (new : Served) (out : List Emission) : Type 0 where
   pub answer : IsLastAnswer M new.core.state.entries conn bytes
   pub gone : Gone conn new
 
+-- Or one is given up.
+pub record Forgone (new : Served) (out : List Emission) : Type 0 where
+  pub conn : ℕ
+  pub is : out ≡ GivenUp conn ∷ []
+  pub gone : Gone conn new
+
 abbrev pub Form : Terms → Served → List Emission → Type 0
-Form M new out = AllByRecursion IsPlain out ⊎ (Denied new out ⊎ Ended M new out)
+Form M new out = AllByRecursion IsPlain out ⊎ (Denied new out ⊎ (Ended M new out ⊎ Forgone new out))
 
 pub record ActCloses (M : Terms) (old new : Served) (out : List Emission) : Type 0 where
   pub more : List Written
@@ -216,3 +225,46 @@ asks-close M w c old new h sealed =
     let s : AsksTo (at w old) c h.ask old.core new.core = asks-to (at w old) w.word c h.number h.ask old.core new.core h.asked in
     asks-close-by M w c (at w old) old new h s
     (all-own (n + 1) n c h.ask s.rest (ask-own (at w old) w.word c h.ask old.core new.core h.asked.2 s)) sealed
+
+-- an answer is taken
+
+module _ (c k : ℕ) (old new : Served) (h : IsForgoing c k old new) where
+  pub taken-apart : (d : ℕ) → Gone d old → c ≢ d
+  taken-apart d g same = told-one d old.core.untaken (untaken_of h.answer) g.told h.taken.1 (h.own ∙ same)
+
+  pub taken-gone : (d : ℕ) → Gone d old → Gone d new
+  taken-gone d g = record {
+    told = subst (λ (v : CoreValue). AreToOthers d v.untaken) (sym h.taken.3) (left-all (λ (u : Untaken). u.conn ≢ d) k old.core.untaken g.told);
+    shut = λ p has. g.shut p (subst (λ (v : CoreValue). HasConn v.state.conns d p) h.taken.3 has);
+    unasked = λ x e. g.unasked x (subst (λ (xs : List Unasked). unasked_at d xs ≡ Some x) h.unasked e);
+  }
+
+  pub taken-still-apart : AreApart old.core.untaken → AreApart new.core.untaken
+  taken-still-apart a = subst (λ (v : CoreValue). AreApart v.untaken) (sym h.taken.3) (left-apart k old.core.untaken a)
+
+  -- none waits for its connection then
+  pub taken-others : AreApart old.core.untaken → AreToOthers c new.core.untaken
+  taken-others a =
+      subst (λ (v : CoreValue). AreToOthers c v.untaken) (sym h.taken.3)
+      (subst (λ (j : ℕ). AreToOthers c (filter (λ (u : Untaken). not (u.ask == j)) old.core.untaken)) h.taken.0
+      (subst (λ (i : ℕ). AreToOthers i (filter (λ (u : Untaken). not (u.ask == h.answer.ask)) old.core.untaken)) h.own
+      (told-apart old.core.untaken (untaken_of h.answer) a h.taken.1)))
+
+  pub taken-still : (d j : ℕ) → j ≢ k → IsToTell old.core.untaken d j → IsToTell new.core.untaken d j
+  taken-still d j ne told =
+      subst (λ (v : CoreValue). IsToTell v.untaken d j) (sym h.taken.3) (others-told d k j old.core.untaken ne told)
+
+  -- the ask of this answer
+  pub taken-ask : (d j t : ℕ) (a : Ask) (ws : List Written) → j ≡ k → IsEntry (old.core.state.entries ++ ws) j t (Asked d a)
+      → (d ≡ c) × (a ≡ ask_of h.answer.mapping)
+  taken-ask d j t a ws e stands =
+      let given = h.taken.2 in
+      let mine : IsEntry (old.core.state.entries ++ ws) h.answer.ask t (Asked d a) =
+      subst (λ (i : ℕ). IsEntry (old.core.state.entries ++ ws) i t (Asked d a)) (e ∙ sym h.taken.0) stands in
+      let same = same-entry (old.core.state.entries ++ ws) h.answer.ask t given.asked d h.answer.conn a
+      (ask_of h.answer.mapping) mine
+      (entry-more old.core.state.entries ws h.answer.ask given.asked (Asked h.answer.conn (ask_of h.answer.mapping)) given.ask_stands) in
+      (same.0 ∙ h.own, same.1)
+
+  pub taken-entries : new.core.state.entries ≡ old.core.state.entries
+  taken-entries = ap (λ (v : CoreValue). v.state.entries) h.taken.3

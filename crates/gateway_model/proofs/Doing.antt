@@ -1,5 +1,6 @@
 -- Each act of a proxy gives out, adds and leaves what it may; and so do all of them.
 use Rattle.std.proofs.Common.{◌≡◌, ◌≢◌, ℕ, ◌+◌, ◌<◌, Bool, true, false, ◌⊎◌, inl, inr, List, [], ◌∷◌, ◌++◌, length, Some, Err, refl, sym, ap, subst, ◌∙◌, arith, append_assoc, append-nil, length-append}
+use Rattle.std.specs.Prelude.{⊤}
 use Rattle.std.specs.List.{AllByRecursion, slice_get}
 use Rattle.std.proofs.lemmas.List.{append_cancel_left}
 use Rattle.http_mapping.specs.Means.{closes}
@@ -20,13 +21,14 @@ use Rattle.exchange_core.specs.declared.fault.AskFault.TheVariants as Fault
 use Rattle.exchange_core.specs.Calls.{IsOpened, IsAsked, IsClosed, AsksSo}
 use Rattle.exchange_core.specs.Values.{CoreValue, Untaken, written, answered_by, answered_in, stepped}
 use Rattle.gateway_model.specs.declared.input.When.{When}
-use Rattle.gateway_model.specs.Acts.{Act, Opens, TurnsAway, Takes, Hears, Passes, Asks, Denies, Sends, Tells, GoesOn, Rests, Leaves, Misses, Served, Terms, IsAllTold, Ends, Does, DoesAll, at, continue_text}
-use Rattle.gateway_model.specs.Emissions.{Emission, Says, Closed, Turned}
+use Rattle.gateway_model.specs.Acts.{Act, Opens, TurnsAway, Takes, Hears, Passes, Asks, Denies, Sends, Tells, GoesOn, GivesUp, Forgoes, Rests, Leaves, Misses, Served, Terms, IsAllTold, Ends, Does, DoesAll, at, continue_text}
+use Rattle.gateway_model.specs.Emissions.{Emission, Says, Closed, GivenUp, Turned}
 use Rattle.gateway_model.specs.Tellings.{IsMeant, AreMeant}
 use Rattle.gateway_model.specs.Waiting.{AreApart}
 use Rattle.gateway_model.proofs.Order.{all-append, all-as}
 use Rattle.gateway_model.proofs.Apart.{at-seam, apart-answers}
-use Rattle.gateway_model.proofs.Moves.{Whoever, Did, did-then, Aside, aside-none, aside-closed, aside-turned, aside-goes-on, did-aside, did-step, did-send, did-take}
+use Rattle.gateway_model.proofs.Moves.{Whoever, Did, did-then, Aside, aside-none, aside-closed, aside-given-up, aside-turned, aside-goes-on, did-aside, did-step, did-send}
+use Rattle.gateway_model.proofs.Taken.{did-take, did-forgo}
 use Rattle.gateway_model.proofs.Moving.{denied-is}
 
 -- a step that answers nothing
@@ -35,17 +37,17 @@ apart-none : (us vs : List Untaken) → vs ≡ [] → AreApart us → AreApart (
 apart-none us vs e h =
     subst AreApart (sym (ap (λ (ws : List Untaken). us ++ ws) e ∙ append-nil us)) h
 
-did-quiet : (M : Terms) (G : ℕ → Type 0) (t : ℕ) (old new : CoreValue) (S : State) (out : List Emission) → new ≡ stepped S old
+did-quiet : (M : Terms) (G F : ℕ → Type 0) (t : ℕ) (old new : CoreValue) (S : State) (out : List Emission) → new ≡ stepped S old
     → (x : Adds t old.state S) → Aside G out → AreMeant M x.more
-    → answered_in (length old.state.entries) x.more ≡ [] → Did M G old out new
-did-quiet M G t old new S out e x aside meant none =
-    did-step M G t old new S out e x aside meant
+    → answered_in (length old.state.entries) x.more ≡ [] → Did M G F old out new
+did-quiet M G F t old new S out e x aside meant none =
+    did-step M G F t old new S out e x aside meant
     (λ h rest stands is waits. apart-none old.untaken (answered_in (length old.state.entries) x.more) none waits.apart)
 
-did-opened : (M : Terms) (G : ℕ → Type 0) (t : ℕ) (old new : CoreValue) (out : List Emission) → new ≡ stepped (opens_in_room t old.state) old
-    → Aside G out → Did M G old out new
-did-opened M G t old new out e aside =
-    did-quiet M G t old new (opens_in_room t old.state) out e x aside (meant (opens-alone t old.state x)) (none (opens-alone t old.state x))
+did-opened : (M : Terms) (G F : ℕ → Type 0) (t : ℕ) (old new : CoreValue) (out : List Emission) → new ≡ stepped (opens_in_room t old.state) old
+    → Aside G out → Did M G F old out new
+did-opened M G F t old new out e aside =
+    did-quiet M G F t old new (opens_in_room t old.state) out e x aside (meant (opens-alone t old.state x)) (none (opens-alone t old.state x))
   where
     x : Adds t old.state (opens_in_room t old.state)
     x = opens-add t old.state
@@ -68,9 +70,9 @@ did-opened M G t old new out e aside =
 abbrev shuts-add : (t c : ℕ) (S : State) → Adds t S (shuts t c S)
 shuts-add t c S = record { more = at_moment t (Shuts c) ∷ []; entries = refl; at = (refl, tt); own = (refl, tt); conns = refl }
 
-did-closed : (M : Terms) (G : ℕ → Type 0) (t c : ℕ) (old new : CoreValue) (out : List Emission) → IsClosed t c old new → Aside G out → Did M G old out new
-did-closed M G t c old new out h aside =
-    did-step M G t old new (shuts t c old.state) out h.1 (shuts-add t c old.state) aside (tt, tt)
+did-closed : (M : Terms) (G F : ℕ → Type 0) (t c : ℕ) (old new : CoreValue) (out : List Emission) → IsClosed t c old new → Aside G out → Did M G F old out new
+did-closed M G F t c old new out h aside =
+    did-step M G F t old new (shuts t c old.state) out h.1 (shuts-add t c old.state) aside (tt, tt)
     (λ h rest stands is waits. apart-none old.untaken [] refl waits.apart)
 
 -- a datagram or a tick
@@ -93,10 +95,10 @@ meant-none : (M : Terms) (ws : List Written) → HasNoClient ws → AreMeant M w
 meant-none M [] h = tt
 meant-none M (w ∷ ws) h = (meant-deed M w.deed h.0, meant-none M ws h.1)
 
-did-hears : (M : Terms) (G : ℕ → Type 0) (t : ℕ) (old new : CoreValue) (S : State) → old.untaken ≡ [] → new ≡ stepped S old
-    → (x : Adds t old.state S) → HasNoClient x.more → Did M G old [] new
-did-hears M G t old new S none e x free =
-    did-step M G t old new S [] e x (aside-none G) (meant-none M x.more free)
+did-hears : (M : Terms) (G F : ℕ → Type 0) (t : ℕ) (old new : CoreValue) (S : State) → old.untaken ≡ [] → new ≡ stepped S old
+    → (x : Adds t old.state S) → HasNoClient x.more → Did M G F old [] new
+did-hears M G F t old new S none e x free =
+    did-step M G F t old new S [] e x (aside-none G) (meant-none M x.more free)
     (λ h rest stands is waits.
     subst (λ (us : List Untaken). AreApart (us ++ answered_in (length old.state.entries) x.more)) (sym none)
     (apart-answers h old.state.entries x.more rest stands is free))
@@ -224,14 +226,14 @@ apart-both c (u ∷ us) vs others own a b = (
   apart-both c us vs others.1 own a.1 b,
 )
 
-did-asks : (M : Terms) (G : ℕ → Type 0) (t word c : ℕ) (a : Ask) (old new : CoreValue) → AsksSo t word c a old new → M.IsMeaning a → IsAllTold c old
-    → Did M G old [] new
-did-asks M G t word c a old new so meant told =
+did-asks : (M : Terms) (G F : ℕ → Type 0) (t word c : ℕ) (a : Ask) (old new : CoreValue) → AsksSo t word c a old new → M.IsMeaning a → IsAllTold c old
+    → Did M G F old [] new
+did-asks M G F t word c a old new so meant told =
     let k : ℕ = length old.state.entries in
     let S : State = asks_in_room t c a so.numbers old.state in
     let x : Adds t old.state S = asks-add t c a so.numbers old.state in
     let of : AllByRecursion (λ (w : Written). IsOfAsk k c a w.deed) x.more = asks-answer t c a so.numbers old.state x in
-    did-step M G t old new S [] so.is x (aside-none G) (asks-meant M k c a x.more meant of)
+    did-step M G F t old new S [] so.is x (aside-none G) (asks-meant M k c a x.more meant of)
     (λ h rest stands is waits.
     apart-both c old.untaken (answered_in k x.more) told (own-conn h stands k c a k x.more of)
     waits.apart (own-apart h stands k c a old.state.entries x.more rest is of))
@@ -250,16 +252,16 @@ denied-adds t c a n S e = elim (denied-is t c a n S e) [
   | inr seal ↦ subst (SealsAtMost t S) (sym seal) (record { more = at_moment t Seals ∷ []; entries = refl; are = inr refl })
 ]
 
-pub did-denied : (M : Terms) (G : ℕ → Type 0) (t word c : ℕ) (a : Ask) (old new : CoreValue) → IsAsked (Err Fault.Sealed) t word c a old new → M.IsMeaning a
-    → Did M G old [] new
-did-denied M G t word c a old new h meant = by h.2
+pub did-denied : (M : Terms) (G F : ℕ → Type 0) (t word c : ℕ) (a : Ask) (old new : CoreValue) → IsAsked (Err Fault.Sealed) t word c a old new → M.IsMeaning a
+    → Did M G F old [] new
+did-denied M G F t word c a old new h meant = by h.2
   where
     none : (more : List Written) → (more ≡ []) ⊎ (more ≡ at_moment t Seals ∷ []) → answered_in (length old.state.entries) more ≡ []
     none more (inl e) = ap (answered_in (length old.state.entries)) e
     none more (inr e) = ap (answered_in (length old.state.entries)) e
 
-    by : ((old.state.sealed ≡ true) × (new ≡ old)) ⊎ AsksSo t word c a old new → Did M G old [] new
-    by (inl same) = did-aside M G old new [] same.1 (aside-none G)
+    by : ((old.state.sealed ≡ true) × (new ≡ old)) ⊎ AsksSo t word c a old new → Did M G F old [] new
+    by (inl same) = did-aside M G F old new [] same.1 (aside-none G)
     by (inr so) =
         let k : ℕ = length old.state.entries in
         let S : State = asks_in_room t c a so.numbers old.state in
@@ -267,84 +269,102 @@ did-denied M G t word c a old new h meant = by h.2
         let q : SealsAtMost t old.state S =
         denied-adds t c a so.numbers old.state (sym (ap (λ (v : CoreValue). v.state.sealed) so.is) ∙ h.0) in
         let same : x.more ≡ q.more = append_cancel_left old.state.entries x.more q.more (sym x.entries ∙ q.entries) in
-        did-quiet M G t old new S [] so.is x (aside-none G)
+        did-quiet M G F t old new S [] so.is x (aside-none G)
         (asks-meant M k c a x.more meant (asks-answer t c a so.numbers old.state x))
         (ap (answered_in k) same ∙ none q.more q.are)
 
 -- each act
 
-did-ends : (M : Terms) (G : ℕ → Type 0) (w : When) (c : ℕ) (b : Bool) (old : Served) (out : List Emission) (new : Served) → Ends w c b old out new
-    → Did M G old.core out new.core
-did-ends M G w c true old out new h =
-    subst (λ (out : List Emission). Did M G old.core out new.core) (sym h.1)
-    (did-closed M G (at w old) c old.core new.core (Closed c ∷ []) h.0.0 (aside-closed G c))
-did-ends M G w c false old out new h =
-    subst (λ (out : List Emission). Did M G old.core out new.core) (sym h.1)
-    (did-aside M G old.core new.core [] (ap (λ (s : Served). s.core) h.0) (aside-none G))
+did-ends : (M : Terms) (G F : ℕ → Type 0) (w : When) (c : ℕ) (b : Bool) (old : Served) (out : List Emission) (new : Served) → Ends w c b old out new
+    → Did M G F old.core out new.core
+did-ends M G F w c true old out new h =
+    subst (λ (out : List Emission). Did M G F old.core out new.core) (sym h.1)
+    (did-closed M G F (at w old) c old.core new.core (Closed c ∷ []) h.0.0 (aside-closed G c))
+did-ends M G F w c false old out new h =
+    subst (λ (out : List Emission). Did M G F old.core out new.core) (sym h.1)
+    (did-aside M G F old.core new.core [] (ap (λ (s : Served). s.core) h.0) (aside-none G))
 
-pub did-act : (M : Terms) (G : ℕ → Type 0) (w : When) (a : Act) (goes : (c : ℕ) → a ≡ GoesOn c → G c) (old : Served) (out : List Emission) (new : Served) → Does M w a old out new
-    → Did M G old.core out new.core
-did-act M G w (Opens c) goes old out new h =
-    subst (λ (out : List Emission). Did M G old.core out new.core) (sym h.2)
-    (did-opened M G (at w old) old.core new.core [] h.0.1 (aside-none G))
-did-act M G w TurnsAway goes old out new h =
-    subst (λ (out : List Emission). Did M G old.core out new.core) (sym h.2) (turned h.0)
+pub did-act : (M : Terms) (G F : ℕ → Type 0) (w : When) (a : Act) (goes : (c : ℕ) → a ≡ GoesOn c → G c)
+    (free : (c k : ℕ) → a ≡ Forgoes c k → F c) (old : Served) (out : List Emission) (new : Served) → Does M w a old out new
+    → Did M G F old.core out new.core
+did-act M G F w (Opens c) goes free old out new h =
+    subst (λ (out : List Emission). Did M G F old.core out new.core) (sym h.2)
+    (did-opened M G F (at w old) old.core new.core [] h.0.1 (aside-none G))
+did-act M G F w TurnsAway goes free old out new h =
+    subst (λ (out : List Emission). Did M G F old.core out new.core) (sym h.2) (turned h.0)
   where
     turned : IsOpened (Err Open.Full) (at w old) old.core new.core ⊎ IsOpened (Err Open.Sealed) (at w old) old.core new.core
-        → Did M G old.core (Turned ∷ []) new.core
-    turned (inl full) = did-aside M G old.core new.core (Turned ∷ []) full.0 (aside-turned G)
-    turned (inr sealed) = did-opened M G (at w old) old.core new.core (Turned ∷ []) sealed.0 (aside-turned G)
-did-act M G w (Takes c bytes) goes old out new h =
-    subst (λ (out : List Emission). Did M G old.core out new.core) (sym h.1)
-    (did-aside M G old.core new.core [] (ap (λ (s : Served). s.core) h.0) (aside-none G))
-did-act M G w (Hears p bytes) goes old out new h =
-    subst (λ (out : List Emission). Did M G old.core out new.core) (sym h.2)
+        → Did M G F old.core (Turned ∷ []) new.core
+    turned (inl full) = did-aside M G F old.core new.core (Turned ∷ []) full.0 (aside-turned G)
+    turned (inr sealed) = did-opened M G F (at w old) old.core new.core (Turned ∷ []) sealed.0 (aside-turned G)
+did-act M G F w (Takes c bytes) goes free old out new h =
+    subst (λ (out : List Emission). Did M G F old.core out new.core) (sym h.1)
+    (did-aside M G F old.core new.core [] (ap (λ (s : Served). s.core) h.0) (aside-none G))
+did-act M G F w (Hears p bytes) goes free old out new h =
+    subst (λ (out : List Emission). Did M G F old.core out new.core) (sym h.2)
     (let S : State = hears_in_room (at w old) p bytes h.0.numbers old.core.state in
     let x : Adds (at w old) old.core.state S = hears-add (at w old) p bytes h.0.numbers old.core.state in
-    did-hears M G (at w old) old.core new.core S h.3 h.0.is x
+    did-hears M G F (at w old) old.core new.core S h.3 h.0.is x
     (hears-answer (at w old) p bytes h.0.numbers old.core.state x))
-did-act M G w Passes goes old out new h =
-    subst (λ (out : List Emission). Did M G old.core out new.core) (sym h.1)
+did-act M G F w Passes goes free old out new h =
+    subst (λ (out : List Emission). Did M G F old.core out new.core) (sym h.1)
     (let x : Adds (at w old) old.core.state (ticks_in_room (at w old) old.core.state) = ticks-add (at w old) old.core.state in
-    did-hears M G (at w old) old.core new.core (ticks_in_room (at w old) old.core.state) h.2
+    did-hears M G F (at w old) old.core new.core (ticks_in_room (at w old) old.core.state) h.2
     (ap (λ (s : Served). s.core) h.0) x (ticks-answer (at w old) old.core.state x))
-did-act M G w (Asks c) goes old out new h =
-    subst (λ (out : List Emission). Did M G old.core out new.core) (sym h.1)
-    (did-asks M G (at w old) w.word c h.0.ask old.core new.core h.0.asked.2 h.0.reads.meant h.0.told)
-did-act M G w (Denies c) goes old out new h =
+did-act M G F w (Asks c) goes free old out new h =
+    subst (λ (out : List Emission). Did M G F old.core out new.core) (sym h.1)
+    (did-asks M G F (at w old) w.word c h.0.ask old.core new.core h.0.asked.2 h.0.reads.meant h.0.told)
+did-act M G F w (Denies c) goes free old out new h =
     let mid : Served = h.0 in
-    subst (λ (out : List Emission). Did M G old.core out new.core) (sym h.3)
-    (did-then M G old.core mid.core new.core [] (Closed c ∷ [])
-    (did-denied M G (at w old) w.word c h.1.ask old.core mid.core h.1.denied h.1.reads.meant)
-    (did-closed M G (at w mid) c mid.core new.core (Closed c ∷ []) h.2.0 (aside-closed G c)))
-did-act M G w Sends goes old out new h =
-    subst (λ (out : List Emission). Did M G old.core out new.core) (sym h.given)
-    (did-send M G old.core new.core h.datagram h.sent)
-did-act M G w (Tells c k) goes old out new h =
-    subst (λ (out : List Emission). Did M G old.core out new.core) (sym h.given)
-    (did-then M G old.core h.told.core new.core (Says c (answer_text h.response) ∷ []) h.after
-    (did-take M G old.core h.told.core c k h.answer h.response h.conn h.taken h.tells)
-    (did-ends M G w c (closes h.answer.mapping.came) h.told h.after new h.ends))
-did-act M G w (GoesOn c) goes old out new h =
-    subst (λ (out : List Emission). Did M G old.core out new.core) (sym h.2)
-    (did-aside M G old.core new.core (Says c continue_text ∷ []) h.1 (aside-goes-on G c (goes c refl)))
-did-act M G w (Rests c) goes old out new h =
-    subst (λ (out : List Emission). Did M G old.core out new.core) (sym h.1)
-    (did-aside M G old.core new.core [] h.0 (aside-none G))
-did-act M G w (Leaves c) goes old out new h =
-    subst (λ (out : List Emission). Did M G old.core out new.core) (sym h.1)
-    (did-closed M G (at w old) c old.core new.core [] h.0.0 (aside-none G))
-did-act M G w (Misses c) goes old out new h =
-    subst (λ (out : List Emission). Did M G old.core out new.core) (sym h.1)
-    (did-aside M G old.core new.core [] (ap (λ (s : Served). s.core) h.0) (aside-none G))
+    subst (λ (out : List Emission). Did M G F old.core out new.core) (sym h.3)
+    (did-then M G F old.core mid.core new.core [] (Closed c ∷ [])
+    (did-denied M G F (at w old) w.word c h.1.ask old.core mid.core h.1.denied h.1.reads.meant)
+    (did-closed M G F (at w mid) c mid.core new.core (Closed c ∷ []) h.2.0 (aside-closed G c)))
+did-act M G F w Sends goes free old out new h =
+    subst (λ (out : List Emission). Did M G F old.core out new.core) (sym h.given)
+    (did-send M G F old.core new.core h.datagram h.sent)
+did-act M G F w (Tells c k) goes free old out new h =
+    subst (λ (out : List Emission). Did M G F old.core out new.core) (sym h.given)
+    (did-then M G F old.core h.told.core new.core (Says c (answer_text h.response) ∷ []) h.after
+    (did-take M G F old.core h.told.core c k h.answer h.response h.conn h.taken h.tells)
+    (did-ends M G F w c (closes h.answer.mapping.came) h.told h.after new h.ends))
+did-act M G F w (GoesOn c) goes free old out new h =
+    subst (λ (out : List Emission). Did M G F old.core out new.core) (sym h.2)
+    (did-aside M G F old.core new.core (Says c continue_text ∷ []) h.1 (aside-goes-on G c (goes c refl)))
+did-act M G F w (GivesUp c) goes free old out new h =
+    subst (λ (out : List Emission). Did M G F old.core out new.core) (sym h.1)
+    (did-closed M G F (at w old) c old.core new.core (GivenUp c ∷ []) h.0.0 (aside-given-up G c))
+did-act M G F w (Forgoes c k) goes free old out new h =
+    let mid : Served = h.0 in
+    subst (λ (out : List Emission). Did M G F old.core out new.core) (sym h.3)
+    (did-then M G F old.core mid.core new.core [] (GivenUp c ∷ [])
+    (did-forgo M G F old.core mid.core k h.1.answer (subst F (sym h.1.own) (free c k refl)) h.1.taken)
+    (did-closed M G F (at w mid) c mid.core new.core (GivenUp c ∷ []) h.2.0 (aside-given-up G c)))
+did-act M G F w (Rests c) goes free old out new h =
+    subst (λ (out : List Emission). Did M G F old.core out new.core) (sym h.1)
+    (did-aside M G F old.core new.core [] h.0 (aside-none G))
+did-act M G F w (Leaves c) goes free old out new h =
+    subst (λ (out : List Emission). Did M G F old.core out new.core) (sym h.1)
+    (did-closed M G F (at w old) c old.core new.core [] h.0.0 (aside-none G))
+did-act M G F w (Misses c) goes free old out new h =
+    subst (λ (out : List Emission). Did M G F old.core out new.core) (sym h.1)
+    (did-aside M G F old.core new.core [] (ap (λ (s : Served). s.core) h.0) (aside-none G))
 
-pub did-all : (M : Terms) (w : When) (acts : List Act) (old : Served) (out : List Emission) (new : Served) → DoesAll M w acts old out new
-    → Did M Whoever old.core out new.core
-did-all M w [] old out new h =
-    subst (λ (out : List Emission). Did M Whoever old.core out new.core) (sym h.1)
-    (did-aside M Whoever old.core new.core [] (ap (λ (s : Served). s.core) h.0) (aside-none Whoever))
-did-all M w (a ∷ acts) old out new h =
-    subst (λ (out : List Emission). Did M Whoever old.core out new.core) (sym h.5)
-    (did-then M Whoever old.core h.0.core new.core h.1 h.2
-    (did-act M Whoever w a (λ c e. tt) old h.1 h.0 h.3)
-    (did-all M w acts h.0 h.2 new h.4))
+-- those whose answers acts forgo
+abbrev pub MayForgo : (ℕ → Type 0) → Act → Type 0
+MayForgo F (Forgoes c k) = F c
+MayForgo F _ = ⊤
+
+pub forgoes-as : (F : ℕ → Type 0) (a : Act) → MayForgo F a → (c k : ℕ) → a ≡ Forgoes c k → F c
+forgoes-as F a h c k e = subst (MayForgo F) e h
+
+pub did-all : (M : Terms) (F : ℕ → Type 0) (w : When) (acts : List Act) (old : Served) (out : List Emission) (new : Served)
+    → AllByRecursion (MayForgo F) acts → DoesAll M w acts old out new → Did M Whoever F old.core out new.core
+did-all M F w [] old out new f h =
+    subst (λ (out : List Emission). Did M Whoever F old.core out new.core) (sym h.1)
+    (did-aside M Whoever F old.core new.core [] (ap (λ (s : Served). s.core) h.0) (aside-none Whoever))
+did-all M F w (a ∷ acts) old out new f h =
+    subst (λ (out : List Emission). Did M Whoever F old.core out new.core) (sym h.5)
+    (did-then M Whoever F old.core h.0.core new.core h.1 h.2
+    (did-act M Whoever F w a (λ c e. tt) (forgoes-as F a f.0) old h.1 h.0 h.3)
+    (did-all M F w acts h.0 h.2 new f.1 h.4))

@@ -25,10 +25,10 @@ use Rattle.exchange_core.specs.Drafts.{untaken_of}
 use Rattle.gateway_model.specs.declared.input.Happening.{Happening}
 use Rattle.gateway_model.specs.declared.input.Happening.TheVariants as H
 use Rattle.gateway_model.specs.declared.input.When.{When}
-use Rattle.gateway_model.specs.Acts.{Act, Opens, TurnsAway, Takes, Hears, Passes, Asks, Denies, Sends, Tells, GoesOn, Rests, Leaves, Misses, Served, Terms, Ends, Does, DoesAll, at}
+use Rattle.gateway_model.specs.Acts.{Act, Opens, TurnsAway, Takes, Hears, Passes, Asks, Denies, Sends, Tells, GoesOn, GivesUp, Forgoes, Rests, Leaves, Misses, Served, Terms, Ends, Does, DoesAll, at}
 use Rattle.gateway_model.specs.Emissions.{Emission}
 use Rattle.gateway_model.specs.Hearing.{AreUnheard, BeginsBy, IsDropped, ShowsWhatCame, InputsShow, DoesWhatIsDue, TicksShow}
-use Rattle.gateway_model.specs.Orders.{IsSends, AreSends, Turn, acts_of, Delivers, IsInOrder}
+use Rattle.gateway_model.specs.Orders.{IsSends, AreSends, Turn, telling, acts_of, Delivers, IsInOrder}
 use Rattle.gateway_model.specs.Resting.{any_terms}
 use Rattle.gateway_model.proofs.Awaiting.{told-of}
 use Rattle.gateway_model.proofs.Heard.{IsLost, Unheard, none, both, shuts-unheard, opens-unheard, asks-unheard, ticks-unheard, late-sealed, Firstly, firstly-then, ticks-first, hears-first}
@@ -139,6 +139,11 @@ goes M w (Tells c k) old out new o h =
     ended false e = goes-same h.told.core.state new.core.state (ap (λ (s : Served). s.core.state) e.0)
 goes M w (GoesOn c) old out new o h =
     goes-same old.core.state new.core.state (ap (λ (v : CoreValue). v.state) h.1)
+goes M w (GivesUp c) old out new o h = closed-goes (at w old) c old.core new.core h.0.0
+goes M w (Forgoes c k) old out new o h =
+    goes-then old.core.state h.0.core.state new.core.state
+    (goes-same old.core.state h.0.core.state (ap (λ (v : CoreValue). v.state) h.1.taken.3))
+    (closed-goes (at w h.0) c h.0.core new.core h.2.0)
 goes M w (Rests c) old out new o h = goes-same old.core.state new.core.state (ap (λ (v : CoreValue). v.state) h.0)
 goes M w (Leaves c) old out new o h = closed-goes (at w old) c old.core new.core h.0.0
 goes M w (Misses c) old out new o h = goes-same old.core.state new.core.state (ap (λ (s : Served). s.core.state) h.0)
@@ -152,7 +157,7 @@ goes-all M w (a ∷ acts) old out new o h =
 
 -- what follows the first act of an input is such
 each-other : Each IsOther
-each-other = record { asks = λ c. tt; denies = λ c. tt; sends = tt; tells = λ c k. tt; goes_on = λ c. tt; rests = λ c. tt }
+each-other = record { asks = λ c. tt; denies = λ c. tt; sends = tt; tells = λ c k. tt; goes_on = λ c. tt; gives_up = λ c. tt; forgoes = λ c k. tt; rests = λ c. tt }
 
 abbrev AreOther : List Act → Type 0
 AreOther acts = AllByRecursion IsOther acts
@@ -243,6 +248,8 @@ sends-stay M w (Denies d) old out new i h = absurd i
 sends-stay M w Sends old out new i h = (ap (λ (v : CoreValue). v.state) h.sent.1, ap (λ (v : CoreValue). v.untaken) h.sent.1)
 sends-stay M w (Tells d k) old out new i h = absurd i
 sends-stay M w (GoesOn d) old out new i h = absurd i
+sends-stay M w (GivesUp d) old out new i h = absurd i
+sends-stay M w (Forgoes d k) old out new i h = absurd i
 sends-stay M w (Rests d) old out new i h = absurd i
 sends-stay M w (Leaves d) old out new i h = absurd i
 sends-stay M w (Misses d) old out new i h = absurd i
@@ -262,9 +269,13 @@ none-there u (i, lt, e) = omega (arith, lt)
 no-turns : (M : Terms) (w : When) (turns : List Turn) (old : Served) (out : List Emission) (new : Served) → old.core.untaken ≡ []
     → DoesAll M w (flat_map acts_of turns) old out new → new.core.state ≡ old.core.state
 no-turns M w [] old out new none h = ap (λ (s : Served). s.core.state) h.0
-no-turns M w (x ∷ turns) old out new none h =
-    absurd (none-there (untaken_of h.3.answer)
-    (subst (λ (us : List Untaken). Contains us (untaken_of h.3.answer)) none h.3.taken.1))
+no-turns M w (x ∷ turns) old out new none h = absurd (by x.told h.3)
+  where
+    by : (told : Bool) → Does M w (telling told x.conn x.ask) old h.1 h.0 → ⊥
+    by true d =
+        none-there (untaken_of d.answer) (subst (λ (us : List Untaken). Contains us (untaken_of d.answer)) none d.taken.1)
+    by false d =
+        none-there (untaken_of d.1.answer) (subst (λ (us : List Untaken). Contains us (untaken_of d.1.answer)) none d.1.taken.1)
 
 delivers-none : (M : Terms) (w : When) (acts : List Act) (old : Served) (out : List Emission) (new : Served) → Delivers acts
     → old.core.untaken ≡ [] → DoesAll M w acts old out new → new.core.state ≡ old.core.state

@@ -6,7 +6,7 @@ use Rattle.std.proofs.lemmas.Bool.{both_ways}
 use Rattle.ask_model.specs.Views.{Ask}
 use Rattle.http_mapping.specs.Means.{closes}
 use Rattle.gateway_model.specs.declared.input.When.{When}
-use Rattle.gateway_model.specs.Acts.{Act, Opens, TurnsAway, Takes, Hears, Passes, Asks, Denies, Sends, Tells, GoesOn, Rests, Leaves, Misses, Served, Terms, AsksItem, IsClosing, Ends, Does, DoesAll}
+use Rattle.gateway_model.specs.Acts.{Act, Opens, TurnsAway, Takes, Hears, Passes, Asks, Denies, Sends, Tells, GoesOn, GivesUp, Forgoes, Rests, Leaves, Misses, Served, Terms, AsksItem, IsClosing, Ends, Does, DoesAll}
 use Rattle.gateway_model.specs.Continuing.{goes_by, goes_in, reads_by, reads_in, opens_by, opens_in, untold, ActsContinue}
 use Rattle.gateway_model.specs.Emissions.{Emission}
 use Rattle.gateway_model.specs.Resting.{any_terms}
@@ -182,6 +182,12 @@ once M w c (GoesOn d) old out new h = by (which c d)
         let same = kept c old new (λ x e. sym (others-same d c (λ (z : Unasked). record h.0.before { told = true; unread = h.0.unread }) old.unasked ne keeps)
         ∙ subst (λ (xs : List Unasked). unasked_at c xs ≡ Some x) h.0.left e) in
         omega (arith, is, same)
+once M w c (GivesUp d) old out new h = plain (owed c new) (owed c old) (shut-at w c d old new h.0)
+once M w c (Forgoes d k) old out new h =
+    plain (owed c new) (owed c old)
+    (let shut = shut-at w c d h.0 new h.2 in
+    let told = same-at c old h.0 h.1.unasked in
+    omega (arith, shut, told))
 once M w c (Rests d) old out new h =
     plain (owed c new) (owed c old)
     (told-same (unasked_at c new.unasked) (unasked_at c old.unasked)

@@ -26,7 +26,7 @@ use Rattle.gateway_model.proofs.Heeding.{IsPlain, ArePlain, all-effect, takes-ef
 
 -- what follows the first act of an input is such
 each-plain : Each IsPlain
-each-plain = record { asks = λ c. tt; denies = λ c. tt; sends = tt; tells = λ c k. tt; goes_on = λ c. tt; rests = λ c. tt }
+each-plain = record { asks = λ c. tt; denies = λ c. tt; sends = tt; tells = λ c k. tt; goes_on = λ c. tt; gives_up = λ c. tt; forgoes = λ c k. tt; rests = λ c. tt }
 
 -- a connection opens
 

@@ -18,7 +18,7 @@ use Rattle.exchange_core.specs.declared.fault.OpenFault.TheVariants as Open
 use Rattle.exchange_core.specs.Calls.{IsOpened, IsAsked, AsksSo}
 use Rattle.exchange_core.specs.Values.{CoreValue}
 use Rattle.gateway_model.specs.declared.input.When.{When}
-use Rattle.gateway_model.specs.Acts.{Act, Opens, TurnsAway, Takes, Hears, Passes, Asks, Denies, Sends, Tells, GoesOn, Rests, Leaves, Misses, Served, Terms, IsAsking, IsDenying, IsClosing, Ends, Does, DoesAll, at}
+use Rattle.gateway_model.specs.Acts.{Act, Opens, TurnsAway, Takes, Hears, Passes, Asks, Denies, Sends, Tells, GoesOn, GivesUp, Forgoes, Rests, Leaves, Misses, Served, Terms, IsAsking, IsDenying, IsClosing, Ends, Does, DoesAll, at}
 use Rattle.gateway_model.specs.Asking.{asked_on, IsLeft, IsOver, AreAsked}
 use Rattle.gateway_model.specs.Emissions.{Emission}
 use Rattle.gateway_model.specs.Unasked.{Unasked, unasked_at, without, changed_at, extended, left_after}
@@ -395,6 +395,12 @@ plain-effect M w c (GoesOn d) old out new p h = by (which c d)
         (λ is. absurd (none-some h.0.before (sym is ∙ at-own e)))
     by (inr ne) =
         same-effect M.IsMeaning c old new s (ap (unasked_at c) h.0.left ∙ others-same d c f old.unasked ne number)
+plain-effect M w c (GivesUp d) old out new p h = closing-effect M.IsMeaning w c d old new h.0
+plain-effect M w c (Forgoes d k) old out new p h =
+    effect-then M.IsMeaning c [] [] old h.0 new
+    (same-effect M.IsMeaning c old h.0 (silent-same c old.core.state h.0.core.state (ap state-of h.1.taken.3))
+    (ap (unasked_at c) h.1.unasked))
+    (closing-effect M.IsMeaning w c d h.0 new h.2)
 plain-effect M w c (Rests d) old out new p h =
     kept-effect M.IsMeaning c old new (silent-same c old.core.state new.core.state (ap state-of h.0))
     (λ u is. recount-after d c old.unasked new.unasked h.2 u is) (λ is. recount-none d c old.unasked new.unasked h.2 is)

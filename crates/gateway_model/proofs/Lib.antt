@@ -8,6 +8,7 @@ mod Conns
 mod Counting
 mod Doing
 mod Enters
+mod Forgoing
 mod GoingOn
 mod Heard
 mod Heeded
@@ -24,8 +25,10 @@ mod Renewed
 mod Rested
 mod Rotated
 mod Serving
+mod ServesFor
 mod Shown
 mod Spelled
 mod Shutting
 mod Standing
+mod Taken
 mod Untold

@@ -1,30 +1,25 @@
 -- What each step of a core gives out, what it adds to the journal, and what waits after it.
-use Rattle.std.proofs.Common.{◌≡◌, ◌≢◌, ℕ, zero, suc, ◌+◌, Bool, true, false, cond, not, inl, inr, List, [], ◌∷◌, ◌++◌, length, drop, map, Some, refl, sym, ap, subst, ◌∙◌, arith, append_assoc, append-nil, length-append, eqb-true, eq-eqb}
+use Rattle.std.proofs.Common.{◌≡◌, ℕ, ◌+◌, Bool, true, false, List, [], ◌∷◌, ◌++◌, length, drop, map, Some, refl, sym, ap, subst, ◌∙◌, append_assoc, append-nil, length-append, eqb-true}
 use Rattle.std.specs.Prelude.{◌==◌, ⊤, if◌then◌else◌}
-use Rattle.std.specs.List.{AllByRecursion, Contains, filter, flat_map, slice_get}
+use Rattle.std.specs.List.{AllByRecursion, flat_map, slice_get}
 use Rattle.std.proofs.Math.Seq.{drop-append_seam}
-use Rattle.std.proofs.lemmas.Bool.Decides.{eqb_tells}
 use Rattle.std.proofs.lemmas.List.{map-append}
 use Rattle.std.proofs.lemmas.Grind.{flat_map-append}
-use Rattle.std.proofs.lemmas.Bool.{both_ways}
 use Rattle.http_edge.specs.Answers.{answer_text}
 use Rattle.http_edge.specs.declared.answer.HttpAnswer.{HttpAnswer}
 use Rattle.journal_book.specs.Entries.{Grounds, Deed, Opens, Asks, Sends, Hears, Passes, Answers, Shuts, Seals, Carries, Written}
 use Rattle.history_laws.specs.Justified.{Stands}
-use Rattle.history_laws.proofs.CallerLemmas.{some-is}
 use Rattle.history_claims.specs.Headline.{IsEntry}
-use Rattle.history_claims.proofs.CallerLemmas.{answer-once}
 use Rattle.exchange_model.specs.State.{State}
 use Rattle.exchange_model.specs.declared.kept.Conn.{Conn}
 use Rattle.exchange_model.specs.Growing.{Adds, conns_with}
 use Rattle.exchange_model.proofs.CallerLemmas.{conns-both}
 use Rattle.exchange_core.specs.Values.{CoreValue, Untaken, Outgoing, written, answered_by, answered_in, sent_in, stepped}
 use Rattle.exchange_core.specs.Answering.{Given, IsGiven}
-use Rattle.exchange_core.specs.Drafts.{untaken_of}
-use Rattle.exchange_core.specs.Taking.{IsTaken, IsSent}
-use Rattle.exchange_core.proofs.CallerLemmas.{answered-append, is-given-stays, sent-append}
+use Rattle.exchange_core.specs.Taking.{IsSent}
+use Rattle.exchange_core.proofs.CallerLemmas.{answered-append, sent-append}
 use Rattle.gateway_model.specs.Acts.{Terms, continue_text}
-use Rattle.gateway_model.specs.Emissions.{Emission, Says, Goes, Closed, Turned}
+use Rattle.gateway_model.specs.Emissions.{Emission, Says, Goes, Closed, GivenUp, Turned}
 use Rattle.gateway_model.specs.Going.{goes_in, goes_by}
 use Rattle.gateway_model.specs.Tellings.{IsMeant, AreMeant}
 use Rattle.gateway_model.specs.Told.{Piece, interim, final, bytes_in, answers_in, answers_by, answers_to, said_by, said_to}
@@ -63,9 +58,12 @@ nums-in c n (w ∷ ws) =
 
 -- what connections are told
 
--- Each may be told to go on.
+-- Each may be told to go on, or be forgone; or none.
 abbrev pub Whoever : ℕ → Type 0
 Whoever c = ⊤
+
+abbrev pub Nobody : ℕ → Type 0
+Nobody c = ⊥
 
 -- the bytes tell the answer in this entry
 pub record TellsGiven (M : Terms) (h : List Written) (c n : ℕ) (bytes : List ℕ) : Type 0 where
@@ -98,7 +96,7 @@ pub record Wait (h : List Written) (us : List Untaken) : Type 0 where
   pub apart : AreApart us
   pub answers : AllByRecursion (IsAnswerIn h) us
 
-pub record Did (M : Terms) (G : ℕ → Type 0) (old : CoreValue) (out : List Emission) (new : CoreValue) : Type 0 where
+pub record Did (M : Terms) (G F : ℕ → Type 0) (old : CoreValue) (out : List Emission) (new : CoreValue) : Type 0 where
   pub more : List Written
   pub added : new.state.entries ≡ old.state.entries ++ more
   pub conns : new.state.conns ≡ conns_with old.state.conns (length old.state.entries) more
@@ -107,7 +105,7 @@ pub record Did (M : Terms) (G : ℕ → Type 0) (old : CoreValue) (out : List Em
   pub told :
       (h rest : List Written) → Stands h → h ≡ new.state.entries ++ rest → Wait h old.untaken
       → Wait h new.untaken
-      × ((c : ℕ) → ToldIn M G h c (length old.state.entries) more old.untaken out new.untaken)
+      × ((c : ℕ) → (F c → ⊥) → ToldIn M G h c (length old.state.entries) more old.untaken out new.untaken)
 
 -- one after another
 
@@ -139,8 +137,8 @@ told-then M G h c n m xs ys us vs ws a b long x y =
           ∙ ap (λ (t : List ℕ). nums c us ++ t) (sym both))))));
     }
 
-abbrev pub did-then : (M : Terms) (G : ℕ → Type 0) (u v w : CoreValue) (a b : List Emission) → Did M G u a v → Did M G v b w → Did M G u (a ++ b) w
-did-then M G u v w a b x y =
+abbrev pub did-then : (M : Terms) (G F : ℕ → Type 0) (u v w : CoreValue) (a b : List Emission) → Did M G F u a v → Did M G F v b w → Did M G F u (a ++ b) w
+did-then M G F u v w a b x y =
     let long : length v.state.entries ≡ length u.state.entries + length x.more =
     ap length x.added ∙ length-append u.state.entries x.more in
     record {
@@ -163,8 +161,8 @@ did-then M G u v w a b x y =
           (is ∙ (ap (λ (q : List Written). q ++ rest) y.added ∙ append_assoc v.state.entries y.more rest)) waits in
           let next = y.told h rest stands is first.0 in (
             next.0,
-            λ c. told-then M G h c (length u.state.entries) (length v.state.entries) x.more y.more u.untaken v.untaken w.untaken a b
-                long (first.1 c) (next.1 c),
+            λ c f. told-then M G h c (length u.state.entries) (length v.state.entries) x.more y.more u.untaken v.untaken w.untaken a b
+                long (first.1 c f) (next.1 c f),
           );
     }
 
@@ -188,6 +186,9 @@ aside-none G = record { none = refl; says = λ c. record { pieces = []; said = r
 
 pub aside-closed : (G : ℕ → Type 0) (d : ℕ) → Aside G (Closed d ∷ [])
 aside-closed G d = record { none = refl; says = λ c. record { pieces = []; said = refl; each = tt } }
+
+pub aside-given-up : (G : ℕ → Type 0) (d : ℕ) → Aside G (GivenUp d ∷ [])
+aside-given-up G d = record { none = refl; says = λ c. record { pieces = []; said = refl; each = tt } }
 
 pub aside-turned : (G : ℕ → Type 0) → Aside G (Turned ∷ [])
 aside-turned G = record { none = refl; says = λ c. record { pieces = []; said = refl; each = tt } }
@@ -219,8 +220,8 @@ aside-answers T (final n bytes ∷ ps) each = absurd each.0
 
 -- the core stays as it is
 
-pub did-aside : (M : Terms) (G : ℕ → Type 0) (old new : CoreValue) (out : List Emission) → new ≡ old → Aside G out → Did M G old out new
-did-aside M G old new out e aside = subst (λ (v : CoreValue). Did M G old out v) (sym e) (record {
+pub did-aside : (M : Terms) (G F : ℕ → Type 0) (old new : CoreValue) (out : List Emission) → new ≡ old → Aside G out → Did M G F old out new
+did-aside M G F old new out e aside = subst (λ (v : CoreValue). Did M G F old out v) (sym e) (record {
   more = [];
   added = sym (append-nil old.state.entries);
   conns = refl;
@@ -228,7 +229,7 @@ did-aside M G old new out e aside = subst (λ (v : CoreValue). Did M G old out v
   meant = tt;
   told = λ h rest stands is waits. (
     waits,
-    λ c.
+    λ c f.
         let says = aside.says c in
         record {
           pieces = says.pieces;
@@ -273,9 +274,9 @@ StaysApart old more =
     (h rest : List Written) → Stands h → h ≡ old.state.entries ++ (more ++ rest) → Wait h old.untaken
     → AreApart (old.untaken ++ answered_in (length old.state.entries) more)
 
-pub did-step : (M : Terms) (G : ℕ → Type 0) (t : ℕ) (old new : CoreValue) (S : State) (out : List Emission) → new ≡ stepped S old
-    → (x : Adds t old.state S) → Aside G out → AreMeant M x.more → StaysApart old x.more → Did M G old out new
-did-step M G t old new S out e x aside meant apart =
+pub did-step : (M : Terms) (G F : ℕ → Type 0) (t : ℕ) (old new : CoreValue) (S : State) (out : List Emission) → new ≡ stepped S old
+    → (x : Adds t old.state S) → Aside G out → AreMeant M x.more → StaysApart old x.more → Did M G F old out new
+did-step M G F t old new S out e x aside meant apart =
     let n : ℕ = length old.state.entries in
     let more : drop n S.entries ≡ x.more = ap (drop n) x.entries ∙ drop-append_seam old.state.entries x.more in
     let added : new.state.entries ≡ old.state.entries ++ x.more = ap (λ (v : CoreValue). v.state.entries) e ∙ x.entries in
@@ -296,7 +297,7 @@ did-step M G t old new S out e x aside meant apart =
               apart = apart h rest stands all waits;
               answers = all-append (IsAnswerIn h) old.untaken (answered_in n x.more) waits.answers (answers-in h old.state.entries x.more rest all);
             }),
-            λ c.
+            λ c f.
                 let says = aside.says c in
                 record {
                   pieces = says.pieces;
@@ -310,8 +311,8 @@ did-step M G t old new S out e x aside meant apart =
 
 -- a datagram goes out
 
-pub did-send : (M : Terms) (G : ℕ → Type 0) (old new : CoreValue) (d : Outgoing) → IsSent (Some d) old new → Did M G old (Goes d ∷ []) new
-did-send M G old new d h =
+pub did-send : (M : Terms) (G F : ℕ → Type 0) (old new : CoreValue) (d : Outgoing) → IsSent (Some d) old new → Did M G F old (Goes d ∷ []) new
+did-send M G F old new d h =
     let waiting : new.untaken ≡ old.untaken = ap (λ (v : CoreValue). v.untaken) h.1 in
     let entries : new.state.entries ≡ old.state.entries = ap (λ (v : CoreValue). v.state.entries) h.1 in
     record {
@@ -322,7 +323,7 @@ did-send M G old new d h =
       meant = tt;
       told = λ h rest stands is waits. (
         subst (Wait h) (sym waiting) waits,
-        λ c. record {
+        λ c f. record {
           pieces = [];
           said = refl;
           each = tt;
@@ -330,155 +331,3 @@ did-send M G old new d h =
         },
       );
     }
-
--- an answer is taken
-
-abbrev pub not_to : ℕ → Untaken → Bool
-not_to k u = not (u.ask == k)
-
-all-one : (P : Untaken → Type 0) (b : Bool) (u : Untaken) (us : List Untaken) → P u → AllByRecursion P us → AllByRecursion P (cond b (u ∷ us) us)
-all-one P true u us p h = (p, h)
-all-one P false u us p h = h
-
-all-filter : (P : Untaken → Type 0) (f : Untaken → Bool) (us : List Untaken) → AllByRecursion P us → AllByRecursion P (filter f us)
-all-filter P f [] h = tt
-all-filter P f (u ∷ us) h = all-one P (f u) u (filter f us) h.0 (all-filter P f us h.1)
-
-apart-one : (b : Bool) (u : Untaken) (us : List Untaken) → AllByRecursion (λ (v : Untaken). u.conn ≢ v.conn) us → AreApart us → AreApart (cond b (u ∷ us) us)
-apart-one true u us p h = (p, h)
-apart-one false u us p h = h
-
-apart-filter : (f : Untaken → Bool) (us : List Untaken) → AreApart us → AreApart (filter f us)
-apart-filter f [] h = tt
-apart-filter f (u ∷ us) h =
-    apart-one (f u) u (filter f us) (all-filter (λ (v : Untaken). u.conn ≢ v.conn) f us h.0) (apart-filter f us h.1)
-
--- an ask has one answer, which is to its connection
-abbrev IsOneOf : ℕ → ℕ → Untaken → Type 0
-IsOneOf c k u = u.ask ≡ k → u.conn ≡ c
-
-conn-same : (c d k o : ℕ) (g e : Grounds) → Answers c k g ≡ Answers d o e → c ≡ d
-conn-same c d k o g e f = cc
-
-deed-same : (t s : ℕ) (c d k o : ℕ) (g e : Grounds) → Some (written t (Answers c k g)) ≡ Some (written s (Answers d o e)) → c ≡ d
-deed-same t s c d k o g e f =
-    conn-same c d k o g e (ap (λ (w : Written). w.deed) (some-is (written t (Answers c k g)) (written s (Answers d o e)) f))
-
-one-of : (h : List Written) (g : Given) → Stands h → IsGiven h g → (u : Untaken) → IsAnswerIn h u → IsOneOf g.conn g.ask u
-one-of h g stands is u a same =
-    let there : IsEntry h u.number a.moment (Answers u.conn g.ask a.grounds) =
-    subst (λ (k : ℕ). IsEntry h u.number a.moment (Answers u.conn k a.grounds)) same a.stands in
-    let place : u.number ≡ g.number =
-    answer-once h u.number g.number a.moment g.moment u.conn g.conn g.ask a.grounds g.found.grounds stands there is.stands in
-    deed-same a.moment g.moment u.conn g.conn g.ask g.ask a.grounds g.found.grounds
-    (sym there ∙ (ap (slice_get h) place ∙ is.stands))
-
-all-as-one : (h : List Written) (g : Given) → Stands h → IsGiven h g → (us : List Untaken) → AllByRecursion (IsAnswerIn h) us
-    → AllByRecursion (IsOneOf g.conn g.ask) us
-all-as-one h g stands is [] a = tt
-all-as-one h g stands is (u ∷ us) a = (one-of h g stands is u a.0, all-as-one h g stands is us a.1)
-
-pub stay-one : (b : Bool) (k : ℕ) (u : Untaken) (us vs : List Untaken) → (u.ask == k) ≡ b → (u.ask ≢ k) → vs ≡ us
-    → cond (not b) (u ∷ vs) vs ≡ u ∷ us
-stay-one true k u us vs t ne e = absurd (ne (eqb-true u.ask k t))
-stay-one false k u us vs t ne e = ap (λ (ws : List Untaken). u ∷ ws) e
-
-go-one : (b : Bool) (k : ℕ) (u : Untaken) (vs : List Untaken) → (u.ask == k) ≡ b → u.ask ≡ k → cond (not b) (u ∷ vs) vs ≡ vs
-go-one true k u vs t is = refl
-go-one false k u vs t is = absurd (both_ways (u.ask == k) t (eq-eqb u.ask k is))
-
--- those of other connections stay
-others-stay : (c k : ℕ) (us : List Untaken) → AllByRecursion (λ (v : Untaken). c ≢ v.conn) us → AllByRecursion (IsOneOf c k) us
-    → filter (not_to k) us ≡ us
-others-stay c k [] h one = refl
-others-stay c k (u ∷ us) h one =
-    stay-one (u.ask == k) k u us (filter (not_to k) us) refl (λ e. h.0 (sym (one.0 e))) (others-stay c k us h.1 one.1)
-
-contained : (P : Untaken → Type 0) (us : List Untaken) (u : Untaken) → AllByRecursion P us → Contains us u → P u
-contained P [] u h has = absurd (omega (arith, has.1))
-contained P (v ∷ us) u h (zero, lt, e) = subst P e h.0
-contained P (v ∷ us) u h (suc i, lt, e) = contained P us u h.1 (i, omega (arith, lt), e)
-
-num-other : (c : ℕ) (u : Untaken) → u.conn ≢ c → num_of c u ≡ []
-num-other c u ne = elim (eqb_tells u.conn c) [ inl w ↦ absurd (ne w.1) | inr w ↦ rw (w.0) refl ]
-
-swap-nums : (c : ℕ) (u v : Untaken) (ks : List ℕ) → u.conn ≢ v.conn → num_of c u ++ (num_of c v ++ ks) ≡ num_of c v ++ (num_of c u ++ ks)
-swap-nums c u v ks ne =
-    elim (eqb_tells u.conn c) [
-      | inl w ↦ rw (num-other c v (λ e. ne (w.1 ∙ sym e))) refl
-      | inr w ↦ rw (num-other c u w.1) refl
-    ]
-
--- What is taken is what waits of its connection, and of the others all stays.
-take-nums : (c k : ℕ) (g : Untaken) (us : List Untaken) → g.ask ≡ k → AreApart us → AllByRecursion (IsOneOf g.conn k) us → Contains us g
-    → num_of c g ++ nums c (filter (not_to k) us) ≡ nums c us
-take-nums c k g [] is apart one has = absurd (omega (arith, has.1))
-take-nums c k g (u ∷ us) is apart one (zero, lt, e) =
-    let same : u.ask ≡ k = ap (λ (v : Untaken). v.ask) e ∙ is in
-    let rest : filter (not_to k) us ≡ us =
-    others-stay g.conn k us (subst (λ (v : Untaken). AllByRecursion (λ (z : Untaken). v.conn ≢ z.conn) us) e apart.0) one.1 in
-    ap (λ (v : Untaken). num_of c v ++ nums c (filter (not_to k) (u ∷ us))) (sym e)
-    ∙ (ap (λ (vs : List Untaken). num_of c u ++ nums c vs) (go-one (u.ask == k) k u (filter (not_to k) us) refl same)
-    ∙ ap (λ (vs : List Untaken). num_of c u ++ nums c vs) rest)
-take-nums c k g (u ∷ us) is apart one (suc i, lt, e) =
-    let has : Contains us g = (i, omega (arith, lt), e) in
-    let other : u.conn ≢ g.conn = contained (λ (v : Untaken). u.conn ≢ v.conn) us g apart.0 has in
-    let ne : u.ask ≢ k = λ same. other (one.0 same) in
-    ap (λ (vs : List Untaken). num_of c g ++ nums c vs)
-    (stay-one (u.ask == k) k u (filter (not_to k) us) (filter (not_to k) us) refl ne refl)
-    ∙ (swap-nums c g u (nums c (filter (not_to k) us)) (λ same. other (sym same))
-    ∙ ap (λ (ks : List ℕ). num_of c u ++ ks) (take-nums c k g us is apart.1 one.1 has))
-
-pub did-take : (M : Terms) (G : ℕ → Type 0) (old new : CoreValue) (c k : ℕ) (g : Given) (r : HttpAnswer) → g.conn ≡ c → IsTaken (Some g) k old new → M.IsTelling g r
-    → Did M G old (Says c (answer_text r) ∷ []) new
-did-take M G old new c k g r conn taken tells =
-    let waiting : new.untaken ≡ filter (not_to k) old.untaken = ap (λ (v : CoreValue). v.untaken) taken.3 in
-    let entries : new.state.entries ≡ old.state.entries = ap (λ (v : CoreValue). v.state.entries) taken.3 in
-    record {
-      more = [];
-      added = entries ∙ sym (append-nil old.state.entries);
-      conns = ap (λ (v : CoreValue). v.state.conns) taken.3;
-      sent = ap (λ (v : CoreValue). v.unsent) taken.3 ∙ sym (append-nil old.unsent);
-      meant = tt;
-      told = λ h rest stands is waits.
-          let given : IsGiven h g =
-          subst (λ (q : List Written). IsGiven q g) (sym (is ∙ ap (λ (q : List Written). q ++ rest) entries)) (is-given-stays old.state.entries rest g taken.2) in
-          let one : AllByRecursion (IsOneOf g.conn k) old.untaken =
-          subst (λ (j : ℕ). AllByRecursion (IsOneOf g.conn j) old.untaken) taken.0 (all-as-one h g stands given old.untaken waits.answers) in (
-            subst (Wait h) (sym waiting) (record {
-              apart = apart-filter (not_to k) old.untaken waits.apart;
-              answers = all-filter (IsAnswerIn h) (not_to k) old.untaken waits.answers;
-            }),
-            λ d.
-                told-one d h given
-                (ap (λ (us : List Untaken). num_of d (untaken_of g) ++ nums d us) waiting
-                ∙ take-nums d k (untaken_of g) old.untaken taken.0 waits.apart one taken.1),
-          );
-    }
-  where
-    told-one : (d : ℕ) (h : List Written) → IsGiven h g → num_of d (untaken_of g) ++ nums d new.untaken ≡ nums d old.untaken
-        → ToldIn M G h d (length old.state.entries) [] old.untaken (Says c (answer_text r) ∷ []) new.untaken
-    told-one d h given e =
-        elim (eqb_tells g.conn d) [
-          | inl w ↦
-              let to : (c == d) ≡ true = ap (λ (x : ℕ). x == d) (sym conn) ∙ w.0 in
-              record {
-                pieces = final g.number (answer_text r) ∷ [];
-                said = ap (λ (b : Bool). (if b then answer_text r ∷ [] else []) ++ []) to;
-                each = (
-                  record { given = g; conn = w.1; number = refl; is = given; response = r; tells = tells; text = refl },
-                  tt,
-                );
-                answers = ap (λ (b : Bool). (if b then g.number ∷ [] else []) ++ nums d new.untaken) (sym (w.0))
-                    ∙ (e ∙ sym (append-nil (nums d old.untaken)));
-              }
-          | inr w ↦
-              let to : (c == d) ≡ false = ap (λ (x : ℕ). x == d) (sym conn) ∙ w.0 in
-              record {
-                pieces = [];
-                said = ap (λ (b : Bool). (if b then answer_text r ∷ [] else []) ++ []) to;
-                each = tt;
-                answers = ap (λ (b : Bool). (if b then g.number ∷ [] else []) ++ nums d new.untaken) (sym (w.0))
-                    ∙ (e ∙ sym (append-nil (nums d old.untaken)));
-              }
-        ]

@@ -19,7 +19,7 @@ use Rattle.exchange_core.specs.declared.fault.AskFault.TheVariants as Fault
 use Rattle.exchange_core.specs.Calls.{IsOpened, IsAsked, IsClosed, AsksSo}
 use Rattle.exchange_core.specs.Values.{CoreValue, stepped}
 use Rattle.gateway_model.specs.declared.input.When.{When}
-use Rattle.gateway_model.specs.Acts.{Act, Opens, TurnsAway, Takes, Hears, Passes, Asks, Denies, Sends, Tells, GoesOn, Rests, Leaves, Misses, Served, Terms, AsksItem, Ends, Does, DoesAll, at}
+use Rattle.gateway_model.specs.Acts.{Act, Opens, TurnsAway, Takes, Hears, Passes, Asks, Denies, Sends, Tells, GoesOn, GivesUp, Forgoes, Rests, Leaves, Misses, Served, Terms, AsksItem, Ends, Does, DoesAll, at}
 use Rattle.gateway_model.specs.Emissions.{Emission}
 use Rattle.gateway_model.specs.Resting.{number_of, IsNumbered}
 use Rattle.gateway_model.specs.Waiting.{conn_id}
@@ -275,6 +275,10 @@ numbered M w (GoesOn c) old out new h n =
     ∙ changed-numbers c (λ (x : Unasked). record h.0.before { told = true; unread = h.0.unread }) old.unasked
     (λ x e. at-number c old.unasked h.0.before h.0.stands ∙ sym e))
     (ap (λ (v : CoreValue). map conn_id v.state.conns) h.1) n
+numbered M w (GivesUp c) old out new h n = closed-numbers (at w old) c old new h.0.0 h.0.1 n
+numbered M w (Forgoes c k) old out new h n =
+    closed-numbers (at w h.0) c h.0 new h.2.0 h.2.1
+    (numbers-kept old h.0 (ap (map number_of) h.1.unasked) (ap (λ (v : CoreValue). map conn_id v.state.conns) h.1.taken.3) n)
 numbered M w (Rests c) old out new h n =
     numbers-kept old new (recount-numbers c old.unasked new.unasked h.2) (ap (λ (v : CoreValue). map conn_id v.state.conns) h.0) n
 numbered M w (Leaves c) old out new h n = closed-numbers (at w old) c old new h.0.0 h.0.1 n

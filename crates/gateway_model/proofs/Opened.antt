@@ -12,7 +12,7 @@ use Rattle.exchange_core.specs.declared.fault.AskFault.TheVariants as Fault
 use Rattle.exchange_core.specs.Calls.{IsAsked, IsClosed}
 use Rattle.exchange_core.specs.Values.{CoreValue}
 use Rattle.gateway_model.specs.declared.input.When.{When}
-use Rattle.gateway_model.specs.Acts.{Act, Opens, TurnsAway, Takes, Hears, Passes, Asks, Denies, Sends, Tells, GoesOn, Rests, Leaves, Misses, Served, Terms, Ends, Does, DoesAll, at}
+use Rattle.gateway_model.specs.Acts.{Act, Opens, TurnsAway, Takes, Hears, Passes, Asks, Denies, Sends, Tells, GoesOn, GivesUp, Forgoes, Rests, Leaves, Misses, Served, Terms, Ends, Does, DoesAll, at}
 use Rattle.gateway_model.specs.Emissions.{Emission}
 use Rattle.gateway_model.specs.Orders.{IsFor, AreFor, ServesOut}
 use Rattle.gateway_model.specs.Waiting.{conn_id, IsOpen}
@@ -107,6 +107,8 @@ for-with c (Denies d) h = h
 for-with c Sends h = h
 for-with c (Tells d k) h = h
 for-with c (GoesOn d) h = h
+for-with c (GivesUp d) h = h
+for-with c (Forgoes d k) h = h
 for-with c (Rests d) h = tt
 for-with c (Leaves d) h = h
 for-with c (Misses d) h = h
@@ -130,6 +132,12 @@ keeps-act M w c (Tells d k) old out new f h =
     (keeps-core c old.core h.told.core (ap (λ (v : CoreValue). v.state) h.taken.3))
     (subst (λ (n : ℕ). KeepsOpen n h.told.core new.core) f (keeps-ends w d (closes h.answer.mapping.came) h.told h.after new h.ends))
 keeps-act M w c (GoesOn d) old out new f h = keeps-core c old.core new.core (ap (λ (v : CoreValue). v.state) h.1)
+keeps-act M w c (GivesUp d) old out new f h =
+    subst (λ (n : ℕ). KeepsOpen n old.core new.core) f (keeps-closed (at w old) d old.core new.core h.0.0)
+keeps-act M w c (Forgoes d k) old out new f h =
+    keeps-then c old.core h.0.core new.core
+    (keeps-core c old.core h.0.core (ap (λ (v : CoreValue). v.state) h.1.taken.3))
+    (subst (λ (n : ℕ). KeepsOpen n h.0.core new.core) f (keeps-closed (at w h.0) d h.0.core new.core h.2.0))
 keeps-act M w c (Rests d) old out new f h = keeps-core c old.core new.core (ap (λ (v : CoreValue). v.state) h.0)
 keeps-act M w c (Leaves d) old out new f h = absurd f
 keeps-act M w c (Misses d) old out new f h = absurd f

@@ -1,11 +1,11 @@
 -- Acts in order.
-use Rattle.std.proofs.Common.{ℕ, ◌+◌, ◌≤◌, List, [], ◌∷◌, ◌++◌, refl, sym, subst, ap, ◌∙◌, arith}
+use Rattle.std.proofs.Common.{ℕ, Bool, true, false, ◌+◌, ◌≤◌, List, [], ◌∷◌, ◌++◌, refl, sym, subst, ap, ◌∙◌, arith}
 use Rattle.std.specs.Prelude.{flat_map}
 use Rattle.std.specs.List.{AllByRecursion}
 use Rattle.std.proofs.lemmas.List.{append-nil, append_assoc}
 use Rattle.std.proofs.lemmas.Grind.{flat_map-append}
-use Rattle.gateway_model.specs.Acts.{Act, Opens, TurnsAway, Takes, Hears, Passes, Asks, Denies, Sends, Tells, GoesOn, Rests, Leaves, Misses}
-use Rattle.gateway_model.specs.Orders.{IsFor, AreFor, ServesOut, IsSends, AreSends, Turn, acts_of, IsTurn, Rise, IsTelling, AreTurns, HasTurns, Delivers}
+use Rattle.gateway_model.specs.Acts.{Act, Opens, TurnsAway, Takes, Hears, Passes, Asks, Denies, Sends, Tells, GoesOn, GivesUp, Forgoes, Rests, Leaves, Misses}
+use Rattle.gateway_model.specs.Orders.{IsFor, AreFor, ServesOut, IsSends, AreSends, Turn, telling, acts_of, IsTurn, Rise, IsTelling, AreTurns, HasTurns, Delivers}
 
 pub all-append : {A : Type 0} (P : A → Type 0) (xs ys : List A)
     → AllByRecursion P xs → AllByRecursion P ys → AllByRecursion P (xs ++ ys)
@@ -28,6 +28,8 @@ sends-for c (Denies d) h = absurd h
 sends-for c Sends h = tt
 sends-for c (Tells d k) h = absurd h
 sends-for c (GoesOn d) h = absurd h
+sends-for c (GivesUp d) h = absurd h
+sends-for c (Forgoes d k) h = absurd h
 sends-for c (Rests d) h = absurd h
 sends-for c (Leaves d) h = absurd h
 sends-for c (Misses d) h = absurd h
@@ -44,9 +46,13 @@ for-on c xs ys h k = all-append (IsFor c) xs ys h k
 pub sends-for-on : (c : ℕ) (xs ys : List Act) → AreSends xs → AreFor c ys → AreFor c (xs ++ ys)
 sends-for-on c xs ys h k = for-on c xs ys (sends-are-for c xs h) k
 
--- what is told is done for its connection
+-- what is told, or forgone, is done for its connection
+pub telling-for : (told : Bool) (c k : ℕ) → IsFor c (telling told c k)
+telling-for true c k = refl
+telling-for false c k = refl
+
 pub told-for : (c k : ℕ) (xs : List Act) → IsTelling c k xs → AreFor c xs
-told-for c k xs e = subst (AreFor c) (sym e) (refl, tt)
+told-for c k xs e = subst (AreFor c) (sym e.1) (telling-for e.0 c k, tt)
 
 pub out-on : (c : ℕ) (xs ys : List Act) → AreFor c xs → ServesOut c ys → ServesOut c (xs ++ ys)
 out-on c xs ys h k = record {
@@ -76,11 +82,11 @@ no-turns = record { turns = []; are = refl; each = tt; rise = zero-le }
 pub turns-on : (m c k : ℕ) (xs ys zs : List Act) → m ≤ k → AreTurns m xs → IsTelling c k ys → ServesOut c zs
     → AreTurns (k + 1) (xs ++ (ys ++ zs))
 turns-on m c k xs ys zs le h e f =
-    let x : Turn = record { conn = c; ask = k; further = zs } in
+    let x : Turn = record { conn = c; ask = k; told = e.0; further = zs } in
     record {
       turns = h.turns ++ x ∷ [];
       are = ap (λ (vs : List Act). vs ++ (ys ++ zs)) h.are
-          ∙ (ap (λ (vs : List Act). flat_map acts_of h.turns ++ vs) (ap (λ (vs : List Act). vs ++ zs) e ∙ sym (append-nil (acts_of x)))
+          ∙ (ap (λ (vs : List Act). flat_map acts_of h.turns ++ vs) (ap (λ (vs : List Act). vs ++ zs) e.1 ∙ sym (append-nil (acts_of x)))
           ∙ sym (flat_map-append acts_of h.turns (x ∷ [])));
       each = all-append IsTurn h.turns (x ∷ []) h.each (f, tt);
       rise = rise-to 0 0 h.turns m x h.rise le;
@@ -96,6 +102,8 @@ pub record Each (P : Act → Type 0) : Type 0 where
   pub sends : P Sends
   pub tells : (c k : ℕ) → P (Tells c k)
   pub goes_on : (c : ℕ) → P (GoesOn c)
+  pub gives_up : (c : ℕ) → P (GivesUp c)
+  pub forgoes : (c k : ℕ) → P (Forgoes c k)
   pub rests : (c : ℕ) → P (Rests c)
 
 module _ (P : Act → Type 0) (each : Each P) where
@@ -110,6 +118,8 @@ module _ (P : Act → Type 0) (each : Each P) where
   each-for c Sends h = each.sends
   each-for c (Tells d k) h = each.tells d k
   each-for c (GoesOn d) h = each.goes_on d
+  each-for c (GivesUp d) h = each.gives_up d
+  each-for c (Forgoes d k) h = each.forgoes d k
   each-for c (Rests d) h = absurd h
   each-for c (Leaves d) h = absurd h
   each-for c (Misses d) h = absurd h
@@ -119,10 +129,14 @@ module _ (P : Act → Type 0) (each : Each P) where
       subst (AllByRecursion P) (sym h.are)
       (all-append P h.first (Rests c ∷ []) (all-as (IsFor c) P h.first (each-for c) h.for) (each.rests c, tt))
 
+  each-telling : (told : Bool) (c k : ℕ) → P (telling told c k)
+  each-telling true c k = each.tells c k
+  each-telling false c k = each.forgoes c k
+
   each-turns : (turns : List Turn) → AllByRecursion IsTurn turns → AllByRecursion P (flat_map acts_of turns)
   each-turns [] h = tt
   each-turns (x ∷ turns) h =
-      all-append P (acts_of x) (flat_map acts_of turns) (each.tells x.conn x.ask, each-out x.conn x.further h.0) (each-turns turns h.1)
+      all-append P (acts_of x) (flat_map acts_of turns) (each-telling x.told x.conn x.ask, each-out x.conn x.further h.0) (each-turns turns h.1)
 
   pub each-delivers : (acts : List Act) → Delivers acts → AllByRecursion P acts
   each-delivers acts h =

@@ -14,7 +14,7 @@ use Rattle.exchange_model.specs.Resting.{HasConn}
 use Rattle.exchange_model.specs.Sealing.{asks_in_room}
 use Rattle.exchange_core.specs.Values.{CoreValue, Outgoing, Untaken, answered_in}
 use Rattle.gateway_model.specs.declared.input.When.{When}
-use Rattle.gateway_model.specs.Acts.{Act, Opens, TurnsAway, Takes, Hears, Passes, Asks, Denies, Sends, Tells, GoesOn, Rests, Leaves, Misses, Served, Terms, AsksItem, IsClosing, Ends, Does, DoesAll, at, continue_text}
+use Rattle.gateway_model.specs.Acts.{Act, Opens, TurnsAway, Takes, Hears, Passes, Asks, Denies, Sends, Tells, GoesOn, GivesUp, Forgoes, Rests, Leaves, Misses, Served, Terms, AsksItem, IsClosing, Ends, Does, DoesAll, at, continue_text}
 use Rattle.gateway_model.specs.Emissions.{Emission}
 use Rattle.gateway_model.specs.Going.{goes_in}
 use Rattle.gateway_model.specs.Told.{Piece, interim, final, bytes_in, answers_in, said_to, IsAnswerFirst, AreOnce}
@@ -22,7 +22,7 @@ use Rattle.gateway_model.specs.Unasked.{Unasked, unasked_at, no_bytes, changed_a
 use Rattle.gateway_model.proofs.Asked.{own-after, left-same}
 use Rattle.gateway_model.proofs.Awaiting.{which}
 use Rattle.gateway_model.proofs.Counting.{count, count-both, count-more, AreCounted, counted-rest, counted-first, stands-counted, NoneIdle, first-empty, none-with, HasEnough, enough-after, enough-with}
-use Rattle.gateway_model.proofs.Doing.{did-act, did-denied}
+use Rattle.gateway_model.proofs.Doing.{did-act, did-denied, MayForgo, forgoes-as}
 use Rattle.gateway_model.proofs.Moves.{Whoever, IsSaid, ToldIn, Wait, Did, nums, did-then, told-then}
 use Rattle.gateway_model.proofs.Moving.{Moves, Begins, asks-begin}
 use Rattle.gateway_model.proofs.Numbers.{at-number, extended-number}
@@ -171,8 +171,8 @@ told-on M w c (Asks d) old out new h q = by (which c d)
     by (inr ne) = told-as c old new (item-same M c d h.0.ask old new h.0.reads ne) q
 told-on M w c (Denies d) old out new h q = by (which c d)
   where
-    denied : Did M Whoever old.core [] h.0.core
-    denied = did-denied M Whoever (at w old) w.word d h.1.ask old.core h.0.core h.1.denied h.1.reads.meant
+    denied : Did M Whoever Whoever old.core [] h.0.core
+    denied = did-denied M Whoever Whoever (at w old) w.word d h.1.ask old.core h.0.core h.1.denied h.1.reads.meant
 
     after : IsToldSo c h.0 ⊎ Enough c old h.0 → IsToldSo c new ⊎ Enough c old new
     after (inl k) = last (told-closed w c d h.0 new h.2 k)
@@ -220,6 +220,16 @@ told-on M w c (Tells d k) old out new h q =
 told-on M w c (GoesOn d) old out new h q =
     told-changed c d (λ (z : Unasked). record h.0.before { told = true; unread = h.0.unread }) old new h.0.left
     (λ z n. at-number d old.unasked h.0.before h.0.stands) (λ x same e t. refl) q
+told-on M w c (GivesUp d) old out new h q = told-closed w c d old new h.0 q
+told-on M w c (Forgoes d k) old out new h q =
+    last (told-closed w c d h.0 new h.2 (q.0, ap (unasked_at c) h.1.unasked ∙ q.1, q.2))
+  where
+    taken : h.0.core.state.entries ≡ old.core.state.entries ++ []
+    taken = ap (λ (v : CoreValue). v.state.entries) h.1.taken.3 ∙ sym (append-nil old.core.state.entries)
+
+    last : IsToldSo c new ⊎ Enough c h.0 new → IsToldSo c new ⊎ Enough c old new
+    last (inl x) = inl x
+    last (inr x) = inr (told-after c old h.0 new [] taken x)
 told-on M w c (Rests d) old out new h q = by h.2
   where
     by : Recounts d old.unasked new.unasked → IsToldSo c new ⊎ Enough c old new
@@ -277,7 +287,7 @@ module _ (c : ℕ) (old new : Served) (more : List Written) (added : new.core.st
 
 -- A connection that is told to go on might be, and may not be after it.
 
-none-waits : (c : ℕ) (us : List Untaken) → AllByRecursion (λ (u : Untaken). u.conn ≢ c) us → nums c us ≡ []
+pub none-waits : (c : ℕ) (us : List Untaken) → AllByRecursion (λ (u : Untaken). u.conn ≢ c) us → nums c us ≡ []
 none-waits c [] h = refl
 none-waits c (u ∷ us) h = by (u.conn == c) refl (none-waits c us h.1)
   where
@@ -348,56 +358,58 @@ pub record PacedAt (M : Terms) (h : List Written) (c : ℕ) (old : Served) (more
   pub told : ToldIn M Whoever h c (length old.core.state.entries) more old.core.untaken out new.core.untaken
   pub flow : Flow (IsQuiet c old) told.pieces (IsQuiet c new)
 
-pub record Paced (M : Terms) (old : Served) (out : List Emission) (new : Served) : Type 0 where
-  pub did : Did M Whoever old.core out new.core
+pub record Paced (M : Terms) (F : ℕ → Type 0) (old : Served) (out : List Emission) (new : Served) : Type 0 where
+  pub did : Did M Whoever F old.core out new.core
   pub paced :
       (h rest : List Written) → Stands h → h ≡ new.core.state.entries ++ rest → Wait h old.core.untaken
-      → Wait h new.core.untaken × ((c : ℕ) → PacedAt M h c old did.more out new)
+      → Wait h new.core.untaken × ((c : ℕ) → (F c → ⊥) → PacedAt M h c old did.more out new)
 
-pub paced-then : (M : Terms) (u v w : Served) (a b : List Emission) → Paced M u a v → Paced M v b w → Paced M u (a ++ b) w
-paced-then M u v w a b x y =
+pub paced-then : (M : Terms) (F : ℕ → Type 0) (u v w : Served) (a b : List Emission) → Paced M F u a v → Paced M F v b w
+    → Paced M F u (a ++ b) w
+paced-then M F u v w a b x y =
     let long : length v.core.state.entries ≡ length u.core.state.entries + length x.did.more =
     ap length x.did.added ∙ length-append u.core.state.entries x.did.more in
     record {
-      did = did-then M Whoever u.core v.core w.core a b x.did y.did;
+      did = did-then M Whoever F u.core v.core w.core a b x.did y.did;
       paced = λ h rest stands is waits.
           let first = x.paced h (y.did.more ++ rest) stands
           (is ∙ (ap (λ (q : List Written). q ++ rest) y.did.added ∙ append_assoc v.core.state.entries y.did.more rest)) waits in
           let next = y.paced h rest stands is first.0 in (
             next.0,
-            λ c. record {
+            λ c f. record {
               told = told-then M Whoever h c (length u.core.state.entries) (length v.core.state.entries) x.did.more y.did.more
-                  u.core.untaken v.core.untaken w.core.untaken a b long (first.1 c).told (next.1 c).told;
-              flow = flow-then (IsQuiet c u) (IsQuiet c v) (IsQuiet c w) (first.1 c).told.pieces (next.1 c).told.pieces
-                  (first.1 c).flow (next.1 c).flow;
+                  u.core.untaken v.core.untaken w.core.untaken a b long (first.1 c f).told (next.1 c f).told;
+              flow = flow-then (IsQuiet c u) (IsQuiet c v) (IsQuiet c w) (first.1 c f).told.pieces (next.1 c f).told.pieces
+                  (first.1 c f).flow (next.1 c f).flow;
             },
           );
     }
 
 -- Nothing is said, sent or done.
-pub paced-silent : (M : Terms) (s : Served) (out : List Emission) → goes_in out ≡ [] → ((c : ℕ) → said_to c out ≡ []) → Paced M s out s
-paced-silent M s out goes says = record {
+pub paced-silent : (M : Terms) (F : ℕ → Type 0) (s : Served) (out : List Emission) → goes_in out ≡ [] → ((c : ℕ) → said_to c out ≡ [])
+    → Paced M F s out s
+paced-silent M F s out goes says = record {
   did = record {
     more = [];
     added = sym (append-nil s.core.state.entries);
     conns = refl;
     sent = ap (λ (os : List Outgoing). os ++ s.core.unsent) goes ∙ sym (append-nil s.core.unsent);
     meant = tt;
-    told = λ h rest stands is waits. (waits, λ c. none h c);
+    told = λ h rest stands is waits. (waits, λ c f. none h c);
   };
-  paced = λ h rest stands is waits. (waits, λ c. record { told = none h c; flow = λ x. x });
+  paced = λ h rest stands is waits. (waits, λ c f. record { told = none h c; flow = λ x. x });
 }
   where
     none : (h : List Written) (c : ℕ) → ToldIn M Whoever h c (length s.core.state.entries) [] s.core.untaken out s.core.untaken
     none h c = record { pieces = []; said = says c; each = tt; answers = sym (append-nil (nums c s.core.untaken)) }
 
-pub paced-none : (M : Terms) (old : Served) (out : List Emission) (new : Served) → new ≡ old → out ≡ [] → Paced M old out new
-paced-none M old out new e o =
-    subst (λ (es : List Emission). Paced M old es new) (sym o)
-    (subst (λ (s : Served). Paced M old [] s) (sym e) (paced-silent M old [] refl (λ c. refl)))
+pub paced-none : (M : Terms) (F : ℕ → Type 0) (old : Served) (out : List Emission) (new : Served) → new ≡ old → out ≡ [] → Paced M F old out new
+paced-none M F old out new e o =
+    subst (λ (es : List Emission). Paced M F old es new) (sym o)
+    (subst (λ (s : Served). Paced M F old [] s) (sym e) (paced-silent M F old [] refl (λ c. refl)))
 
 -- each act
-module _ (M : Terms) (w : When) (a : Act) (old : Served) (out : List Emission) (new : Served) (does : Does M w a old out new) where
+module _ (M : Terms) (F : ℕ → Type 0) (w : When) (a : Act) (free : (c k : ℕ) → a ≡ Forgoes c k → F c) (old : Served) (out : List Emission) (new : Served) (does : Does M w a old out new) where
   abbrev Here : ℕ → Type 0
   Here d = a ≡ GoesOn d
 
@@ -411,8 +423,8 @@ module _ (M : Terms) (w : When) (a : Act) (old : Served) (out : List Emission) (
       → ToldIn M Whoever h c (length old.core.state.entries) more old.core.untaken out new.core.untaken
   told-so h c more x = record { pieces = x.pieces; said = x.said; each = all-said h c x.pieces x.each; answers = x.answers }
 
-  here : Did M Here old.core out new.core
-  here = did-act M Here w a (λ c e. e) old out new does
+  here : Did M Here F old.core out new.core
+  here = did-act M Here F w a (λ c e. e) free old out new does
 
   counted-here : (h rest : List Written) → Stands h → h ≡ new.core.state.entries ++ rest
       → AreCounted (count 0 old.core.state.entries) here.more
@@ -431,7 +443,7 @@ module _ (M : Terms) (w : When) (a : Act) (old : Served) (out : List Emission) (
       (sym (ap (λ (qs : List Piece). flat_map answers_in qs ++ nums c new.core.untaken) e) ∙ answers)
       (told-on M w c a old out new does)
 
-  pub paced-act : Paced M old out new
+  pub paced-act : Paced M F old out new
   unfolding told-so here
   paced-act = record {
     did = record {
@@ -441,22 +453,22 @@ module _ (M : Terms) (w : When) (a : Act) (old : Served) (out : List Emission) (
       sent = here.sent;
       meant = here.meant;
       told = λ h rest stands is waits.
-          let r = here.told h rest stands is waits in (r.0, λ c. told-so h c here.more (r.1 c));
+          let r = here.told h rest stands is waits in (r.0, λ c f. told-so h c here.more (r.1 c f));
     };
     paced = λ h rest stands is waits.
         let r = here.told h rest stands is waits in (
           r.0,
-          λ c. record {
-            told = told-so h c here.more (r.1 c);
-            flow = act-flow M w c a old out new h does (r.1 c).pieces (r.1 c).said (r.1 c).each
-                (stays-here c h rest stands is (r.1 c).pieces (r.1 c).answers);
+          λ c f. record {
+            told = told-so h c here.more (r.1 c f);
+            flow = act-flow M w c a old out new h does (r.1 c f).pieces (r.1 c f).said (r.1 c f).each
+                (stays-here c h rest stands is (r.1 c f).pieces (r.1 c f).answers);
           },
         );
   }
 
-pub paced-all : (M : Terms) (w : When) (acts : List Act) (old : Served) (out : List Emission) (new : Served) → DoesAll M w acts old out new
-    → Paced M old out new
-paced-all M w [] old out new h = paced-none M old out new h.0 h.1
-paced-all M w (a ∷ acts) old out new h =
-    subst (λ (out : List Emission). Paced M old out new) (sym h.5)
-    (paced-then M old h.0 new h.1 h.2 (paced-act M w a old h.1 h.0 h.3) (paced-all M w acts h.0 h.2 new h.4))
+pub paced-all : (M : Terms) (F : ℕ → Type 0) (w : When) (acts : List Act) (old : Served) (out : List Emission) (new : Served)
+    → AllByRecursion (MayForgo F) acts → DoesAll M w acts old out new → Paced M F old out new
+paced-all M F w [] old out new f h = paced-none M F old out new h.0 h.1
+paced-all M F w (a ∷ acts) old out new f h =
+    subst (λ (out : List Emission). Paced M F old out new) (sym h.5)
+    (paced-then M F old h.0 new h.1 h.2 (paced-act M F w a (forgoes-as F a f.0) old h.1 h.0 h.3) (paced-all M F w acts h.0 h.2 new f.1 h.4))

@@ -22,9 +22,9 @@ use Rattle.exchange_core.specs.Values.{CoreValue, Untaken, stepped}
 use Rattle.gateway_model.specs.declared.input.Happening.{Happening}
 use Rattle.gateway_model.specs.declared.input.Happening.TheVariants as H
 use Rattle.gateway_model.specs.declared.input.When.{When}
-use Rattle.gateway_model.specs.Acts.{Act, Opens, TurnsAway, Takes, Hears, Passes, Asks, Denies, Sends, Tells, GoesOn, Rests, Leaves, Misses, Served, Terms, RestsAt, Does, DoesAll, at}
+use Rattle.gateway_model.specs.Acts.{Act, Opens, TurnsAway, Takes, Hears, Passes, Asks, Denies, Sends, Tells, GoesOn, GivesUp, Forgoes, Rests, Leaves, Misses, Served, Terms, RestsAt, Does, DoesAll, at}
 use Rattle.gateway_model.specs.Emissions.{Emission}
-use Rattle.gateway_model.specs.Orders.{ServesOut, AreSends, Turn, acts_of, IsTurn, Delivers, IsInOrder}
+use Rattle.gateway_model.specs.Orders.{ServesOut, AreSends, Turn, telling, acts_of, IsTurn, Delivers, IsInOrder}
 use Rattle.gateway_model.specs.Resting.{IsNumbered, AwaitsAnswer, AwaitsLast, AwaitsBytes, AllRest, any_terms, InputsRest}
 use Rattle.gateway_model.specs.Unasked.{Unasked, unasked_at, no_bytes, IsReadOut}
 use Rattle.gateway_model.proofs.Moving.{opens-as, turns-away, hears-move, ticks-move}
@@ -32,7 +32,9 @@ use Rattle.gateway_model.proofs.Conns.{once-rising, more-open}
 use Rattle.gateway_model.proofs.Awaiting.{IsToTell, Awaits, AskTheirOwn, entry-more, own-with, told-more, StepsTo, steps-by, which}
 use Rattle.gateway_model.proofs.Numbers.{numbered}
 use Rattle.gateway_model.proofs.Standing.{added-at, is-open}
-use Rattle.gateway_model.proofs.Serving.{IsAny, any-of, Base, LastAt, RestsNow, KeepsAt, last-kept, rests-kept, keeps-steps, base-steps, keeps-shut, gone-shut, base-shut, ServesOne, rests-serve, takes-serve, sends-keep, sends-base, for-serves, acts-serve}
+use Rattle.gateway_model.proofs.Order.{telling-for}
+use Rattle.gateway_model.proofs.Serving.{IsAny, any-of, Base, LastAt, RestsNow, KeepsAt, last-kept, rests-kept, keeps-steps, base-steps, keeps-shut, gone-shut, base-shut, ServesOne, rests-serve, takes-serve, sends-keep, sends-base}
+use Rattle.gateway_model.proofs.ServesFor.{for-serves, acts-serve}
 
 -- One that rests does.
 rests-now : (c : ℕ) (s : Served) → Base s → LastAt c s → RestsAt c s → RestsNow c s
@@ -154,7 +156,8 @@ turns-serve M w [] old out new each h k = all-same old new h.0 k
 turns-serve M w (x ∷ turns) old out new each h k =
     let parts = split-acts M w (acts_of x) (flat_map acts_of turns) old out new h in
     let told = parts.first in
-    let one : ServesOne x.conn old told.0 = for-serves M w x.conn (Tells x.conn x.ask) old told.1 told.0 refl told.3 k.base in
+    let one : ServesOne x.conn old told.0 = for-serves M w x.conn (telling x.told x.conn x.ask) old told.1 told.0
+    (telling-for x.told x.conn x.ask) told.3 k.base in
     let served : AllServed parts.mid = served-out M w x.conn x.further told.0 told.2 parts.mid each.0 told.4
     (serves-but-one x.conn old told.0 one (but-one x.conn old k)) in
     turns-serve M w turns parts.mid parts.further new each.1 parts.then_so served
@@ -174,6 +177,8 @@ sends-serve M w (Asks d ∷ acts) old out new i h k = absurd i.0
 sends-serve M w (Denies d ∷ acts) old out new i h k = absurd i.0
 sends-serve M w (Tells d j ∷ acts) old out new i h k = absurd i.0
 sends-serve M w (GoesOn d ∷ acts) old out new i h k = absurd i.0
+sends-serve M w (GivesUp d ∷ acts) old out new i h k = absurd i.0
+sends-serve M w (Forgoes d j ∷ acts) old out new i h k = absurd i.0
 sends-serve M w (Rests d ∷ acts) old out new i h k = absurd i.0
 sends-serve M w (Leaves d ∷ acts) old out new i h k = absurd i.0
 sends-serve M w (Misses d ∷ acts) old out new i h k = absurd i.0

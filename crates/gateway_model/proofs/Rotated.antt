@@ -14,9 +14,9 @@ use Rattle.exchange_core.specs.declared.fault.RotateFault.TheVariants as F
 use Rattle.exchange_core.specs.Rotating.{IsRefused, fault_in}
 use Rattle.exchange_core.specs.Values.{Outgoing, sent_by, sent_in}
 use Rattle.gateway_model.specs.declared.input.When.{When}
-use Rattle.gateway_model.specs.Acts.{Act, Opens, TurnsAway, Takes, Hears, Passes, Asks, Denies, Sends, Tells, GoesOn, Rests, Leaves, Misses, Served, Terms, Does, DoesAll, Ends}
+use Rattle.gateway_model.specs.Acts.{Act, Opens, TurnsAway, Takes, Hears, Passes, Asks, Denies, Sends, Tells, GoesOn, GivesUp, Forgoes, Rests, Leaves, Misses, Served, Terms, Does, DoesAll, Ends}
 use Rattle.gateway_model.specs.Asking.{asked_by, asked_on}
-use Rattle.gateway_model.specs.Emissions.{Emission, Rotated, Closed}
+use Rattle.gateway_model.specs.Emissions.{Emission, Rotated, Closed, GivenUp}
 use Rattle.gateway_model.specs.Tellings.{IsMeant, AreMeant}
 use Rattle.gateway_model.specs.Told.{answers_by, answers_to}
 use Rattle.gateway_model.proofs.Order.{all-append}
@@ -168,6 +168,8 @@ module _ (M : Terms) (w : When) where
   gives-none (Tells c k) old out new h =
       subst AreNoJournals (sym h.given) (tt, ended c (closes h.answer.mapping.came) h.told h.after new h.ends)
   gives-none (GoesOn c) old out new h = one-said _ out h.2 tt
+  gives-none (GivesUp c) old out new h = one-said (GivenUp c) out h.1 tt
+  gives-none (Forgoes c k) old out new h = one-said (GivenUp c) out h.3 tt
   gives-none (Rests c) old out new h = none-said out h.1
   gives-none (Leaves c) old out new h = none-said out h.1
   gives-none (Misses c) old out new h = none-said out h.1

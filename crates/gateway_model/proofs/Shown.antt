@@ -1,6 +1,8 @@
 -- What a connection is told of an answer is what the entries say of it.
-use Rattle.std.proofs.Common.{◌≡◌, ℕ, zero, suc, ◌-◌, List, [], ◌∷◌, ◌++◌, length, Some, refl, sym, ap, subst, ◌∙◌, append-nil, ◌⊎◌, inl, inr}
-use Rattle.std.specs.List.{AllByRecursion, flat_map, slice_get}
+use Rattle.std.proofs.Common.{◌≡◌, ℕ, zero, suc, ◌-◌, arith, List, [], ◌∷◌, ◌++◌, length, Some, refl, sym, ap, subst, ◌∙◌, append-nil, ◌⊎◌, inl, inr}
+use Rattle.std.specs.Prelude.{⊤}
+use Rattle.std.specs.List.{AllByRecursion, Contains, flat_map, slice_get}
+use Rattle.std.proofs.lemmas.List.{append_cancel_left}
 use Rattle.coap_codec.specs.Spelling.{Content}
 use Rattle.media_map.specs.declared.form.Form.{Form}
 use Rattle.uri_map.specs.declared.peer.Peer.{Peer}
@@ -21,18 +23,22 @@ use Rattle.reply_reading.specs.Findings.{Told, Tells as TellsOf, Fails}
 use Rattle.exchange_core.specs.Values.{CoreValue, Untaken, Outgoing, written, answered_in, sent_in}
 use Rattle.exchange_core.specs.Answering.{Given, HeardAs, AreHeard, IsFound, IsRenewal, IsResponse, CountsFrom}
 use Rattle.http_mapping.specs.Means.{Tells, MeansWhole, MeansTold, last_reply}
+use Rattle.gateway_model.specs.declared.input.Happening.{Happening}
 use Rattle.gateway_model.specs.declared.input.When.{When}
 use Rattle.gateway_model.specs.Acts.{Act, Served, Terms, DoesAll}
-use Rattle.gateway_model.specs.Emissions.{Emission}
+use Rattle.gateway_model.specs.Emissions.{Emission, given_up_in}
 use Rattle.gateway_model.specs.Going.{goes_in, GoesOut, SendsJust}
+use Rattle.gateway_model.specs.Orders.{IsInOrder}
 use Rattle.gateway_model.specs.Tellings.{IsMapped, AreMapped, terms_of, IsMeant, AreMeant}
-use Rattle.gateway_model.specs.Told.{ShowsGrounds, ShowsReplies, ShowsRenewed, ShowsStored, TellsAnswer, Piece, interim, final, answers_in, IsPiece, AreOnce, IsToldAnswers, TellsAll, HasCause}
+use Rattle.gateway_model.specs.Told.{ShowsGrounds, ShowsReplies, ShowsRenewed, ShowsStored, TellsAnswer, Piece, interim, final, answers_in, answers_to, IsPiece, AreOnce, IsToldAnswers, IsToldButLast, IsToldWhole, TellsAll, HasCause}
 use Rattle.gateway_model.specs.Waiting.{IsDrained}
 use Rattle.gateway_model.proofs.Order.{all-append}
-use Rattle.gateway_model.proofs.Moves.{Whoever, TellsGiven, IsSaid, ToldIn, Wait, Did, nums, nums-in}
+use Rattle.gateway_model.proofs.Moves.{Whoever, Nobody, TellsGiven, IsSaid, ToldIn, Wait, Did, nums, nums-in}
 use Rattle.gateway_model.proofs.Doing.{did-all}
-use Rattle.gateway_model.proofs.Pacing.{IsQuiet, flow-once, Paced, paced-all}
+use Rattle.gateway_model.proofs.Forgoing.{AreKept, ForgoneAt, AtMostLast, all-any, at-most-last, serving-or-kept}
+use Rattle.gateway_model.proofs.Pacing.{IsQuiet, flow-once, PacedAt, Paced, paced-all}
 use Rattle.gateway_model.proofs.Renewed.{counts-valid, heard-valid, renewal-whole, renewed-as, served-as, valid-whole}
+use Rattle.gateway_model.proofs.Shutting.{AreServing}
 use Rattle.gateway_model.proofs.Spelled.{IsFirstAs, asks-same, counts-alike, counts-first, entry-says, messages-rest, request-same}
 
 -- each ask of the entries is meant so
@@ -203,6 +209,9 @@ module _ (holds : Form → Form → List ℕ → List ℕ → Type 0) (takes : F
   all-pieces c (interim ∷ ps) meant each = (tt, all-pieces c ps meant each.1)
   all-pieces c (final n bytes ∷ ps) meant each = (tells-answer c n bytes meant each.0, all-pieces c ps meant each.1)
 
+none-waiting : (h : List Written) (v : CoreValue) → IsDrained v → Wait h v.untaken
+none-waiting h v d = subst (Wait h) (sym d.answers) (record { apart = tt; answers = tt })
+
 -- the laws
 
 just-sent : (out after before more : List Outgoing) → before ≡ [] → after ≡ [] → out ++ after ≡ before ++ more → out ≡ more
@@ -215,12 +224,13 @@ module _ (holds : Form → Form → List ℕ → List ℕ → Type 0) (takes : F
   pub all-go-out : (rules : Rules) (w : When) (acts : List Act) (old : Served) (out : List Emission) (new : Served)
       → DoesAll (terms_of holds takes rules) w acts old out new → GoesOut old.core out new.core
   all-go-out rules w acts old out new h =
-      let d : Did (terms_of holds takes rules) Whoever old.core out new.core = did-all (terms_of holds takes rules) w acts old out new h in
+      let d : Did (terms_of holds takes rules) Whoever Whoever old.core out new.core =
+      did-all (terms_of holds takes rules) Whoever w acts old out new (all-any acts) h in
       record { more = d.more; added = d.added; sent = d.sent }
 
-  pub did-send : (rules : Rules) (old new : CoreValue) (out : List Emission) → Did (terms_of holds takes rules) Whoever old out new
+  pub did-send : (F : ℕ → Type 0) (rules : Rules) (old new : CoreValue) (out : List Emission) → Did (terms_of holds takes rules) Whoever F old out new
       → old.unsent ≡ [] → new.unsent ≡ [] → SendsJust old out new
-  did-send rules old new out d before after = record {
+  did-send F rules old new out d before after = record {
     more = d.more;
     added = d.added;
     sent = just-sent (goes_in out) new.unsent old.unsent (sent_in d.more) before after d.sent;
@@ -230,7 +240,7 @@ module _ (holds : Form → Form → List ℕ → List ℕ → Type 0) (takes : F
       → DoesAll (terms_of holds takes rules) w acts old out new → old.core.unsent ≡ [] → new.core.unsent ≡ []
       → SendsJust old.core out new.core
   all-send-just rules w acts old out new h =
-      did-send rules old.core new.core out (did-all (terms_of holds takes rules) w acts old out new h)
+      did-send Whoever rules old.core new.core out (did-all (terms_of holds takes rules) Whoever w acts old out new (all-any acts) h)
 
   told-just : (c : ℕ) (before more : List Written) (us vs : List Untaken) (out : List Emission) (rules : Rules)
       → us ≡ [] → vs ≡ [] → Stands (before ++ more) → AreMeant (terms_of holds takes rules) (before ++ more)
@@ -248,28 +258,94 @@ module _ (holds : Form → Form → List ℕ → List ℕ → Type 0) (takes : F
         ∙ sym (nums-in c (length before) more))));
   }
 
-  -- so it is of whatever was done
-  pub paced-tell : (rules : Rules) (old new : Served) (out : List Emission) → Paced (terms_of holds takes rules) old out new
+  told-but-last : (c : ℕ) (before more : List Written) (out : List Emission) (rules : Rules) (w : When) (old : Served)
+      → (stands : Stands (before ++ more)) → before ≡ old.core.state.entries → old.core.untaken ≡ []
+      → AreMeant (terms_of holds takes rules) (before ++ more)
+      → ForgoneAt (terms_of holds takes rules) w c (before ++ more) stands old more out
+      → IsToldButLast holds takes before more c out
+  told-but-last c before more out rules w old stands is none meant x = record {
+    pieces = x.pieces;
+    said = x.said;
+    each = all-pieces holds takes rules (before ++ more) stands c x.pieces meant x.each;
+    once = flow-once (IsQuiet c old) ⊤ x.pieces x.flow;
+    untold = x.untold;
+    answers = x.answers
+        ∙ (ap (λ (zs : List Untaken). nums c zs ++ nums c (answered_in (length old.core.state.entries) more)) none
+        ∙ (sym (nums-in c (length old.core.state.entries) more)
+        ∙ ap (λ (es : List Written). answers_to c (length es) more) (sym is)));
+  }
+
+  -- so it is of whatever was done that forgoes nobody's answer
+  pub record TellsEach (rules : Rules) (old new : CoreValue) (out : List Emission) : Type 0 where
+    pub more : List Written
+    pub added : new.state.entries ≡ old.state.entries ++ more
+    pub mapped : AreMapped holds takes rules new.state.entries
+    pub told : (c : ℕ) → IsToldAnswers holds takes old.state.entries more c out
+
+  pub paced-tell : (rules : Rules) (old new : Served) (out : List Emission) → Paced (terms_of holds takes rules) Nobody old out new
       → IsDrained old.core → IsDrained new.core → Stands new.core.state.entries
       → AreMeant (terms_of holds takes rules) old.core.state.entries
-      → TellsAll holds takes rules old.core new.core out
+      → TellsEach rules old.core new.core out
   paced-tell rules old new out p before after stands mapped =
       let M : Terms = terms_of holds takes rules in
-      let d : Did M Whoever old.core out new.core = p.did in
+      let d : Did M Whoever Nobody old.core out new.core = p.did in
       let entries : List Written = old.core.state.entries in
       let stand : Stands (entries ++ d.more) = subst Stands d.added stands in
       let meant : AreMeant M (entries ++ d.more) =
       all-append (λ (e : Written). IsMeant M e.deed) entries d.more mapped d.meant in
-      let waits : Wait (entries ++ d.more) old.core.untaken =
-      subst (Wait (entries ++ d.more)) (sym before.answers) (record { apart = tt; answers = tt }) in
-      let told = p.paced (entries ++ d.more) [] stand (sym d.added ∙ sym (append-nil new.core.state.entries)) waits in
+      let told = p.paced (entries ++ d.more) [] stand (sym d.added ∙ sym (append-nil new.core.state.entries))
+      (none-waiting (entries ++ d.more) old.core before) in
       record {
         more = d.more;
         added = d.added;
         mapped = subst (AreMeant M) (sym d.added) meant;
-        told = λ c. told-just c entries d.more old.core.untaken new.core.untaken out rules before.answers after.answers stand meant
-            (told.1 c).told (flow-once (IsQuiet c old) (IsQuiet c new) (told.1 c).told.pieces (told.1 c).flow);
+        told = λ c. let t = told.1 c (λ x. x) in
+            told-just c entries d.more old.core.untaken new.core.untaken out rules before.answers after.answers stand meant
+            t.told (flow-once (IsQuiet c old) (IsQuiet c new) t.told.pieces t.flow);
       }
+
+  -- and of an input's acts
+  serving-tell : (rules : Rules) (w : When) (acts : List Act) (old : Served) (out : List Emission) (new : Served)
+      → DoesAll (terms_of holds takes rules) w acts old out new → AreServing acts
+      → IsDrained old.core → IsDrained new.core → Stands new.core.state.entries
+      → AreMeant (terms_of holds takes rules) old.core.state.entries
+      → TellsAll holds takes rules old.core new.core out
+  serving-tell rules w acts old out new h i before after stands mapped =
+      let M : Terms = terms_of holds takes rules in
+      let d : Did M Whoever Whoever old.core out new.core = did-all M Whoever w acts old out new (all-any acts) h in
+      let entries : List Written = old.core.state.entries in
+      let stand : Stands (entries ++ d.more) = subst Stands d.added stands in
+      let meant : AreMeant M (entries ++ d.more) =
+      all-append (λ (e : Written). IsMeant M e.deed) entries d.more mapped d.meant in
+      record {
+        more = d.more;
+        added = d.added;
+        mapped = subst (AreMeant M) (sym d.added) meant;
+        told = λ c.
+            told-or c d.more stand meant d.added
+            (at-most-last M w c (entries ++ d.more) stand acts old out new [] i h
+            (sym d.added ∙ sym (append-nil new.core.state.entries)) (none-waiting (entries ++ d.more) old.core before));
+      }
+    where
+      told-or : (c : ℕ) (more : List Written) (stand : Stands (old.core.state.entries ++ more))
+          → AreMeant (terms_of holds takes rules) (old.core.state.entries ++ more)
+          → new.core.state.entries ≡ old.core.state.entries ++ more
+          → AtMostLast (terms_of holds takes rules) w c (old.core.state.entries ++ more) stand old out new
+          → IsToldWhole holds takes old.core.state.entries more c out
+      told-or c more stand meant added r =
+          by r.more r.told (append_cancel_left old.core.state.entries r.more more (sym r.added ∙ added))
+        where
+          by : (ws : List Written)
+              → PacedAt (terms_of holds takes rules) (old.core.state.entries ++ more) c old ws out new
+              ⊎ ForgoneAt (terms_of holds takes rules) w c (old.core.state.entries ++ more) stand old ws out
+              → ws ≡ more → IsToldWhole holds takes old.core.state.entries more c out
+          by ws (inl f) e =
+              let t = subst (λ (ws : List Written). PacedAt (terms_of holds takes rules) (old.core.state.entries ++ more) c old ws out new) e f in
+              inl (told-just c old.core.state.entries more old.core.untaken new.core.untaken out rules before.answers after.answers stand meant
+              t.told (flow-once (IsQuiet c old) (IsQuiet c new) t.told.pieces t.flow))
+          by ws (inr f) e =
+              let t = subst (λ (ws : List Written). ForgoneAt (terms_of holds takes rules) w c (old.core.state.entries ++ more) stand old ws out) e f in
+              inr (t.given_up, told-but-last c old.core.state.entries more out rules w old stand refl before.answers meant t)
 
   -- what is told, with what was asked and what own errors name
   pub told-meant : (rules : Rules) (h : List Written) (c n : ℕ) (bytes : List ℕ) → AreMapped holds takes rules h → AreCaused h
@@ -285,10 +361,25 @@ module _ (holds : Form → Form → List ℕ → List ℕ → Type 0) (takes : F
       cause (Kept js) e = tt
       cause (Fault named j) e = caused n a.moment c a.number named j e
 
-  pub all-tell : (rules : Rules) (w : When) (acts : List Act) (old : Served) (out : List Emission) (new : Served)
-      → DoesAll (terms_of holds takes rules) w acts old out new
+  pub all-tell : (rules : Rules) (w : When) (x : Happening) (acts : List Act) (old : Served) (out : List Emission) (new : Served)
+      → DoesAll (terms_of holds takes rules) w acts old out new → IsInOrder x acts
       → IsDrained old.core → IsDrained new.core → Stands new.core.state.entries
       → AreMeant (terms_of holds takes rules) old.core.state.entries
       → TellsAll holds takes rules old.core new.core out
-  all-tell rules w acts old out new h =
-      paced-tell rules old new out (paced-all (terms_of holds takes rules) w acts old out new h)
+  all-tell rules w x acts old out new h o before after stands mapped = by (serving-or-kept x acts o)
+    where
+      kept : TellsEach rules old.core new.core out → TellsAll holds takes rules old.core new.core out
+      kept t = record { more = t.more; added = t.added; mapped = t.mapped; told = λ c. inl (t.told c) }
+
+      by : AreServing acts ⊎ AreKept acts → TellsAll holds takes rules old.core new.core out
+      by (inl i) = serving-tell rules w acts old out new h i before after stands mapped
+      by (inr k) = kept (paced-tell rules old new out (paced-all (terms_of holds takes rules) Nobody w acts old out new k h) before after stands mapped)
+
+  -- Where nobody is given up, each is told just its answers.
+  pub whole-told : (before more : List Written) (c : ℕ) (out : List Emission) → given_up_in out ≡ []
+      → IsToldWhole holds takes before more c out → IsToldAnswers holds takes before more c out
+  whole-told before more c out none (inl t) = t
+  whole-told before more c out none (inr t) = absurd (nobody (subst (λ (ks : List ℕ). Contains ks c) none t.0))
+    where
+      nobody : Contains [] c → ⊥
+      nobody (i, lt, e) = omega (arith, lt)

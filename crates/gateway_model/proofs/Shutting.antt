@@ -18,7 +18,7 @@ use Rattle.gateway_model.specs.declared.input.Happening.TheVariants as H
 use Rattle.gateway_model.specs.declared.input.When.{When}
 use Rattle.gateway_model.specs.Acts.{Act, Opens, TurnsAway, Leaves, Misses, Served, Terms, DoesAll}
 use Rattle.gateway_model.specs.Closing.{closed_by, closed_in, shut_by, shut_in, IsNotTo, StayClosed, IsLastAnswer, IsClosedFor, AreClosedFor, ClosesAfter, IsNoTurn, ClosesJust, Closes, InputsClose}
-use Rattle.gateway_model.specs.Emissions.{Emission, Says, Goes, Closed, Turned, Rotated, Unrotated}
+use Rattle.gateway_model.specs.Emissions.{Emission, Says, Goes, Closed, GivenUp, Turned, Rotated, Unrotated}
 use Rattle.gateway_model.specs.Orders.{IsInOrder}
 use Rattle.gateway_model.specs.Resting.{any_terms}
 use Rattle.gateway_model.specs.Unasked.{Unasked, unasked_at}
@@ -30,19 +30,19 @@ use Rattle.gateway_model.proofs.Order.{all-append, all-as, Each, each-out, each-
 use Rattle.gateway_model.proofs.Untold.{AreToOthers, IsToldBy}
 
 -- An answer of these entries was told, or waits; and after a last one its connection is closed.
-abbrev IsSettled : Served → List Emission → Deed → Type 0
+abbrev pub IsSettled : Served → List Emission → Deed → Type 0
 IsSettled new out (Answers c k g) =
     (t : ℕ) (a : Ask) (later : List Written) → IsEntry (new.core.state.entries ++ later) k t (Asked c a) → closes a.came ≡ true
     → IsToTell new.core.untaken c k ⊎ Contains (closed_in out) c
 IsSettled new out _ = ⊤
 
-record AllClose (M : Terms) (old new : Served) (out : List Emission) : Type 0 where
+pub record AllClose (M : Terms) (old new : Served) (out : List Emission) : Type 0 where
   more : List Written
   entries : new.core.state.entries ≡ old.core.state.entries ++ more
   shut : closed_in out ≡ shut_in more
   sealed : old.core.state.sealed ≡ true → new.core.state.sealed ≡ true
   turned : AllByRecursion IsNoTurn out
-  gone : (c : ℕ) → Gone c old → Gone c new × AllByRecursion (IsNotTo c) out
+  pub gone : (c : ℕ) → Gone c old → Gone c new × AllByRecursion (IsNotTo c) out
   last : AreApart old.core.untaken → StayClosed out
   why : AreApart old.core.untaken → (before : Option Emission) → AreClosedFor M new.core.state before out
   told : (c k t : ℕ) (a : Ask) (later : List Written) → IsToTell old.core.untaken c k
@@ -76,6 +76,7 @@ stay-plain [] ys p h = h
 stay-plain (Says c b ∷ xs) ys p h = stay-plain xs ys p.1 h
 stay-plain (Goes d ∷ xs) ys p h = stay-plain xs ys p.1 h
 stay-plain (Closed c ∷ xs) ys p h = absurd p.0
+stay-plain (GivenUp c ∷ xs) ys p h = absurd p.0
 stay-plain (Turned ∷ xs) ys p h = stay-plain xs ys p.1 h
 stay-plain (Rotated old ∷ xs) ys p h = stay-plain xs ys p.1 h
 stay-plain (Unrotated fault ∷ xs) ys p h = stay-plain xs ys p.1 h
@@ -86,6 +87,7 @@ why-plain M S before [] ys p h = h before
 why-plain M S before (Says c b ∷ xs) ys p h = why-plain M S (Some (Says c b)) xs ys p.1 h
 why-plain M S before (Goes d ∷ xs) ys p h = why-plain M S (Some (Goes d)) xs ys p.1 h
 why-plain M S before (Closed c ∷ xs) ys p h = absurd p.0
+why-plain M S before (GivenUp c ∷ xs) ys p h = absurd p.0
 why-plain M S before (Turned ∷ xs) ys p h = why-plain M S (Some Turned) xs ys p.1 h
 why-plain M S before (Rotated old ∷ xs) ys p h = why-plain M S (Some (Rotated old)) xs ys p.1 h
 why-plain M S before (Unrotated fault ∷ xs) ys p h = why-plain M S (Some (Unrotated fault)) xs ys p.1 h
@@ -95,6 +97,7 @@ sealed-why M S c None s = s
 sealed-why M S c (Some (Says d b)) s = inr s
 sealed-why M S c (Some (Goes d)) s = s
 sealed-why M S c (Some (Closed d)) s = s
+sealed-why M S c (Some (GivenUp d)) s = s
 sealed-why M S c (Some Turned) s = s
 sealed-why M S c (Some (Rotated old)) s = s
 sealed-why M S c (Some (Unrotated fault)) s = s
@@ -115,8 +118,10 @@ stay-then : (M : Terms) (mid new : Served) (xs ys : List Emission) → Form M mi
 stay-then M mid new xs ys (inl plain) k h = stay-plain xs ys plain h
 stay-then M mid new xs ys (inr (inl d)) k h =
     subst (λ (zs : List Emission). StayClosed (zs ++ ys)) (sym d.is) ((k.gone d.conn d.gone).1, h)
-stay-then M mid new xs ys (inr (inr e)) k h =
+stay-then M mid new xs ys (inr (inr (inl e))) k h =
     subst (λ (zs : List Emission). StayClosed (zs ++ ys)) (sym e.is) ((k.gone e.conn e.gone).1, h)
+stay-then M mid new xs ys (inr (inr (inr f))) k h =
+    subst (λ (zs : List Emission). StayClosed (zs ++ ys)) (sym f.is) ((k.gone f.conn f.gone).1, h)
 
 why-then : (M : Terms) (mid new : Served) (before : Option Emission) (xs ys : List Emission) → Form M mid xs → AllClose M mid new ys
     → ((b : Option Emission) → AreClosedFor M new.core.state b ys) → AreClosedFor M new.core.state before (xs ++ ys)
@@ -124,7 +129,7 @@ why-then M mid new before xs ys (inl plain) k h = why-plain M new.core.state bef
 why-then M mid new before xs ys (inr (inl d)) k h =
     subst (λ (zs : List Emission). AreClosedFor M new.core.state before (zs ++ ys)) (sym d.is)
     (sealed-why M new.core.state d.conn before (k.sealed d.sealed), h (Some (Closed d.conn)))
-why-then M mid new before xs ys (inr (inr e)) k h =
+why-then M mid new before xs ys (inr (inr (inl e))) k h =
     subst (λ (zs : List Emission). AreClosedFor M new.core.state before (zs ++ ys)) (sym e.is) (
       inl (
         refl,
@@ -133,6 +138,8 @@ why-then M mid new before xs ys (inr (inr e)) k h =
       ),
       h (Some (Closed e.conn)),
     )
+why-then M mid new before xs ys (inr (inr (inr f))) k h =
+    subst (λ (zs : List Emission). AreClosedFor M new.core.state before (zs ++ ys)) (sym f.is) (h (Some (GivenUp f.conn)))
 
 -- an answer that waits is told by the others, or waits still
 
@@ -206,7 +213,7 @@ closes-then M old mid new xs ys h k = record {
       (λ w s. settled-rest new xs ys w.deed s) k.settled);
 }
 
-all-close : (M : Terms) (w : When) (acts : List Act) (old : Served) (out : List Emission) (new : Served)
+pub all-close : (M : Terms) (w : When) (acts : List Act) (old : Served) (out : List Emission) (new : Served)
     → AllByRecursion IsServing acts → DoesAll M w acts old out new → AllClose M old new out
 all-close M w [] old out new i h = none-close M old new out h.0 h.1
 all-close M w (a ∷ acts) old out new i h =
@@ -214,10 +221,10 @@ all-close M w (a ∷ acts) old out new i h =
     (closes-then M old h.0 new h.1 h.2 (act-closes M w a old h.1 h.0 i.0 h.3) (all-close M w acts h.0 h.2 new i.1 h.4))
 
 -- the acts of an input
-each-serving : Each IsServing
-each-serving = record { asks = λ c. tt; denies = λ c. tt; sends = tt; tells = λ c k. tt; goes_on = λ c. tt; rests = λ c. tt }
+pub each-serving : Each IsServing
+each-serving = record { asks = λ c. tt; denies = λ c. tt; sends = tt; tells = λ c k. tt; goes_on = λ c. tt; gives_up = λ c. tt; forgoes = λ c k. tt; rests = λ c. tt }
 
-abbrev AreServing : List Act → Type 0
+abbrev pub AreServing : List Act → Type 0
 AreServing acts = AllByRecursion IsServing acts
 
 settled-closes : (new : Served) (out : List Emission) → new.core.untaken ≡ [] → (d : Deed) → IsSettled new out d

@@ -19,7 +19,7 @@ use Rattle.exchange_core.specs.Calls.{now, IsOpened, IsAsked, IsClosed, IsUnknow
 use Rattle.exchange_core.specs.Taking.{IsTaken, IsSent}
 use Rattle.exchange_core.specs.Values.{CoreValue, Outgoing, Untaken, stepped}
 use Rattle.gateway_model.specs.declared.input.When.{When}
-use Rattle.gateway_model.specs.Emissions.{Emission, Says, Goes, Closed, Turned}
+use Rattle.gateway_model.specs.Emissions.{Emission, Says, Goes, Closed, GivenUp, Turned}
 use Rattle.gateway_model.specs.Unasked.{Unasked, unasked_at, no_bytes, without, taken, TakesItem, TellsToGoOn, Recounts, IsReadOut}
 
 -- a core, and the bytes that aren't asked yet of the connections that it serves
@@ -49,6 +49,10 @@ pub data Act : Type 0 where
   -- a connection is told the answer to this ask; or to go on with its body
   Tells : ℕ → ℕ → Act
   GoesOn : ℕ → Act
+  -- memory is refused for what a connection asks, or for the answer to this ask, which nobody is
+  -- told then: the connection is closed
+  GivesUp : ℕ → Act
+  Forgoes : ℕ → ℕ → Act
   -- nothing more of a connection's bytes can be asked now, and those that wait unread are counted
   Rests : ℕ → Act
   -- the client of a connection closes it; or there is no such connection
@@ -132,6 +136,13 @@ pub record IsTelling (M : Terms) (w : When) (c k : ℕ) (old : Served) (out : Li
   pub ends : Ends w c (closes answer.mapping.came) told after new
   pub given : out ≡ Says c (answer_text response) ∷ after
 
+-- The answer to the ask is taken, and nobody is told it.
+pub record IsForgoing (c k : ℕ) (old new : Served) : Type 0 where
+  pub answer : Given
+  pub own : answer.conn ≡ c
+  pub taken : IsTaken (Some answer) k old.core new.core
+  pub unasked : new.unasked ≡ old.unasked
+
 -- The connection isn't open, or waits for an answer, or its bytes hold no request to be asked.
 abbrev pub RestsAt : ℕ → Served → Type 0
 RestsAt c s =
@@ -163,6 +174,10 @@ Does M w (Tells c k) old out new = IsTelling M w c k old out new
 Does M w (GoesOn c) old out new =
     TellsToGoOn c old.unasked new.unasked × (new.core ≡ old.core)
     × (out ≡ Says c continue_text ∷ []) × IsNext c old.core
+Does M w (GivesUp c) old out new =
+    IsClosing w c old new × (out ≡ GivenUp c ∷ []) × IsAllTold c old.core
+Does M w (Forgoes c k) old out new =
+    (mid : Served) × IsForgoing c k old mid × IsClosing w c mid new × (out ≡ GivenUp c ∷ [])
 Does M w (Rests c) old out new =
     (new.core ≡ old.core) × (out ≡ []) × Recounts c old.unasked new.unasked × RestsAt c new
 Does M w (Leaves c) old out new = IsClosing w c old new × (out ≡ [])

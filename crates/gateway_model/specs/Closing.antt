@@ -15,13 +15,14 @@ use Rattle.gateway_model.specs.declared.input.Happening.{Happening}
 use Rattle.gateway_model.specs.declared.input.Happening.TheVariants as H
 use Rattle.gateway_model.specs.declared.input.When.{When}
 use Rattle.gateway_model.specs.Acts.{Act, Served, Terms, DoesAll}
-use Rattle.gateway_model.specs.Emissions.{Emission, Says, Closed, Turned}
+use Rattle.gateway_model.specs.Emissions.{Emission, Says, Closed, GivenUp, Turned}
 use Rattle.gateway_model.specs.Orders.{IsInOrder}
 use Rattle.gateway_model.specs.Resting.{any_terms}
 
 -- the connections that the proxy closes, in order, and those that entries shut
 abbrev pub closed_by : Emission → List ℕ
 closed_by (Closed c) = c ∷ []
+closed_by (GivenUp c) = c ∷ []
 closed_by _ = []
 
 abbrev pub closed_in : List Emission → List ℕ
@@ -39,12 +40,14 @@ shut_in (w ∷ ws) = shut_by w.deed ++ shut_in ws
 abbrev pub IsNotTo : ℕ → Emission → Type 0
 IsNotTo c (Says d bytes) = d ≢ c
 IsNotTo c (Closed d) = d ≢ c
+IsNotTo c (GivenUp d) = d ≢ c
 IsNotTo c _ = ⊤
 
 -- After a connection is closed nothing more is said to it.
 abbrev pub StayClosed : List Emission → Type 0
 StayClosed [] = ⊤
 StayClosed (Closed c ∷ out) = AllByRecursion (IsNotTo c) out × StayClosed out
+StayClosed (GivenUp c ∷ out) = AllByRecursion (IsNotTo c) out × StayClosed out
 StayClosed (_ ∷ out) = StayClosed out
 
 -- After an answer to such an ask its connection is closed.
@@ -72,7 +75,8 @@ module _ (M : Terms) where
     pub text : bytes ≡ answer_text response
 
   -- Right before it is closed a connection was told the answer to its last request; or the journal
-  -- takes nothing more.
+  -- takes nothing more. That memory is refused is told with the end of a connection that is given
+  -- up.
   abbrev pub IsClosedFor : State → ℕ → Option Emission → Type 0
   IsClosedFor S c (Some (Says d bytes)) =
       ((d ≡ c) × IsLastAnswer S.entries c bytes) ⊎ (S.sealed ≡ true)
@@ -87,7 +91,7 @@ module _ (M : Terms) where
 
   -- Closed are just those whom the new entries shut: each after the answer to its last request,
   -- with nothing after that, and all that were answered so; or since the journal takes nothing
-  -- more.
+  -- more; or it is given up.
   pub record ClosesJust (S S1 : State) (out : List Emission) : Type 0 where
     pub more : List Written
     pub entries : S1.entries ≡ S.entries ++ more

@@ -1,17 +1,19 @@
 -- In which order an input's acts are done.
-use Rattle.std.specs.Prelude.{◌≡◌, ◌⊎◌, ℕ, ◌+◌, ◌≤◌, ⊤, List, [], ◌∷◌, ◌++◌, flat_map}
+use Rattle.std.specs.Prelude.{◌≡◌, ◌⊎◌, ℕ, ◌+◌, ◌≤◌, ⊤, Bool, true, false, List, [], ◌∷◌, ◌++◌, flat_map}
 use Rattle.std.specs.List.{AllByRecursion}
 use Rattle.gateway_model.specs.declared.input.Happening.{Happening}
 use Rattle.gateway_model.specs.declared.input.Happening.TheVariants as H
-use Rattle.gateway_model.specs.Acts.{Act, Opens, TurnsAway, Takes, Hears, Passes, Asks, Denies, Sends, Tells, GoesOn, Rests, Leaves, Misses}
+use Rattle.gateway_model.specs.Acts.{Act, Opens, TurnsAway, Takes, Hears, Passes, Asks, Denies, Sends, Tells, GoesOn, GivesUp, Forgoes, Rests, Leaves, Misses}
 
--- It is done for this connection: it is asked for or told; or a datagram goes out.
+-- It is done for this connection: it is asked for or told, or given up; or a datagram goes out.
 abbrev pub IsFor : ℕ → Act → Type 0
 IsFor c (Asks d) = d ≡ c
 IsFor c (Denies d) = d ≡ c
 IsFor c Sends = ⊤
 IsFor c (Tells d k) = d ≡ c
 IsFor c (GoesOn d) = d ≡ c
+IsFor c (GivesUp d) = d ≡ c
+IsFor c (Forgoes d k) = d ≡ c
 IsFor c _ = ⊥
 
 abbrev pub AreFor : ℕ → List Act → Type 0
@@ -30,14 +32,19 @@ IsSends _ = ⊥
 abbrev pub AreSends : List Act → Type 0
 AreSends acts = AllByRecursion IsSends acts
 
--- a connection is told the answer to an ask, and what it asks further is done
+-- a connection is told the answer to an ask, and what it asks further is done; or nobody is told it
 pub record Turn : Type 0 where
   pub conn : ℕ
   pub ask : ℕ
+  pub told : Bool
   pub further : List Act
 
+abbrev pub telling : Bool → ℕ → ℕ → Act
+telling true c k = Tells c k
+telling false c k = Forgoes c k
+
 abbrev pub acts_of : Turn → List Act
-acts_of x = Tells x.conn x.ask ∷ x.further
+acts_of x = telling x.told x.conn x.ask ∷ x.further
 
 abbrev pub IsTurn : Turn → Type 0
 IsTurn x = ServesOut x.conn x.further
@@ -47,12 +54,12 @@ abbrev pub Rise : ℕ → List Turn → ℕ → Type 0
 Rise n [] m = n ≤ m
 Rise n (x ∷ xs) m = (n ≤ x.ask) × Rise (x.ask + 1) xs m
 
--- The connection is told the answer to the ask.
+-- The connection is told the answer to the ask, or it is forgone.
 abbrev pub IsTelling : ℕ → ℕ → List Act → Type 0
-IsTelling c k acts = acts ≡ Tells c k ∷ []
+IsTelling c k acts = (told : Bool) × (acts ≡ telling told c k ∷ [])
 
--- The answers are told in the order of their asks, which are below this number, each followed by
--- what its connection asks further.
+-- The answers are told, or forgone, in the order of their asks, which are below this number, each
+-- followed by what its connection asks further.
 pub record AreTurns (m : ℕ) (acts : List Act) : Type 0 where
   pub turns : List Turn
   pub are : acts ≡ flat_map acts_of turns

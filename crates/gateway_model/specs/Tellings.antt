@@ -1,5 +1,5 @@
 -- By which rules requests are asked, and what answers are told by.
-use Rattle.std.specs.Prelude.{◌≡◌, ℕ, ◌-◌, ⊤, List, [], ◌∷◌, ◌++◌}
+use Rattle.std.specs.Prelude.{◌≡◌, ℕ, ◌-◌, ⊤, List}
 use Rattle.std.specs.List.{AllByRecursion}
 use Rattle.http_edge.specs.Answers.{answer_text}
 use Rattle.http_edge.specs.declared.answer.HttpAnswer.{HttpAnswer}
@@ -10,7 +10,6 @@ use Rattle.journal_book.specs.Entries.{Deed, Asks, Written}
 use Rattle.http_mapping.specs.Means.{Means}
 use Rattle.exchange_core.specs.Answering.{Given}
 use Rattle.gateway_model.specs.Acts.{Terms}
-use Rattle.gateway_model.specs.Emissions.{Emission, Says}
 
 -- What is asked is what the request means by these rules.
 pub record IsMapped (holds : Form → Form → List ℕ → List ℕ → Type 0)
@@ -32,11 +31,11 @@ terms_of holds takes rules = record {
   IsTelling = MeansGiven holds takes rules;
 }
 
--- The connection gets the bytes of a response that tells the answer.
-pub record TellsBytes (M : Terms) (g : Given) (before after : List Emission) : Type 0 where
+-- The bytes are of a response that tells the answer.
+pub record TellsBytes (M : Terms) (g : Given) (bytes : List ℕ) : Type 0 where
   pub response : HttpAnswer
   pub tells : M.IsTelling g response
-  pub added : after ≡ before ++ Says g.conn (answer_text response) ∷ []
+  pub text : bytes ≡ answer_text response
 
 -- What entries ask is what requests may be asked.
 abbrev pub IsMeantBy : (Ask → Type 0) → Deed → Type 0

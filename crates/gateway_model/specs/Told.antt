@@ -2,7 +2,7 @@
 -- response that was heard for just what its ask asks for, or is the proxy's own error, and tells
 -- the cause and the entry that the journal names.
 use Rattle.std.specs.Prelude.{◌≡◌, ◌⊎◌, ℕ, ◌+◌, ◌-◌, ◌<◌, ⊤, ◌==◌, if◌then◌else◌, List, [], ◌∷◌, ◌++◌, length, map, flat_map, Option}
-use Rattle.std.specs.List.{AllByRecursion}
+use Rattle.std.specs.List.{AllByRecursion, Contains}
 use Rattle.coap_codec.specs.Spelling.{Content}
 use Rattle.media_map.specs.declared.form.Form.{Form}
 use Rattle.http_edge.specs.Answers.{answer_text}
@@ -18,9 +18,11 @@ use Rattle.history_claims.specs.Headline.{IsEntry, IsHeardFirst, RestsOn}
 use Rattle.history_claims.specs.Stored.{WasRenewed, never, again, IsServed, RestsOnRenewed}
 use Rattle.history_claims.specs.Causes.{IsCausedBy, AreCaused}
 use Rattle.exchange_core.specs.Values.{CoreValue}
+use Rattle.gateway_model.specs.declared.input.Happening.{Happening}
 use Rattle.gateway_model.specs.declared.input.When.{When}
 use Rattle.gateway_model.specs.Acts.{Act, Served, DoesAll, continue_text}
-use Rattle.gateway_model.specs.Emissions.{Emission, Says}
+use Rattle.gateway_model.specs.Emissions.{Emission, Says, given_up_in}
+use Rattle.gateway_model.specs.Orders.{IsInOrder}
 use Rattle.gateway_model.specs.Tellings.{IsMapped, AreMapped, terms_of}
 use Rattle.gateway_model.specs.Waiting.{IsDrained}
 
@@ -159,23 +161,45 @@ module _ (holds : Form → Form → List ℕ → List ℕ → Type 0)
     pub once : AreOnce pieces
     pub answers : flat_map answers_in pieces ≡ answers_to c (length before) more
 
+  -- Only the last of these it wasn't told.
+  pub record IsToldButLast (before more : List Written) (c : ℕ) (out : List Emission)
+      : Type 0 where
+    pub pieces : List Piece
+    pub said : said_to c out ≡ map bytes_in pieces
+    pub each : AllByRecursion (IsPiece (before ++ more) c) pieces
+    pub once : AreOnce pieces
+    pub untold : ℕ
+    pub answers : flat_map answers_in pieces ++ untold ∷ [] ≡ answers_to c (length before) more
+
+  -- It was told just the answers to it; or it is given up, and was told all but the last.
+  abbrev pub IsToldWhole : List Written → List Written → ℕ → List Emission → Type 0
+  IsToldWhole before more c out =
+      IsToldAnswers before more c out
+      ⊎ (Contains (given_up_in out) c × IsToldButLast before more c out)
+
   -- Entries were only added; all that was ever asked was mapped by these rules; and each connection
-  -- was told just the answers to it among the new entries.
+  -- was told just the answers to it among the new entries, where it isn't given up.
   pub record TellsAll (rules : Rules) (old new : CoreValue) (out : List Emission) : Type 0 where
     pub more : List Written
     pub added : new.state.entries ≡ old.state.entries ++ more
     pub mapped : AreMapped holds takes rules new.state.entries
-    pub told : (c : ℕ) → IsToldAnswers old.state.entries more c out
+    pub told : (c : ℕ) → IsToldWhole old.state.entries more c out
 
   -- From nothing that waits to nothing that waits, so it is, where the journal stands.
   abbrev pub AllTell : Type 0
   AllTell =
-      (rules : Rules) (w : When) (acts : List Act)
+      (rules : Rules) (w : When) (x : Happening) (acts : List Act)
       (old : Served) (out : List Emission) (new : Served)
-      → DoesAll (terms_of holds takes rules) w acts old out new
+      → DoesAll (terms_of holds takes rules) w acts old out new → IsInOrder x acts
       → IsDrained old.core → IsDrained new.core → Stands new.core.state.entries
       → AreMapped holds takes rules old.core.state.entries
       → TellsAll rules old.core new.core out
+
+  -- Where nobody is given up, each connection was told just the answers to it.
+  abbrev pub WholeAreTold : Type 0
+  WholeAreTold =
+      (before more : List Written) (c : ℕ) (out : List Emission) → given_up_in out ≡ []
+      → IsToldWhole before more c out → IsToldAnswers before more c out
 
   -- Where all that was asked was mapped by the rules, and own errors name their causes, so it is of
   -- each answer that is told.

@@ -46,6 +46,8 @@ pub enum Output<R: Relation> {
     Datagram(Datagram),
     /// The proxy closes the connection.
     Closed(u32),
+    /// Memory is refused for what the connection asks, or is told, and the proxy closes it.
+    GivenUp(u32),
     /// No connection was opened: 256 are open, or the journal takes nothing more.
     Turned,
     /// The journal that was sealed. The new one begins with copies of its entries.

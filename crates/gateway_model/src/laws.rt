@@ -2,7 +2,7 @@
 
 ghost use Rattle.gateway_model.specs.Asking.{InputsAsk};
 ghost use Rattle.gateway_model.specs.Going.{AllGoOut, AllSendJust};
-ghost use Rattle.gateway_model.specs.Told.{AllTell, ToldAreMeant};
+ghost use Rattle.gateway_model.specs.Told.{AllTell, ToldAreMeant, WholeAreTold};
 
 use transformers::Relation;
 
@@ -16,9 +16,11 @@ pub fn datagrams_go_out<R: Relation>()
 /// Where nothing waits before and after, and the journal stands, each connection is told just the
 /// answers to it among the new entries, in their order. Each shows one whole response that was
 /// heard for what its ask asks for, or is the proxy's own error. All that was asked is what
-/// requests mean by the rules.
+/// requests mean by the rules. Only a connection that is given up, since memory is refused, may be
+/// told an answer fewer, the last.
 pub fn connections_are_told<R: Relation>()
-    ensures { AllTell R.holds R.takes }
+    ensures all { AllTell R.holds R.takes }
+    ensures whole { WholeAreTold R.holds R.takes }
 {}
 
 /// Where all that was asked was mapped by the rules, and own errors name their causes, each answer

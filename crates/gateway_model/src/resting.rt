@@ -19,8 +19,8 @@ pub fn what_comes_shows()
 {}
 
 /// The proxy closes a connection right after the answer to its last request, and each then, or
-/// since the journal takes no more of its requests; after that nothing is said to it (RFC 9112
-/// section 9.6).
+/// since the journal takes no more of its requests, or since memory is refused and it is given up;
+/// after that nothing is said to it (RFC 9112 section 9.6).
 pub fn closings_have_reasons()
     ensures { InputsClose }
 {}

@@ -1,7 +1,9 @@
 -- What a function of the engine does is acts.
-use Rattle.std.proofs.Common.{◌≡◌, ◌⊎◌, ℕ, suc, ◌<◌, Bool, true, false, length, arith, List, [], ◌∷◌, ◌++◌, Result, Ok, Err, Some, inl, inr, refl, sym, ap, subst, ◌∙◌}
+use Rattle.std.proofs.Common.{◌≡◌, ◌⊎◌, ℕ, suc, ◌<◌, Bool, true, false, length, map, arith, List, [], ◌∷◌, ◌++◌, Result, Ok, Err, Some, None, inl, inr, refl, sym, ap, subst, ◌∙◌}
 use Rattle.std.specs.Prelude.{OnOk}
+use Rattle.std.proofs.lemmas.Grind.{flat_map-append}
 use Rattle.std.proofs.lemmas.List.{append-nil, append_assoc, map_push}
+use Rattle.gateway_model.specs.Rotating.{Rotates}
 use Rattle.http_edge.specs.Answers.{answer_text}
 use Rattle.exchange_model.specs.State.{State}
 use Rattle.journal_book.specs.Entries.{Written}
@@ -10,27 +12,27 @@ use Rattle.exchange_core.specs.declared.fault.RotateFault.{RotateFault as Refusa
 use Rattle.exchange_core.specs.declared.fault.RotateFault.TheVariants as F
 use Rattle.exchange_core.specs.Rotating.{IsTurned, IsRefused}
 use Rattle.exchange_core.specs.Answering.{Given}
-use Rattle.exchange_core.specs.Calls.{IsOpened, IsUnknown}
+use Rattle.exchange_core.specs.Calls.{IsOpened, IsClosed, IsUnknown, now}
 use Rattle.exchange_core.specs.Taking.{IsTaken, IsSent}
 use Rattle.exchange_core.specs.Values.{CoreValue, Outgoing, stepped}
-use Rattle.gateway_connections.specs.Inlets.{fresh, appended}
+use Rattle.gateway_connections.specs.Inlets.{Inlet, TableValue, fresh, appended}
 use Rattle.gateway_connections.specs.Reads.{Continues, ChangesAt}
 use Rattle.gateway_world.specs.declared.engine.Engine.{Engine}
 use Rattle.gateway_model.specs.declared.input.When.{When}
 use Rattle.gateway_model.specs.declared.input.Happening.TheVariants as H
 use Rattle.gateway_model.specs.declared.input.Output.{Output}
-use Rattle.gateway_model.specs.Acts.{Act, Opens, TurnsAway, Takes, Sends, Tells, GoesOn, Rests, Leaves, Misses, Served, Terms, Does, IsClosing, Ends, RestsAt, IsNext, at, continue_text}
-use Rattle.gateway_model.specs.Emissions.{Emission, emissions, emission_of, Says, Goes, Closed, Turned, Rotated, Unrotated}
-use Rattle.gateway_world.specs.Engines.{IsShutting, IsShut, LeadsAfter}
+use Rattle.gateway_model.specs.Acts.{IsAllTold, Act, Opens, TurnsAway, Takes, Sends, Tells, GoesOn, GivesUp, Forgoes, Rests, Leaves, Misses, Served, Terms, Does, IsClosing, Ends, RestsAt, IsNext, at, continue_text}
+use Rattle.gateway_model.specs.Emissions.{Emission, emissions, emission_of, Says, Goes, Closed, GivenUp, Turned, Rotated, Unrotated, given_up_by, given_up_in}
+use Rattle.gateway_world.specs.Engines.{IsGivenUp, IsShutting, IsShut, LeadsAfter, inlet_number}
 use Rattle.gateway_world.specs.Leading.{Leads, LeadsBy, RotatesBy, served_of}
 use Rattle.gateway_model.specs.Orders.{AreFor, AreSends, IsInOrder, BeginsWith, IsTelling as TellsOnly, ServesOut}
 use Rattle.http_mapping.specs.Means.{closes}
 use Rattle.gateway_model.specs.Tellings.{TellsBytes}
-use Rattle.gateway_model.specs.Unasked.{Unasked, unasked_in, taken, Recounts}
+use Rattle.gateway_model.specs.Unasked.{Unasked, unasked_in, taken, without, Recounts}
 use Rattle.gateway_world.proofs.Lead.{leads-one, leads-then}
-use Rattle.gateway_model.specs.Waiting.{IsOpen}
-use Rattle.gateway_model.proofs.CallerLemmas.{conn-open, out-on, refused-so, rotation-is}
-use Rattle.gateway_world.proofs.ReadingOn.{unasked-without, unasked-taken, unasked-opened, tells-on}
+use Rattle.gateway_model.specs.Waiting.{IsOpen, conn_id}
+use Rattle.gateway_model.proofs.CallerLemmas.{closed-gone, conn-open, out-on, refused-so, rotation-is}
+use Rattle.gateway_world.proofs.ReadingOn.{IsAmong, among-open, taken-none, unasked-without, unasked-taken, unasked-opened, tells-on, without-taken}
 
 -- what follows where a call went well
 pub then-ok : {A E : Type 0} (r : Result A E) (P Q : Type 0) → OnOk r P → (P → Q) → OnOk r Q
@@ -135,16 +137,16 @@ module _ {R : Type 0} (M : Terms) (w : When) where
       (refl, tt) (tells-on c old.table.current new.table.current h, core, refl, next) added
 
   -- the answer is told
-  pub tells-lead : (g : Given) (v : CoreValue) (old new : Engine R) (before mid after : List (Output R)) (rest : List Emission)
+  pub tells-lead : (g : Given) (bytes : List ℕ) (v : CoreValue) (old new : Engine R) (before mid after : List (Output R)) (rest : List Emission)
       → IsTaken (Some g) g.ask v old.core → old.core.unsent ≡ []
-      → TellsBytes M g (emissions before) (emissions mid)
+      → TellsBytes M g bytes → emissions mid ≡ emissions before ++ Says g.conn bytes ∷ []
       → Ends w g.conn (closes g.mapping.came) (served_of old) rest (served_of new)
       → emissions after ≡ emissions mid ++ rest
       → LeadsAfter M w (TellsOnly g.conn g.ask) v old.table.current before new after
-  tells-lead g v old new before mid after rest taken sent t ends added =
+  tells-lead g bytes v old new before mid after rest taken sent t told ends added =
       leads-one M w (TellsOnly g.conn g.ask) (Tells g.conn g.ask)
       (record { core = v; unasked = unasked_in old.table.current }) (served_of new)
-      (emissions before) (Says g.conn (answer_text t.response) ∷ rest) (emissions after) refl (
+      (emissions before) (Says g.conn (answer_text t.response) ∷ rest) (emissions after) (true, refl) (
       record {
         sent = sym (ap (λ (u : CoreValue). u.unsent) taken.3) ∙ sent;
         answer = g;
@@ -160,8 +162,48 @@ module _ {R : Type 0} (M : Terms) (w : When) where
       }
       )
       (added
-      ∙ (ap (λ (es : List Emission). es ++ rest) t.added
+      ∙ (ap (λ (es : List Emission). es ++ rest) (told ∙ ap (λ (bs : List ℕ). emissions before ++ Says g.conn bs ∷ []) t.text)
       ∙ append_assoc (emissions before) (Says g.conn (answer_text t.response) ∷ []) rest))
+
+  -- or nobody is told it, and its connection is given up
+  pub forgoes-lead : (g : Given) (v : CoreValue) (old new : Engine R) (before after : List (Output R))
+      → IsTaken (Some g) g.ask v old.core → IsGivenUp w g.conn old before new after
+      → LeadsAfter M w (TellsOnly g.conn g.ask) v old.table.current before new after
+  forgoes-lead g v old new before after taken up =
+      leads-one M w (TellsOnly g.conn g.ask) (Forgoes g.conn g.ask)
+      (record { core = v; unasked = unasked_in old.table.current }) (served_of new)
+      (emissions before) (GivenUp g.conn ∷ []) (emissions after) (false, refl) (
+        served_of old,
+        record { answer = g; own = refl; taken = taken; unasked = refl },
+        closing-of w g.conn old new up.shuts,
+        refl,
+      ) up.told
+
+  -- It is given up for what it asks; its bytes may have been read since.
+  pub gives-up-lead : (c : ℕ) (v : CoreValue) (xs : List Inlet) (old new : Engine R) (before after : List (Output R))
+      → old.core ≡ v → without c (unasked_in xs) ≡ without c (unasked_in old.table.current) → IsAllTold c v
+      → IsGivenUp w c old before new after → LeadsAfter M w (AreFor c) v xs before new after
+  gives-up-lead c v xs old new before after core left told up =
+      let closing : IsClosing w c (served_of old) (served_of new) = closing-of w c old new up.shuts in
+      leads-one M w (AreFor c) (GivesUp c) (record { core = v; unasked = unasked_in xs }) (served_of new)
+      (emissions before) (GivenUp c ∷ []) (emissions after) (refl, tt) (
+        (
+          subst (λ (u : CoreValue). IsClosed (now u.state.moment w.moment) c u new.core) core closing.0,
+          closing.1 ∙ sym left,
+        ),
+        refl,
+        told,
+      ) up.told
+
+  -- and then nothing more can be asked
+  pub gives-up-out : (c : ℕ) (v : CoreValue) (xs : List Inlet) (old new : Engine R) (before after : List (Output R))
+      → old.core ≡ v → without c (unasked_in xs) ≡ without c (unasked_in old.table.current) → IsAllTold c v
+      → IsGivenUp w c old before new after → LeadsAfter M w (ServesOut c) v xs before new after
+  gives-up-out c v xs old new before after core left told up =
+      leads-then M w (AreFor c) (ServesOut c) (ServesOut c) (record { core = v; unasked = unasked_in xs }) (served_of new) (served_of new)
+      (emissions before) (emissions after) (emissions after) (out-on c)
+      (gives-up-lead c v xs old new before after core left told up)
+      (rests-lead c new new after refl (inl refl) (inl (λ has. closed-gone (at w (served_of old)) c None old.core new.core up.shuts.closed has)))
 
   pub takes-lead : (c : ℕ) (bytes : List ℕ) (old mid new : Engine R) (before after : List (Output R))
       → mid.core ≡ old.core → mid.table.current ≡ appended c bytes old.table.current
@@ -174,6 +216,47 @@ module _ {R : Type 0} (M : Terms) (w : When) where
       takes-so : unasked_in mid.table.current ≡ taken c bytes (unasked_in old.table.current)
           → served_of mid ≡ record (served_of old) { unasked = taken c bytes (unasked_in old.table.current) }
       takes-so same = λ i. record { core = core i; unasked = same i }
+
+  -- memory is refused for them, and it is given up
+  pub refused-lead : (c : ℕ) (bytes : List ℕ) (old : Engine R) (t : TableValue) (new : Engine R) (before after : List (Output R))
+      → t.current ≡ old.table.current → IsAllTold c old.core → IsGivenUp w c (record old { table = t }) before new after
+      → LeadsBy M w (BeginsWith (Takes c bytes) (ServesOut c)) old before new after
+  refused-lead c bytes old t new before after same told up =
+      begins-lead M w (Takes c bytes) (ServesOut c) (served_of old) taken_so (served_of new) (emissions before) (emissions after)
+      (refl, refl) (
+      leads-then M w (AreFor c) (ServesOut c) (ServesOut c) taken_so (served_of new) (served_of new)
+      (emissions before) (emissions after) (emissions after) (out-on c)
+      (leads-one M w (AreFor c) (GivesUp c) taken_so (served_of new) (emissions before) (GivenUp c ∷ []) (emissions after) (refl, tt)
+      ((closing.0, closing.1 ∙ left), refl, told) up.told)
+      (rests-lead c new new after refl (inl refl)
+      (inl (λ has. closed-gone (at w (served_of old)) c None old.core new.core up.shuts.closed has))))
+    where
+      taken_so : Served
+      taken_so = record (served_of old) { unasked = taken c bytes (unasked_in old.table.current) }
+
+      closing : IsClosing w c (served_of (record old { table = t })) (served_of new)
+      closing = closing-of w c (record old { table = t }) new up.shuts
+
+      left : without c (unasked_in t.current) ≡ without c (taken c bytes (unasked_in old.table.current))
+      left = ap (λ (xs : List Inlet). without c (unasked_in xs)) same ∙ sym (without-taken c bytes (unasked_in old.table.current))
+
+  -- or there is no such connection
+  pub missed-lead : (c : ℕ) (bytes : List ℕ) (old : Engine R) (t : TableValue) (new : Engine R) (before : List (Output R))
+      → t.current ≡ old.table.current → map inlet_number old.table.current ≡ map conn_id old.core.state.conns
+      → (new ≡ record old { table = t }) × IsUnknown c old.core
+      → LeadsBy M w (BeginsWith (Takes c bytes) (ServesOut c)) old before new before
+  missed-lead c bytes old t new before same numbers u =
+      subst (λ (e : Engine R). LeadsBy M w (BeginsWith (Takes c bytes) (ServesOut c)) old before e before) (sym u.0)
+      (begins-lead M w (Takes c bytes) (ServesOut c) (served_of old) (served_of mid) (served_of mid) (emissions before) (emissions before)
+      (ap (λ (xs : List Unasked). record { core = old.core; unasked = xs }) (ap unasked_in same ∙ sym none), refl)
+      (rests-lead c mid mid before refl (inl refl) (inl (λ has. u.1 None has))))
+    where
+      mid : Engine R
+      mid = record old { table = t }
+
+      none : taken c bytes (unasked_in old.table.current) ≡ unasked_in old.table.current
+      none = taken-none c bytes old.table.current
+          (λ among. let has = among-open c old.core.state.conns (subst (λ (ks : List ℕ). IsAmong ks c) numbers among) in u.1 has.0 has.1)
 
   pub steps-lead : (a : Act) (S : State) (P : List Act → Type 0) (old mid new : Engine R) (before after : List (Output R))
       → (served_of mid ≡ record (served_of old) { core = stepped S old.core } → Does M w a (served_of old) [] (served_of mid))
@@ -238,3 +321,15 @@ module _ {R : Type 0} (w : When) where
         table = table;
         added = added;
       }
+
+  -- It gives nobody up.
+  pub rotates-whole : (old new : Engine R) (before after : List (Output R)) → RotatesBy w old before new after
+      → given_up_in (emissions after) ≡ given_up_in (emissions before)
+  rotates-whole old new before after r =
+      ap given_up_in r.added
+      ∙ (flat_map-append given_up_by (emissions before) r.given
+      ∙ (ap (λ (ks : List ℕ). given_up_in (emissions before) ++ ks) (none r.rotates) ∙ append-nil (given_up_in (emissions before))))
+    where
+      none : Rotates (at w (served_of old)) old.core r.given new.core → given_up_in r.given ≡ []
+      none (inl x) = ap given_up_in x.given
+      none (inr x) = ap given_up_in x.given

@@ -56,7 +56,7 @@ module _ {R : Type 0} (holds : Form → Form → List ℕ → List ℕ → Type 
       by handles = record {
         room = room;
         handles = handles;
-        told = led-tells holds takes rules _ _ old mid before after l none h.1 drained stands h.4;
+        told = led-tells holds takes rules _ i.happening old mid before after l none h.1 drained stands h.4;
         causes = names-cause mid.core.state.entries stands;
         once = asks-once mid.core.state.entries stands;
         in_order = law mid.core.state.entries stands;

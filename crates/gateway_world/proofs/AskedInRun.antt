@@ -16,7 +16,7 @@ use Rattle.gateway_model.specs.declared.input.Input.{Input}
 use Rattle.gateway_model.specs.Acts.{Terms, at}
 use Rattle.gateway_model.specs.Asking.{AreAsked, AsksFirst, IsLeft, Heeds, AllHeed, Begins, asked_on, brought_by}
 use Rattle.gateway_model.specs.Closing.{Closes, IsNoTurn}
-use Rattle.gateway_model.specs.Emissions.{Emission, Says, Goes, Closed, Turned, Rotated, Unrotated}
+use Rattle.gateway_model.specs.Emissions.{Emission, Says, Goes, Closed, GivenUp, Turned, Rotated, Unrotated}
 use Rattle.gateway_model.specs.Rotating.{Rotates}
 use Rattle.gateway_model.specs.Tellings.{IsMapped, terms_of}
 use Rattle.gateway_model.specs.Unasked.{Unasked, unasked_at, unasked_in}
@@ -41,6 +41,7 @@ turned-both [] b = let same : turned_in b ≡ 0 + turned_in b = omega arith in s
 turned-both (Says c x ∷ a) b = turned-both a b
 turned-both (Goes d ∷ a) b = turned-both a b
 turned-both (Closed c ∷ a) b = turned-both a b
+turned-both (GivenUp c ∷ a) b = turned-both a b
 turned-both (Turned ∷ a) b = let e = turned-both a b in omega (arith, e)
 turned-both (Rotated h ∷ a) b = turned-both a b
 turned-both (Unrotated fault ∷ a) b = turned-both a b
@@ -50,6 +51,7 @@ none-turned [] h = refl
 none-turned (Says c x ∷ out) h = none-turned out h.1
 none-turned (Goes d ∷ out) h = none-turned out h.1
 none-turned (Closed c ∷ out) h = none-turned out h.1
+none-turned (GivenUp c ∷ out) h = none-turned out h.1
 none-turned (Turned ∷ out) h = absurd h.0
 none-turned (Rotated h ∷ out) k = none-turned out k.1
 none-turned (Unrotated fault ∷ out) h = none-turned out h.1

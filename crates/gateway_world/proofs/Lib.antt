@@ -3,6 +3,7 @@ pub mod Advancing
 pub mod Answering
 pub mod Asking
 pub mod AskedInRun
+pub mod Ends
 pub mod Growth
 pub mod Lead
 pub mod Limits

@@ -16,7 +16,7 @@ use Rattle.gateway_model.specs.declared.input.Input.{Input}
 use Rattle.gateway_model.specs.Acts.{at}
 use Rattle.gateway_model.specs.Asking.{Begins}
 use Rattle.gateway_model.specs.Closing.{IsNotTo}
-use Rattle.gateway_model.specs.Emissions.{Emission, Says, Goes, Closed, Turned, Rotated, Unrotated}
+use Rattle.gateway_model.specs.Emissions.{Emission, Says, Goes, Closed, GivenUp, Turned, Rotated, Unrotated}
 use Rattle.gateway_model.specs.Resting.{number_of}
 use Rattle.gateway_model.specs.Rotating.{Rotates}
 use Rattle.gateway_model.specs.Tellings.{terms_of}
@@ -162,6 +162,7 @@ module _ (holds : Form → Form → List ℕ → List ℕ → Type 0) (takes : F
   parts-silent (Says d bytes ∷ out) last h = gives-silent (Says d bytes) (parts_of out last) h.0 (parts-silent out last h.1)
   parts-silent (Goes d ∷ out) last h = gives-silent (Goes d) (parts_of out last) tt (parts-silent out last h.1)
   parts-silent (Closed d ∷ out) last h = gives-silent (Closed d) (parts_of out last) h.0 (parts-silent out last h.1)
+  parts-silent (GivenUp d ∷ out) last h = gives-silent (GivenUp d) (parts_of out last) h.0 (parts-silent out last h.1)
   parts-silent (Turned ∷ out) last h = gives-silent Turned (parts_of out last) tt (parts-silent out last h.1)
   parts-silent (Rotated g ∷ out) last h = (tt, parts-silent out last h.1)
   parts-silent (Unrotated fault ∷ out) last h = gives-silent (Unrotated fault) (parts_of out last) tt (parts-silent out last h.1)

@@ -2,6 +2,7 @@
 use Rattle.std.proofs.Common.{◌≡◌, inl, inr, ℕ, ◌+◌, List, [], ◌∷◌, ◌++◌, length, refl, sym, ap, subst, ◌∙◌, arith}
 use Rattle.std.specs.Prelude.{flat_map}
 use Rattle.std.specs.List.{AllByRecursion}
+use Rattle.std.proofs.lemmas.Grind.{flat_map-append}
 use Rattle.std.proofs.lemmas.List.{append-nil, append_assoc}
 use Rattle.media_map.specs.declared.form.Form.{Form}
 use Rattle.ask_model.specs.Views.{Rules}
@@ -15,14 +16,14 @@ use Rattle.exchange_model.specs.State.{State}
 use Rattle.exchange_core.specs.Values.{sent_in}
 use Rattle.gateway_model.specs.declared.input.Input.{Input}
 use Rattle.gateway_model.specs.Acts.{Served, Terms, at}
-use Rattle.gateway_model.specs.Emissions.{Emission, Says, Goes, Closed, Turned, Rotated, Unrotated}
+use Rattle.gateway_model.specs.Emissions.{Emission, Says, Goes, Closed, GivenUp, Turned, Rotated, Unrotated, given_up_by, given_up_in}
 use Rattle.gateway_model.specs.Going.{SendsJust}
 use Rattle.gateway_model.specs.Rotating.{Rotates}
 use Rattle.gateway_model.specs.Tellings.{AreMapped, terms_of}
-use Rattle.gateway_model.specs.Told.{IsToldAnswers, TellsAll, answers_to}
+use Rattle.gateway_model.specs.Told.{IsToldAnswers, answers_to}
 use Rattle.gateway_model.specs.Unasked.{unasked_in}
 use Rattle.gateway_model.specs.Waiting.{IsDrained}
-use Rattle.gateway_model.proofs.CallerLemmas.{all-append, all-as, answers-after, AreCopies, AreNoJournals, begins-copied, copies-mean, did-send, give-none, IsNoJournal, Paced, paced-all, paced-none, paced-silent, paced-tell, paced-then, rotation-is, sends-after}
+use Rattle.gateway_model.proofs.CallerLemmas.{acts-keep, all-append, all-as, answers-after, AreCopies, AreNoJournals, begins-copied, copies-mean, did-send, give-none, IsNoJournal, Nobody, Paced, paced-all, paced-none, paced-silent, paced-tell, paced-then, rotation-is, sends-after, TellsEach}
 use Rattle.gateway_world.specs.Inputs.{Takes, TakesAll}
 use Rattle.gateway_world.specs.Journals.{Part, gives_first, parts_of, journal_in, all_entries, EachJournal, EachPart, AreSent, AreTold}
 use Rattle.gateway_world.specs.Worlds.{WorldValue, Handles, IsAtRest, new_world, served_in, when_in}
@@ -46,6 +47,7 @@ gives-so : (e : Emission) (out : List Emission) (last : List Written) → IsNoJo
 gives-so (Says c bytes) out last i = refl
 gives-so (Goes d) out last i = refl
 gives-so (Closed c) out last i = refl
+gives-so (GivenUp c) out last i = refl
 gives-so Turned out last i = refl
 gives-so (Rotated h) out last i = absurd i
 gives-so (Unrotated fault) out last i = refl
@@ -68,10 +70,12 @@ entries-same before out last h =
     ap (flat_map journal_in) (parts-first before out last h) ∙ joined-same before (parts_of out last)
 
 handled-paced : (M : Terms) (i : Input) (old new : WorldValue) (out : List Emission) → Handles M i old out new
-    → Paced M (served_in old) out (served_in new)
-handled-paced M i old new out h =
-    subst (λ (es : List Emission). Paced M (served_in old) es (served_in new)) (sym h.acts.added)
-    (paced-all M (when_in old i) h.acts.acts (served_in old) h.acts.given (served_in new) h.acts.done)
+    → given_up_in out ≡ [] → Paced M Nobody (served_in old) out (served_in new)
+handled-paced M i old new out h whole =
+    subst (λ (es : List Emission). Paced M Nobody (served_in old) es (served_in new)) (sym h.acts.added)
+    (paced-all M Nobody (when_in old i) h.acts.acts (served_in old) h.acts.given (served_in new)
+    (acts-keep M (when_in old i) h.acts.acts (served_in old) h.acts.given (served_in new) h.acts.done
+    (sym (ap given_up_in h.acts.added) ∙ whole)) h.acts.done)
 
 pub handled-none : (M : Terms) (i : Input) (old new : WorldValue) (out : List Emission) → Handles M i old out new → AreNoJournals out
 handled-none M i old new out h =
@@ -80,6 +84,18 @@ handled-none M i old new out h =
 
 pub served-same : (a b : WorldValue) → b.core ≡ a.core → b.inlets ≡ a.inlets → served_in b ≡ served_in a
 served-same a b core inlets = λ i. record { core = core i; unasked = unasked_in (inlets i) }
+
+-- none is given up by either of two parts
+
+both-empty : (xs ys : List ℕ) → xs ++ ys ≡ [] → (xs ≡ []) × (ys ≡ [])
+both-empty [] ys e = (refl, e)
+both-empty (x ∷ xs) ys e = absurd cc
+
+pub whole-both : (a b : List Emission) → given_up_in (a ++ b) ≡ [] → (given_up_in a ≡ []) × (given_up_in b ≡ [])
+whole-both a b e = both-empty (given_up_in a) (given_up_in b) (sym (flat_map-append given_up_by a b) ∙ e)
+
+pub whole-then : (a b : List Emission) → given_up_in a ≡ [] → given_up_in b ≡ [] → given_up_in (a ++ b) ≡ []
+whole-then a b h k = flat_map-append given_up_by a b ∙ (ap (λ (ks : List ℕ). ks ++ given_up_in b) h ∙ k)
 
 module _ (holds : Form → Form → List ℕ → List ℕ → Type 0) (takes : Form → Form → List ℕ → Type 0) (rules : Rules) where
   abbrev M : Terms
@@ -91,7 +107,7 @@ module _ (holds : Form → Form → List ℕ → List ℕ → Type 0) (takes : F
     to : Served
     begins : IsDrained from.core
     copied : AreCopies from.core.state.entries
-    paced : Paced M from out to
+    paced : Paced M Nobody from out to
     ends : IsDrained to.core
     is : to.core.state.entries ≡ h
     stands : Stands h
@@ -108,7 +124,7 @@ module _ (holds : Form → Form → List ℕ → List ℕ → Type 0) (takes : F
         answers = x.answers ∙ (ap (λ (n : ℕ). answers_to c n more) none ∙ sym (answers-after c 0 before more copied));
       }
 
-  stretch-all : (h : List Written) (out : List Emission) (s : Stretch h out) → TellsAll holds takes rules s.from.core s.to.core out
+  stretch-all : (h : List Written) (out : List Emission) (s : Stretch h out) → TellsEach holds takes rules s.from.core s.to.core out
   stretch-all h out s =
       paced-tell holds takes rules s.from s.to out s.paced s.begins s.ends (subst Stands (sym s.is) s.stands)
       (copies-mean M s.from.core.state.entries s.copied)
@@ -124,7 +140,7 @@ module _ (holds : Form → Form → List ℕ → List ℕ → Type 0) (takes : F
 
   stretch-sends : (h : List Written) (out : List Emission) → Stretch h out → AreSent h out
   stretch-sends h out s =
-      let all : SendsJust s.from.core out s.to.core = did-send holds takes rules s.from.core s.to.core out s.paced.did s.begins.sends s.ends.sends in
+      let all : SendsJust s.from.core out s.to.core = did-send holds takes Nobody rules s.from.core s.to.core out s.paced.did s.begins.sends s.ends.sends in
       all.sent
       ∙ (sym (sends-after s.from.core.state.entries all.more s.copied)
       ∙ ap sent_in (sym all.added ∙ s.is))
@@ -147,19 +163,20 @@ module _ (holds : Form → Form → List ℕ → List ℕ → Type 0) (takes : F
     abbrev Rest : WorldValue → List Emission → Type 0
     Rest mid rest =
         (before : List Emission) (from : Served) → IsDrained from.core → AreCopies from.core.state.entries
-        → Paced M from before (served_in mid) → AreNoJournals before → Parts (before ++ rest)
+        → Paced M Nobody from before (served_in mid) → AreNoJournals before → Parts (before ++ rest)
 
     -- one input, and what follows it
     parts-step : (i : Input) (a mid : WorldValue) (first rest before : List Emission) (from : Served) → a.rules ≡ rules
-        → IsDrained from.core → AreCopies from.core.state.entries → Paced M from before (served_in a) → AreNoJournals before
-        → IsDrained a.core → Takes holds takes i a first mid → Rest mid rest → Parts (before ++ (first ++ rest))
-    parts-step i a mid first rest before from e begins copied paced none rests taken go = by taken
+        → IsDrained from.core → AreCopies from.core.state.entries → Paced M Nobody from before (served_in a) → AreNoJournals before
+        → IsDrained a.core → Takes holds takes i a first mid → given_up_in first ≡ [] → Rest mid rest
+        → Parts (before ++ (first ++ rest))
+    parts-step i a mid first rest before from e begins copied paced none rests taken whole go = by taken
       where
-        go-on : Paced M (served_in a) first (served_in mid) → AreNoJournals first → Parts (before ++ (first ++ rest))
+        go-on : Paced M Nobody (served_in a) first (served_in mid) → AreNoJournals first → Parts (before ++ (first ++ rest))
         go-on more quiet =
             subst Parts (append_assoc before first rest)
             (go (before ++ first) from begins copied
-            (paced-then M from (served_in a) (served_in mid) before first paced more)
+            (paced-then M Nobody from (served_in a) (served_in mid) before first paced more)
             (all-append IsNoJournal before first none quiet))
 
         turn : IsDrained mid.core → mid.inlets ≡ a.inlets → Stands a.core.state.entries
@@ -174,26 +191,26 @@ module _ (holds : Form → Form → List ℕ → List ℕ → Type 0) (takes : F
                 to = served_in a;
                 begins = begins;
                 copied = copied;
-                paced = subst (λ (es : List Emission). Paced M from es (served_in a)) (sym (append-nil before)) paced;
+                paced = subst (λ (es : List Emission). Paced M Nobody from es (served_in a)) (sym (append-nil before)) paced;
                 ends = rests;
                 is = refl;
                 stands = stands;
               },
               go [] (served_in mid) drained
                   (subst (λ (S : State). AreCopies S.entries) (sym next.is) (begins-copied now a.core.state))
-                  (paced-none M (served_in mid) [] (served_in mid) refl refl) tt,
+                  (paced-none M Nobody (served_in mid) [] (served_in mid) refl refl) tt,
             ))
         turn drained inlets stands (inr u) =
             go-on
-            (subst (λ (s : Served). Paced M (served_in a) first s) (sym (served-same a mid u.same inlets))
-            (subst (λ (es : List Emission). Paced M (served_in a) es (served_in a)) (sym u.given)
-            (paced-silent M (served_in a) (Unrotated u.fault ∷ []) refl (λ c. refl))))
+            (subst (λ (s : Served). Paced M Nobody (served_in a) first s) (sym (served-same a mid u.same inlets))
+            (subst (λ (es : List Emission). Paced M Nobody (served_in a) es (served_in a)) (sym u.given)
+            (paced-silent M Nobody (served_in a) (Unrotated u.fault ∷ []) refl (λ c. refl))))
             (subst AreNoJournals (sym u.given) (tt, tt))
 
         by : Takes holds takes i a first mid → Parts (before ++ (first ++ rest))
         by (inl k) =
             let h : Handles M i a first mid = subst (λ (r : Rules). Handles (terms_of holds takes r) i a first mid) e k.handles in
-            go-on (handled-paced M i a mid first h) (handled-none M i a mid first h)
+            go-on (handled-paced M i a mid first h whole) (handled-none M i a mid first h)
         by (inr k) = turn k.rests.drained k.inlets k.stands k.rotates
 
     after : (i : Input) (a mid : WorldValue) (first : List Emission) → Takes holds takes i a first mid → IsDrained mid.core
@@ -201,10 +218,10 @@ module _ (holds : Form → Form → List ℕ → List ℕ → Type 0) (takes : F
     after i a mid first (inr k) = k.rests.drained
 
     parts-so : (is : List Input) (a b : WorldValue) (out before : List Emission) (from : Served) → a.rules ≡ rules
-        → IsDrained from.core → AreCopies from.core.state.entries → Paced M from before (served_in a)
-        → AreNoJournals before → IsDrained a.core → TakesAll holds takes is a out b → b.core.state.entries ≡ last
-        → Stands last → Parts (before ++ out)
-    parts-so [] a b out before from e begins copied paced none rests run ends stands =
+        → IsDrained from.core → AreCopies from.core.state.entries → Paced M Nobody from before (served_in a)
+        → AreNoJournals before → IsDrained a.core → TakesAll holds takes is a out b → given_up_in out ≡ []
+        → b.core.state.entries ≡ last → Stands last → Parts (before ++ out)
+    parts-so [] a b out before from e begins copied paced none rests run whole ends stands =
         subst (λ (es : List Emission). Parts (before ++ es)) (sym run.1)
         (parts-then before [] none (
           record {
@@ -212,31 +229,34 @@ module _ (holds : Form → Form → List ℕ → List ℕ → Type 0) (takes : F
             to = served_in a;
             begins = begins;
             copied = copied;
-            paced = subst (λ (es : List Emission). Paced M from es (served_in a)) (sym (append-nil before)) paced;
+            paced = subst (λ (es : List Emission). Paced M Nobody from es (served_in a)) (sym (append-nil before)) paced;
             ends = rests;
             is = ap (λ (w : WorldValue). w.core.state.entries) (sym run.0) ∙ ends;
             stands = stands;
           },
           tt,
         ))
-    parts-so (i ∷ is) a b out before from e begins copied paced none rests run ends stands =
+    parts-so (i ∷ is) a b out before from e begins copied paced none rests run whole ends stands =
         subst (λ (es : List Emission). Parts (before ++ es)) (sym run.5)
-        (parts-step i a run.0 run.1 run.2 before from e begins copied paced none rests run.3
+        (parts-step i a run.0 run.1 run.2 before from e begins copied paced none rests run.3 both.0
         (λ since start begun were pace quiet.
         parts-so is run.0 b run.2 since start (takes-rules holds takes i a run.0 run.1 run.3 ∙ e) begun were pace quiet
-        (after i a run.0 run.1 run.3) run.4 ends stands))
+        (after i a run.0 run.1 run.3) run.4 both.1 ends stands))
+      where
+        both : (given_up_in run.1 ≡ []) × (given_up_in run.2 ≡ [])
+        both = whole-both run.1 run.2 (sym (ap given_up_in run.5) ∙ whole)
 
   -- a run from a world to which nothing has happened on
   module _ (is : List Input) (old new : WorldValue) (h : List Written) (out : List Emission) (e : old ≡ new_world rules)
       (run : TakesAll holds takes is old out new) (rests : IsAtRest new) (stands : Stands new.core.state.entries)
-      (same : h ≡ new.core.state.entries) where
+      (same : h ≡ new.core.state.entries) (whole : given_up_in out ≡ []) where
     run-parts : EachPart Stretch out h
     run-parts =
         parts-so h is (new_world rules) new out [] (served_in (new_world rules)) refl
         (record { sends = refl; answers = refl }) tt
-        (paced-none M (served_in (new_world rules)) [] (served_in (new_world rules)) refl refl) tt
+        (paced-none M Nobody (served_in (new_world rules)) [] (served_in (new_world rules)) refl refl) tt
         (record { sends = refl; answers = refl })
-        (subst (λ (w : WorldValue). TakesAll holds takes is w out new) e run) (sym same) (subst Stands (sym same) stands)
+        (subst (λ (w : WorldValue). TakesAll holds takes is w out new) e run) whole (sym same) (subst Stands (sym same) stands)
 
     pub run-stands : EachJournal Stands out h
     run-stands =

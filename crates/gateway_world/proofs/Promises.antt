@@ -39,14 +39,14 @@ use Rattle.gateway_world.proofs.Numbered.{numbers-led}
 use Rattle.gateway_world.specs.Worlds.{WorldValue, Handles, Shows, DoesDue, served_in, when_in, world_of}
 
 module _ {R : Type 0} (holds : Form → Form → List ℕ → List ℕ → Type 0) (takes : Form → Form → List ℕ → Type 0) (rules : Rules) where
-  pub led-tells : (w : When) (P : List Act → Type 0) (old new : Engine R) (before after : List (Output R))
-      → LeadsBy (terms_of holds takes rules) w P old before new after → emissions before ≡ []
+  pub led-tells : (w : When) (x : Happening) (old new : Engine R) (before after : List (Output R))
+      → LeadsBy (terms_of holds takes rules) w (IsInOrder x) old before new after → emissions before ≡ []
       → IsDrained old.core → IsDrained new.core → Stands new.core.state.entries
       → AreMapped holds takes rules old.core.state.entries
       → TellsAll holds takes rules old.core new.core (emissions after)
-  led-tells w P old new before after l none drained done stands mapped =
+  led-tells w x old new before after l none drained done stands mapped =
       subst (TellsAll holds takes rules old.core new.core) (sym (l.added ∙ ap (λ (es : List Emission). es ++ l.given) none))
-      (all-tell holds takes rules w l.acts (served_of old) l.given (served_of new) l.done drained done stands mapped)
+      (all-tell holds takes rules w x l.acts (served_of old) l.given (served_of new) l.done l.order drained done stands mapped)
 
   pub led-sends : (w : When) (P : List Act → Type 0) (old new : Engine R) (before after : List (Output R))
       → LeadsBy (terms_of holds takes rules) w P old before new after → emissions before ≡ []
@@ -122,7 +122,7 @@ module _ {R : Type 0} (holds : Form → Form → List ℕ → List ℕ → Type 
       → IsKept holds takes rules m new
   kept-led w x n m old mid new before after l h drained kept stands core current marked le =
       let M : Terms = terms_of holds takes rules in
-      let all = all-tell holds takes rules w l.acts (served_of old) l.given (served_of mid) l.done h.1 drained stands h.4 in
+      let all = all-tell holds takes rules w x l.acts (served_of old) l.given (served_of mid) l.done l.order h.1 drained stands h.4 in
       kept-back holds takes rules m (record mid { table = record mid.table { marked = mid.table.current } }) new core current marked (
         record {
           numbers = numbers-led M w (IsInOrder x) old.core mid.core old.table.current mid.table.current (emissions before) (emissions after) l h.0.numbers;

@@ -12,6 +12,7 @@ use Rattle.exchange_model.specs.Sealing.{asks_in_room}
 use Rattle.exchange_core.specs.declared.fault.AskFault.TheVariants as Fault
 use Rattle.exchange_core.specs.Calls.{IsAsked, IsClosed, AsksSo}
 use Rattle.exchange_core.specs.Values.{CoreValue, Untaken, Outgoing, answered_in, sent_in, stepped}
+use Rattle.gateway_model.specs.Waiting.{IsDrained}
 use Rattle.gateway_world.specs.Engines.{KeepsWaiting}
 use Rattle.gateway_model.proofs.CallerLemmas.{denied-is}
 
@@ -75,3 +76,6 @@ denied-waits t word c a old new h = by h.2
 
 pub waits-then : (a b c : CoreValue) → KeepsWaiting a b → KeepsWaiting b c → KeepsWaiting a c
 waits-then a b c h k = record { untaken = k.untaken ∙ h.untaken; unsent = λ e. k.unsent (h.unsent e) }
+
+pub still-drained : (old new : CoreValue) → KeepsWaiting old new → IsDrained old → IsDrained new
+still-drained old new k d = record { sends = k.unsent d.sends; answers = k.untaken ∙ d.answers }

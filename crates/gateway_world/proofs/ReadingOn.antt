@@ -1,12 +1,15 @@
 -- What of the connections' bytes isn't asked, after what the table does.
-use Rattle.std.proofs.Common.{◌≡◌, ◌⊎◌, ℕ, ◌+◌, ◌<◌, Bool, true, false, cond, List, [], ◌∷◌, ◌++◌, length, Option, Some, None, inl, inr, refl, sym, ap, subst, ◌∙◌, not, eqb-true, eq-eqb}
+use Rattle.std.proofs.Common.{◌≡◌, ◌⊎◌, ℕ, ◌+◌, ◌<◌, Bool, true, false, cond, List, [], ◌∷◌, ◌++◌, length, map, Option, Some, None, inl, inr, refl, sym, ap, subst, ◌∙◌, not, eqb-true, eq-eqb}
 use Rattle.std.specs.Prelude.{option_map, ◌==◌, if◌then◌else◌}
 use Rattle.std.proofs.lemmas.List.{map_push}
 use Rattle.history_laws.proofs.CallerLemmas.{none-some, some-is}
 use Rattle.http_edge.specs.Reading.{Item}
 use Rattle.gateway_connections.specs.Inlets.{Inlet, inlet_at, fresh, changed_at as inlets_changed_at, with_inlet, extended as inlet_extended, appended, without as without_inlet}
 use Rattle.gateway_connections.specs.Reads.{Asks, Continues, AwaitsMore, Settles, ChangesAt, IsAbsent}
-use Rattle.gateway_world.specs.Engines.{work_in}
+use Rattle.exchange_model.specs.declared.kept.Conn.{Conn}
+use Rattle.exchange_model.specs.Resting.{HasConn}
+use Rattle.gateway_model.specs.Waiting.{conn_id}
+use Rattle.gateway_world.specs.Engines.{inlet_number, work_in}
 use Rattle.gateway_model.specs.Unasked.{Unasked, unasked_of, unasked_in, unasked_at, no_bytes, changed_at, extended, taken, without, left_after, TakesItem, TellsToGoOn, Recounted, Recounts, IsReadOut}
 
 at-inlet : (b : Bool) (x : Inlet) (o : Option Inlet) (u : Option Unasked) → u ≡ option_map unasked_of o
@@ -216,3 +219,65 @@ pub nothing-read : (c : ℕ) (xs ys : List Inlet) → IsAbsent c xs ys ⊎ Chang
     → IsReadOut (unasked_at c (unasked_in ys))
 nothing-read c xs ys (inl h) = read-absent c ys (ap (inlet_at c) h.1 ∙ h.0)
 nothing-read c xs ys (inr h) = read-settled c xs ys h
+
+-- Once a connection is gone, how it changed before doesn't show.
+
+dropped-one : (b : Bool) (c : ℕ) (f : Unasked → Unasked) (x : Unasked) (ys zs : List Unasked) → (x.number == c) ≡ b
+    → ((x : Unasked) → x.number ≡ c → (f x).number ≡ c) → ys ≡ zs
+    → cond (not ((cond b (f x) x).number == c)) (cond b (f x) x ∷ ys) ys ≡ cond (not b) (x ∷ zs) zs
+dropped-one true c f x ys zs t h e =
+    let same : ((f x).number == c) ≡ true = eq-eqb (f x).number c (h x (eqb-true x.number c t)) in
+    ap (λ (b : Bool). cond (not b) (f x ∷ ys) ys) same ∙ e
+dropped-one false c f x ys zs t h e =
+    ap (λ (b : Bool). cond (not b) (x ∷ ys) ys) t ∙ ap (λ (us : List Unasked). x ∷ us) e
+
+pub without-changed : (c : ℕ) (f : Unasked → Unasked) (xs : List Unasked) → ((x : Unasked) → x.number ≡ c → (f x).number ≡ c)
+    → without c (changed_at c f xs) ≡ without c xs
+without-changed c f [] h = refl
+without-changed c f (x ∷ xs) h =
+    dropped-one (x.number == c) c f x (without c (changed_at c f xs)) (without c xs) refl h (without-changed c f xs h)
+
+extended-number : (bytes : List ℕ) (x : Unasked) → (extended bytes x).number ≡ x.number
+extended-number bytes x = by x.closing
+  where
+    by : (b : Bool) → (cond b x (record x { text = x.text ++ bytes; unread = x.unread + length bytes })).number ≡ x.number
+    by true = refl
+    by false = refl
+
+pub without-taken : (c : ℕ) (bytes : List ℕ) (us : List Unasked) → without c (taken c bytes us) ≡ without c us
+without-taken c bytes us = without-changed c (extended bytes) us (λ x e. extended-number bytes x ∙ e)
+
+pub without-item : (c : ℕ) (i : Item) (us vs : List Unasked) → TakesItem c i us vs → without c us ≡ without c vs
+without-item c i us vs h =
+    sym (ap (without c) h.left ∙ without-changed c (λ (x : Unasked). left_after c i h.rest) us (λ x e. refl))
+
+pub without-read : (c : ℕ) (Goes : Inlet → Inlet → Type 0) (xs ys : List Inlet) → ChangesAt Goes c xs ys
+    → ((x y : Inlet) → Goes x y → y.number ≡ x.number)
+    → without c (unasked_in xs) ≡ without c (unasked_in ys)
+without-read c Goes xs ys h keeps =
+    let n : h.after.number ≡ c = keeps h.before h.after h.goes ∙ number-at c xs h.before h.stands in
+    sym (ap (λ (zs : List Inlet). without c (unasked_in zs)) h.left
+    ∙ (ap (without c) (with-changed c h.after (unasked_of h.after) xs n refl)
+    ∙ without-changed c (λ (x : Unasked). unasked_of h.after) (unasked_in xs) (λ x e. n)))
+
+-- Bytes of a connection that isn't there change nothing.
+abbrev pub IsAmong : List ℕ → ℕ → Type 0
+IsAmong [] c = ⊥
+IsAmong (k ∷ ks) c = (k ≡ c) ⊎ IsAmong ks c
+
+unchanged-one : (b : Bool) (c : ℕ) (f : Unasked → Unasked) (x : Unasked) (ys zs : List Unasked) → (x.number == c) ≡ b
+    → (x.number ≡ c → ⊥) → ys ≡ zs → cond b (f x) x ∷ ys ≡ x ∷ zs
+unchanged-one true c f x ys zs t other e = absurd (other (eqb-true x.number c t))
+unchanged-one false c f x ys zs t other e = ap (λ (us : List Unasked). x ∷ us) e
+
+pub taken-none : (c : ℕ) (bytes : List ℕ) (xs : List Inlet) → (IsAmong (map inlet_number xs) c → ⊥)
+    → taken c bytes (unasked_in xs) ≡ unasked_in xs
+taken-none c bytes [] other = refl
+taken-none c bytes (x ∷ xs) other =
+    unchanged-one (x.number == c) c (extended bytes) (unasked_of x) (taken c bytes (unasked_in xs)) (unasked_in xs) refl
+    (λ e. other (inl e)) (taken-none c bytes xs (λ k. other (inr k)))
+
+pub among-open : (c : ℕ) (cs : List Conn) → IsAmong (map conn_id cs) c → (p : Option ℕ) × HasConn cs c p
+among-open c [] h = absurd h
+among-open c (x ∷ cs) (inl e) = (x.pending, inl (e, refl))
+among-open c (x ∷ cs) (inr h) = let more = among-open c cs h in (more.0, inr more.1)

@@ -53,7 +53,7 @@ refused-at holds takes is n d a b o lt h full = record {
 
 -- what is given out by an input comes after what was given out before
 
-emitted-both : {R : Type 0} (xs ys : List (Output R)) → emissions (xs ++ ys) ≡ emissions xs ++ emissions ys
+pub emitted-both : {R : Type 0} (xs ys : List (Output R)) → emissions (xs ++ ys) ≡ emissions xs ++ emissions ys
 emitted-both [] ys = refl
 emitted-both (x ∷ xs) ys = ap (λ (es : List Emission). emission_of x ∷ es) (emitted-both xs ys)
 

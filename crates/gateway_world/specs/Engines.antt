@@ -1,5 +1,5 @@
 -- What is said of an engine, before and after a step.
-use Rattle.std.specs.Prelude.{◌≡◌, ℕ, ◌==◌, ◌<◌, Bool, true, false, not, List, [], ◌∷◌, ◌++◌, map, filter, slice_get, Option, Some, None, ⊤}
+use Rattle.std.specs.Prelude.{◌≡◌, ◌⊎◌, ℕ, ◌==◌, ◌<◌, Bool, true, false, not, List, [], ◌∷◌, ◌++◌, map, filter, slice_get, Option, Some, None, ⊤}
 use Rattle.media_map.specs.declared.form.Form.{Form}
 use Rattle.ask_model.specs.Views.{Ask}
 use Rattle.journal_book.specs.Entries.{Asks, Written}
@@ -11,7 +11,7 @@ use Rattle.gateway_world.specs.declared.engine.Engine.{Engine}
 use Rattle.gateway_model.specs.declared.input.When.{When}
 use Rattle.gateway_model.specs.declared.input.Output.{Output}
 use Rattle.gateway_model.specs.Acts.{Act, Terms, at}
-use Rattle.gateway_model.specs.Emissions.{emissions, Closed}
+use Rattle.gateway_model.specs.Emissions.{Emission, emissions, given_up_in, Closed, GivenUp}
 use Rattle.gateway_model.specs.Orders.{AreFor, ServesOut}
 use Rattle.gateway_model.specs.Waiting.{conn_id}
 use Rattle.gateway_model.specs.Unasked.{unasked_in}
@@ -30,6 +30,11 @@ terms_in holds takes context = terms_of holds takes (rules_in context)
 pub record MayGoBack {R : Type 0} (old new : Engine R) : Type 0 where
   pub grows : Grows old.core.state.entries new.core.state.entries
   pub marked : new.table.marked ≡ old.table.marked
+
+-- So it can, or no more connections are given up.
+abbrev pub IsGivenBack : {R : Type 0} → Engine R → List Emission → Engine R → List Emission → Type 0
+IsGivenBack old before new after =
+    MayGoBack old new ⊎ (given_up_in after ≡ given_up_in before)
 
 -- A connection that was open is closed.
 pub record IsShutting {R : Type 0} (w : When) (c : ℕ) (old new : Engine R) : Type 0 where
@@ -97,3 +102,9 @@ pub record IsShut {R : Type 0} (w : When) (c : ℕ) (old : Engine R) (before : L
     (new : Engine R) (after : List (Output R)) : Type 0 where
   pub shuts : IsShutting w c old new
   pub told : emissions after ≡ emissions before ++ Closed c ∷ []
+
+-- A connection that was open is given up, and told so.
+pub record IsGivenUp {R : Type 0} (w : When) (c : ℕ) (old : Engine R) (before : List (Output R))
+    (new : Engine R) (after : List (Output R)) : Type 0 where
+  pub shuts : IsShutting w c old new
+  pub told : emissions after ≡ emissions before ++ GivenUp c ∷ []

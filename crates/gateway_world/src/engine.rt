@@ -11,15 +11,18 @@ ghost use Rattle.gateway_model.specs.Acts.{IsAllTold};
 ghost use Rattle.gateway_model.specs.Emissions.{emissions};
 ghost use Rattle.gateway_world.specs.Openings.{IsOpening};
 ghost use Rattle.gateway_model.specs.Waiting.{AreServed, IsOpen};
-ghost use Rattle.gateway_world.specs.Engines.{terms_in, work_at, GoesOn, ServesNext, IsAskOf, IsReady, IsSentOut, IsShut, IsShutting, KeepsWaiting, LeadsAfter, LetsGo, MayGoBack};
+ghost use Rattle.gateway_world.specs.Engines.{terms_in, work_at, GoesOn, ServesNext, IsAskOf, IsGivenBack, IsGivenUp, IsReady, IsSentOut, IsShut, IsShutting, KeepsWaiting, LeadsAfter, LetsGo, MayGoBack};
 ghost use Rattle.gateway_connections.specs.Inlets.{Inlet};
+ghost use Rattle.gateway_connections.specs.Reads.{ChangesAt, Continues};
 ghost use Rattle.gateway_model.specs.Unasked.{TakesItem, unasked_in};
 ghost use Rattle.gateway_world.specs.Leading.{LeadsBy, RotatesBy, StepsBy, rules_in};
 ghost use Rattle.gateway_model.specs.Waiting.{IsDrained};
 ghost use Rattle.transformers.specs.Suits.{Suits};
 ghost use Rattle.gateway_model.specs.Orders.{AreFor, AreSends, HasTurns, Delivers, IsInOrder, IsTelling, ServesOut};
 
-use crate::telling::{tell_answer, tell_closed, tell_continue, tell_turned};
+use crate::telling::{
+    answer_told, continue_told, tell_bytes, tell_closed, tell_given_up, tell_turned,
+};
 use ask_model::Settings;
 use exchange_core::{Answer, AskFault, Core, OpenFault, RotateFault, Ticket};
 use gateway_connections::{Next, Table};
@@ -63,6 +66,8 @@ impl<R: Relation> Engine<R> {
             context.entry.when happening.entry
             self.old outputs.old.items self.new outputs.new.items) }
         ensures back { OnErr result (MayGoBack self.old self.new) }
+        ensures may { OnOk result (IsGivenBack self.old (emissions outputs.old.items)
+            self.new (emissions outputs.new.items)) }
         ensures drained { OnOk result (IsDrained self.new.core) }
         ensures opened { IfOk result (λ n. IsOpening happening.entry n self.old.core.state.opened
             (emissions outputs.old.items) (emissions outputs.new.items)) }
@@ -125,7 +130,8 @@ impl<R: Relation> Engine<R> {
         }
     }
 
-    /// Takes bytes of the connection, and asks what they ask.
+    /// Takes bytes of the connection, and asks what they ask. Where memory is refused for them, it is
+    /// given up.
     fn bytes(
         &mut self,
         context: Context<'_>,
@@ -135,6 +141,7 @@ impl<R: Relation> Engine<R> {
         outputs: &mut Vec<Output<R>>,
     ) -> Result<(), Memory>
         requires suits { Suits R.holds R.takes (rules_in context).routes bank.now }
+        requires ready { IsReady self.old }
         requires drained { IsDrained self.old.core }
         ensures leads { OnOk result (LeadsBy (terms_in R.holds R.takes context.entry)
             context.entry.when (IsInOrder (Happening.Bytes number bytes.entry))
@@ -142,8 +149,16 @@ impl<R: Relation> Engine<R> {
         ensures back { MayGoBack self.old self.new }
         ensures drained { OnOk result (IsDrained self.new.core) }
     {
-        self.table.append(number, bytes)?;
-        self.serve(context, bank, number, outputs)
+        match self.table.append(number, bytes) {
+            Ok(_) => self.serve(context, bank, number, outputs),
+            Err(Memory) => {
+                if self.close(context, number) {
+                    tell_given_up(number, outputs)
+                } else {
+                    Ok(())
+                }
+            }
+        }
     }
 
     /// Takes a datagram, and gives out what it leads to.
@@ -301,7 +316,8 @@ impl<R: Relation> Engine<R> {
         Ok(())
     }
 
-    /// Asks what the connection's bytes ask next. False where that is nothing.
+    /// Asks what the connection's bytes ask next. False where that is nothing, or memory is refused
+    /// for it and the connection is given up.
     fn serve_next(
         &mut self,
         context: Context<'_>,
@@ -321,21 +337,48 @@ impl<R: Relation> Engine<R> {
         if !self.core.is_idle(number) {
             return Ok(false);
         }
-        match self.table.next(number)? {
-            Next::Request(incoming) => {
+        match self.table.next(number) {
+            Ok(Next::Request(incoming)) => {
                 self.ask(context, bank, number, incoming, outputs)?;
                 Ok(true)
             }
-            Next::Continue => {
-                tell_continue(self.alloc, number, outputs)?;
+            Ok(Next::Continue) => {
+                self.tell_continue(context, number, outputs)?;
                 Ok(false)
             }
-            Next::Nothing => Ok(false),
+            Ok(Next::Nothing) => Ok(false),
+            Err(Memory) => {
+                self.give_up(context, number, outputs)?;
+                Ok(false)
+            }
+        }
+    }
+
+    /// Tells the client, which waits with its body, to go on.
+    fn tell_continue(
+        &mut self,
+        context: Context<'_>,
+        number: u32,
+        outputs: &mut Vec<Output<R>>,
+    ) -> Result<(), Memory>
+        requires idle { HasConn self.old.core.state.conns number None }
+        requires told { IsAllTold number self.old.core }
+        ensures leads { (xs : List Inlet)
+            → ChangesAt Continues number xs self.old.table.current
+            → OnOk result (LeadsAfter (terms_in R.holds R.takes context.entry) context.entry.when
+            (ServesOut number) self.old.core xs outputs.old.items self.new outputs.new.items) }
+        ensures back { MayGoBack self.old self.new }
+        ensures waits { OnOk result (KeepsWaiting self.old.core self.new.core) }
+    {
+        match continue_told(self.alloc) {
+            Ok(bytes) => tell_bytes(number, bytes, outputs),
+            Err(Memory) => self.give_up(context, number, outputs),
         }
     }
 
     /// Asks what was read of the connection's bytes, and gives out what that leads to. An ask that
-    /// the sealed journal doesn't take closes the connection.
+    /// the sealed journal doesn't take closes the connection; one for which memory is refused gives
+    /// it up.
     fn ask(
         &mut self,
         context: Context<'_>,
@@ -355,8 +398,12 @@ impl<R: Relation> Engine<R> {
         ensures waits { OnOk result (KeepsWaiting self.old.core self.new.core) }
         ensures less { OnOk result (work_at number self.new ≤ work_at number self.old) }
     {
-        let mapped = map_request(self.alloc, context.settings, bank, incoming)?;
-        let mapped = Arc::new(self.alloc, mapped)?;
+        let Ok(mapped) = map_request(self.alloc, context.settings, bank, incoming) else {
+            return self.give_up(context, number, outputs);
+        };
+        let Ok(mapped) = Arc::new(self.alloc, mapped) else {
+            return self.give_up(context, number, outputs);
+        };
         let When { moment, word } = context.when;
         match self.core.ask(moment, word, number, mapped) {
             Ok(ticket) => {
@@ -364,7 +411,7 @@ impl<R: Relation> Engine<R> {
                 self.give(context, bank, &ticket, outputs)
             }
             Err(AskFault::Sealed) => self.shut(context, number, outputs),
-            Err(AskFault::Memory) => Err(Memory),
+            Err(AskFault::Memory) => self.give_up(context, number, outputs),
             Err(AskFault::Unknown) => unreachable!(),
             Err(AskFault::Pending) => unreachable!(),
         }
@@ -396,7 +443,8 @@ impl<R: Relation> Engine<R> {
         }
     }
 
-    /// Tells the answer, which was taken, and closes its connection where it is the last.
+    /// Tells the answer, which was taken, and closes its connection where it is the last. Where
+    /// memory is refused for it nobody is told it, and its connection is given up.
     fn tell(
         &mut self,
         context: Context<'_>,
@@ -417,11 +465,16 @@ impl<R: Relation> Engine<R> {
         ensures less { OnOk result (work_at answer.conn self.new ≤ work_at answer.conn self.old) }
     {
         let number = answer.conn;
-        tell_answer(self.alloc, context, bank, &answer, outputs)?;
-        if closes(answer.mapped.came()) {
-            self.shut(context, number, outputs)
-        } else {
-            Ok(())
+        match answer_told(self.alloc, context, bank, &answer) {
+            Ok(bytes) => {
+                tell_bytes(number, bytes, outputs)?;
+                if closes(answer.mapped.came()) {
+                    self.shut(context, number, outputs)
+                } else {
+                    Ok(())
+                }
+            }
+            Err(Memory) => self.give_up(context, answer.conn, outputs),
         }
     }
 
@@ -441,5 +494,23 @@ impl<R: Relation> Engine<R> {
             unreachable!();
         }
         tell_closed(number, outputs)
+    }
+
+    /// Closes the connection since memory is refused for it.
+    fn give_up(
+        &mut self,
+        context: Context<'_>,
+        number: u32,
+        outputs: &mut Vec<Output<R>>,
+    ) -> Result<(), Memory>
+        requires conn { IsOpen number self.old.core.state.conns }
+        ensures up { OnOk result (IsGivenUp context.entry.when number
+            self.old outputs.old.items self.new outputs.new.items) }
+        ensures back { MayGoBack self.old self.new }
+    {
+        if !self.close(context, number) {
+            unreachable!();
+        }
+        tell_given_up(number, outputs)
     }
 }

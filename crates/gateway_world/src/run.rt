@@ -6,7 +6,7 @@ ghost use Rattle.history_claims.specs.Causes.{AreCaused};
 ghost use Rattle.history_claims.specs.Once.{AreAskedOnce};
 ghost use Rattle.history_claims.specs.Order.{AreInOrder};
 ghost use Rattle.ask_model.specs.Views.{rules_of};
-ghost use Rattle.gateway_model.specs.Emissions.{emissions};
+ghost use Rattle.gateway_model.specs.Emissions.{emissions, IsWhole};
 ghost use Rattle.gateway_model.specs.Tellings.{AreMapped, IsMapped};
 ghost use Rattle.gateway_world.specs.Asked.{AsksInRun};
 ghost use Rattle.gateway_world.specs.Inputs.{IsRefusedAfter, RunsTo, TakesAll};
@@ -44,6 +44,7 @@ impl<R: Relation> World<R> {
         requires suits { Suits R.holds R.takes (rules_of settings).routes bank.now }
         ensures takes { IfOk result (λ run. RunsTo R.holds R.takes (rules_of settings) inputs.now
             (emissions run.outputs.items) run.journal.entries) }
+        ensures whole { IfOk result (λ run. IsWhole (emissions run.outputs.items)) }
         ensures stands { IfOk result (λ run. EachJournal Stands
             (emissions run.outputs.items) run.journal.entries) }
         ensures told { IfOk result (λ run. EachPart (AreTold R.holds R.takes)
@@ -88,6 +89,7 @@ impl<R: Relation> World<R> {
         requires rests { IsAtRest self.old }
         ensures takes { OnOk result (TakesAll R.holds R.takes inputs.now self.old
             (emissions outputs.new.items) self.new) }
+        ensures whole { OnOk result (IsWhole (emissions outputs.new.items)) }
         ensures rests { OnOk result (IsAtRest self.new) }
         ensures full { result ≡ Err WorldFault.Backlog
             → IsRefusedAfter R.holds R.takes inputs.now self.old }

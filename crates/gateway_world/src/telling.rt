@@ -1,9 +1,10 @@
 //! What connections are told.
 
-ghost use Rattle.std.specs.Prelude.{[], ◌∷◌, ◌++◌, ◌≡◌, OnOk};
+ghost use Rattle.std.specs.Prelude.{[], ◌∷◌, ◌++◌, ◌≡◌, IfOk, OnOk};
+ghost use Rattle.std.specs.List.{list_any};
 ghost use Rattle.exchange_core.specs.Answering.{given_of};
 ghost use Rattle.gateway_model.specs.Acts.{continue_text};
-ghost use Rattle.gateway_model.specs.Emissions.{emissions, Says, Closed, Turned};
+ghost use Rattle.gateway_model.specs.Emissions.{emission_of, emissions, is_end, Says, Closed, GivenUp, Turned};
 ghost use Rattle.gateway_world.specs.Engines.{terms_in};
 ghost use Rattle.gateway_world.specs.Leading.{rules_in};
 ghost use Rattle.gateway_model.specs.Tellings.{TellsBytes};
@@ -20,36 +21,41 @@ use transformers::{Bank, Relation};
 /// What a client that waits with its body is told (RFC 9110 section 10.1.1).
 const CONTINUE: &str = "HTTP/1.1 100 Continue\r\n\r\n";
 
-/// Tells a client that waits with its body to go on.
-pub fn tell_continue<R: Relation>(
-    alloc: Global,
-    number: u32,
-    outputs: &mut Vec<Output<R>>,
-) -> Result<(), Memory>
-    ensures { OnOk result (emissions outputs.new.items
-        ≡ emissions outputs.old.items ++ Says number continue_text ∷ []) }
+/// The bytes that tell a client that waits with its body to go on.
+pub fn continue_told(alloc: Global) -> Result<Vec<u8>, Memory>
+    ensures { IfOk result (λ bytes. bytes.items ≡ continue_text) }
 {
     let bytes = Vec::from_slice(alloc, CONTINUE.as_bytes())?;
-    outputs.push(Output::Bytes(number, bytes))?;
-    Ok(())
+    Ok(bytes)
 }
 
-/// Tells the connection an answer.
-pub fn tell_answer<R: Relation>(
+/// The bytes that tell an answer.
+pub fn answer_told<R: Relation>(
     alloc: Global,
     context: Context<'_>,
     bank: &Bank<R>,
     answer: &Answer<R>,
-    outputs: &mut Vec<Output<R>>,
-) -> Result<(), Memory>
+) -> Result<Vec<u8>, Memory>
     requires { Suits R.holds R.takes (rules_in context).routes bank.now }
-    ensures { OnOk result (TellsBytes (terms_in R.holds R.takes context.entry)
-        (given_of answer.now) (emissions outputs.old.items) (emissions outputs.new.items)) }
+    ensures { IfOk result (λ bytes. TellsBytes (terms_in R.holds R.takes context.entry)
+        (given_of answer.now) bytes.items) }
 {
     let age = answer.moment.saturating_sub(answer.heard);
     let response = render(alloc, bank, &answer.mapped, &answer.finding, age)?;
     let bytes = answer_bytes(alloc, &response)?;
-    outputs.push(Output::Bytes(answer.conn, bytes))?;
+    Ok(bytes)
+}
+
+/// Tells the connection these bytes.
+pub fn tell_bytes<R: Relation>(
+    number: u32,
+    bytes: Vec<u8>,
+    outputs: &mut Vec<Output<R>>,
+) -> Result<(), Memory>
+    ensures { OnOk result (emissions outputs.new.items
+        ≡ emissions outputs.old.items ++ Says number bytes.items ∷ []) }
+{
+    outputs.push(Output::Bytes(number, bytes))?;
     Ok(())
 }
 
@@ -60,6 +66,29 @@ pub fn tell_closed<R: Relation>(number: u32, outputs: &mut Vec<Output<R>>) -> Re
 {
     outputs.push(Output::Closed(number))?;
     Ok(())
+}
+
+/// Tells that the connection is given up.
+pub fn tell_given_up<R: Relation>(number: u32, outputs: &mut Vec<Output<R>>) -> Result<(), Memory>
+    ensures { OnOk result
+        (emissions outputs.new.items ≡ emissions outputs.old.items ++ GivenUp number ∷ []) }
+{
+    outputs.push(Output::GivenUp(number))?;
+    Ok(())
+}
+
+/// Whether a connection is given up.
+fn is_end<R: Relation>(output: &Output<R>) -> bool
+    ensures { result ≡ is_end (emission_of output.now) }
+{
+    matches!(output, Output::GivenUp(_))
+}
+
+/// Whether a connection is given up by one of these.
+pub fn gives_up<R: Relation>(outputs: &[Output<R>]) -> bool
+    ensures { result ≡ list_any (λ o. is_end (emission_of o)) outputs.now }
+{
+    outputs.iter().any(|output| is_end(output))
 }
 
 /// Tells that a client is turned away.

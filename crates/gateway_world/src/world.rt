@@ -3,11 +3,12 @@
 ghost use Rattle.std.specs.Prelude.{◌≡◌, ◌↔◌, IsTrue, IfOk, OnOk, OnErr, IsErrOf};
 ghost use Rattle.history_laws.specs.Justified.{Stands};
 ghost use Rattle.ask_model.specs.Views.{rules_of};
-ghost use Rattle.gateway_model.specs.Emissions.{emissions};
+ghost use Rattle.gateway_model.specs.Emissions.{emissions, IsWhole};
 
 use crate::engine::{Context, Engine};
 use crate::fault::WorldFault;
 use crate::state::World;
+use crate::telling::gives_up;
 use ask_model::Settings;
 use exchange_core::Core;
 use gateway_connections::Table;
@@ -59,11 +60,13 @@ impl<R: Relation> World<R> {
     }
 
     /// Takes an input and gives out what it leads to. An input for a connection that isn't open
-    /// gives nothing. One that is refused changes nothing, and can be given again.
+    /// gives nothing. One that is refused changes nothing, and can be given again: so is one that
+    /// would have a connection given up.
     pub fn input(&mut self, bank: &Bank<R>, input: Input<'_>) -> Result<Vec<Output<R>>, WorldFault>
         requires suits { Suits R.holds R.takes self.old.rules.routes bank.now }
         ensures takes { IfOk result (λ outputs. Takes R.holds R.takes input.entry self.old
             (emissions outputs.items) self.new) }
+        ensures whole { IfOk result (λ outputs. IsWhole (emissions outputs.items)) }
         ensures unchanged { OnErr result (self.new ≡ self.old) }
         ensures full { IsTooMuch input.entry.happening (served_in self.old)
             ↔ IsErrOf result WorldFault.Backlog }
@@ -89,6 +92,11 @@ impl<R: Relation> World<R> {
         let mut outputs = Vec::new(engine.alloc);
         match engine.step(context, bank, input.happening, &mut outputs) {
             Ok(_) => {
+                if gives_up(outputs.as_slice()) {
+                    engine.core.restore(before);
+                    engine.table.back();
+                    return Err(WorldFault::Memory);
+                }
                 engine.core.journal();
                 engine.table.mark();
                 self.moment = moment;

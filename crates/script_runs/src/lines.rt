@@ -68,6 +68,8 @@ pub fn write_output<R: Relation, W: Write>(
             line(journal_lines::write_datagram(alloc, writer, "datagram", peer, bytes))
         }
         Output::Closed(connection) => written(writeln!(writer, "{moment} closed {connection}")),
+        // No run has one: its input is refused.
+        Output::GivenUp(connection) => written(writeln!(writer, "{moment} closed {connection}")),
         Output::Turned => written(writeln!(writer, "{moment} turned")),
         Output::Rotated(_) => {
             let count = world.journal().len();

@@ -132,6 +132,10 @@ fn tell_output<R: Relation, W: Write>(
             writer,
             "{INDENT}the gateway closes the connection of client {connection}"
         )),
+        Output::GivenUp(connection) => written(writeln!(
+            writer,
+            "{INDENT}the gateway gives up the connection of client {connection}"
+        )),
         Output::Turned => written(writeln!(writer, "{INDENT}the gateway turns the client away")),
         Output::Rotated(journal) => {
             let count = journal.len();

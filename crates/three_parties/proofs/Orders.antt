@@ -15,7 +15,7 @@ use Rattle.demo_origin.specs.declared.execution.Taken.{Taken}
 use Rattle.exchange_model.specs.Keeping.{start}
 use Rattle.exchange_model.specs.State.{State}
 use Rattle.exchange_core.specs.Values.{Outgoing}
-use Rattle.gateway_model.specs.Emissions.{Emission, Says, Goes, Closed, Turned, Rotated, Unrotated}
+use Rattle.gateway_model.specs.Emissions.{Emission, Says, Goes, Closed, GivenUp, Turned, Rotated, Unrotated}
 use Rattle.gateway_model.specs.Going.{goes_in}
 use Rattle.gateway_model.proofs.CallerLemmas.{AreCopies, AreNoJournals}
 use Rattle.gateway_world.specs.Worlds.{WorldValue}
@@ -106,6 +106,7 @@ given-none (Rotated g ∷ out) h = absurd h.0
 given-none (Says c x ∷ out) h = given-none out h.1
 given-none (Goes d ∷ out) h = given-none out h.1
 given-none (Closed c ∷ out) h = given-none out h.1
+given-none (GivenUp c ∷ out) h = given-none out h.1
 given-none (Turned ∷ out) h = given-none out h.1
 given-none (Unrotated fault ∷ out) h = given-none out h.1
 

@@ -7,7 +7,7 @@ use Rattle.demo_origin.specs.Origins.{fresh}
 use Rattle.demo_origin.specs.Values.{Device, Relation}
 use Rattle.demo_origin.specs.declared.state.Held.{Held}
 use Rattle.story_laws.specs.Lateness.{ArePunctual}
-use Rattle.gateway_model.specs.Emissions.{Emission, Says, Goes, Closed, Turned, Rotated, Unrotated}
+use Rattle.gateway_model.specs.Emissions.{Emission, Says, Goes, Closed, GivenUp, Turned, Rotated, Unrotated}
 use Rattle.gateway_world.specs.Journals.{Part, gives_first, journal_in, parts_of}
 use Rattle.three_parties.specs.Flights.{Going}
 use Rattle.three_parties.specs.Reads.{journals}
@@ -41,6 +41,7 @@ journals-are (Rotated g ∷ out) last = ap (λ (hs : List (List Written)). g ∷
 journals-are (Says c x ∷ out) last = first-same (Says c x) (parts_of out last) ∙ journals-are out last
 journals-are (Goes d ∷ out) last = first-same (Goes d) (parts_of out last) ∙ journals-are out last
 journals-are (Closed c ∷ out) last = first-same (Closed c) (parts_of out last) ∙ journals-are out last
+journals-are (GivenUp c ∷ out) last = first-same (GivenUp c) (parts_of out last) ∙ journals-are out last
 journals-are (Turned ∷ out) last = first-same Turned (parts_of out last) ∙ journals-are out last
 journals-are (Unrotated fault ∷ out) last = first-same (Unrotated fault) (parts_of out last) ∙ journals-are out last
 

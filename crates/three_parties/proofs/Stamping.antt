@@ -15,7 +15,7 @@ use Rattle.exchange_model.proofs.CallerLemmas.{asks-add, hears-add, opens-add, t
 use Rattle.exchange_core.specs.Calls.{now, IsClosed, AsksSo}
 use Rattle.exchange_core.specs.Values.{CoreValue, Outgoing, sent_by, sent_in}
 use Rattle.gateway_model.specs.Acts.{Act, Served, Terms, Does, DoesAll, Ends, at}
-use Rattle.gateway_model.specs.Acts.{Opens as OpensOne, TurnsAway, Takes, Hears as HearsOne, Passes as PassesOne, Asks as AsksOne, Denies, Sends as SendsOne, Tells, GoesOn, Rests, Leaves, Misses}
+use Rattle.gateway_model.specs.Acts.{Opens as OpensOne, TurnsAway, Takes, Hears as HearsOne, Passes as PassesOne, Asks as AsksOne, Denies, Sends as SendsOne, Tells, GoesOn, GivesUp, Forgoes, Rests, Leaves, Misses}
 use Rattle.gateway_model.specs.Emissions.{Emission}
 use Rattle.gateway_model.specs.Going.{SendsJust, goes_in}
 use Rattle.gateway_model.specs.declared.input.When.{When}
@@ -124,6 +124,10 @@ does-stamp M w (Tells c k) old out new h = by (closes h.answer.mapping.came) h.e
         subst (λ (S : State). Stamps (now S.moment w.moment) S new.core.state) taken (closes-stamp (at w h.told) c h.told.core new.core e.0.0)
     by false e = stamps-none (at w old) old.core.state new.core.state (ap (λ (s : Served). s.core.state) e.0 ∙ taken)
 does-stamp M w (GoesOn c) old out new h = stamps-none (at w old) old.core.state new.core.state (ap (λ (v : CoreValue). v.state) h.1)
+does-stamp M w (GivesUp c) old out new h = closes-stamp (at w old) c old.core new.core h.0.0
+does-stamp M w (Forgoes c k) old out new h =
+    subst (λ (S : State). Stamps (now S.moment w.moment) S new.core.state) (ap (λ (v : CoreValue). v.state) h.1.taken.3)
+    (closes-stamp (at w h.0) c h.0.core new.core h.2.0)
 does-stamp M w (Rests c) old out new h = stamps-none (at w old) old.core.state new.core.state (ap (λ (v : CoreValue). v.state) h.0)
 does-stamp M w (Leaves c) old out new h = closes-stamp (at w old) c old.core new.core h.0.0
 does-stamp M w (Misses c) old out new h = stamps-none (at w old) old.core.state new.core.state (ap (λ (s : Served). s.core.state) h.0)

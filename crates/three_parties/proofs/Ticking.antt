@@ -21,10 +21,10 @@ use Rattle.exchange_model.specs.State.{State, link_of}
 use Rattle.exchange_core.specs.Calls.{now, IsClosed, AsksSo}
 use Rattle.exchange_core.specs.Values.{CoreValue}
 use Rattle.gateway_model.specs.Acts.{Act, Served, Terms, Does, DoesAll, Ends, at}
-use Rattle.gateway_model.specs.Acts.{Opens as OpensOne, TurnsAway, Takes, Hears as HearsOne, Passes as PassesOne, Asks as AsksOne, Denies, Sends as SendsOne, Tells, GoesOn, Rests, Leaves, Misses}
+use Rattle.gateway_model.specs.Acts.{Opens as OpensOne, TurnsAway, Takes, Hears as HearsOne, Passes as PassesOne, Asks as AsksOne, Denies, Sends as SendsOne, Tells, GoesOn, GivesUp, Forgoes, Rests, Leaves, Misses}
 use Rattle.gateway_model.specs.Emissions.{Emission}
 use Rattle.gateway_model.specs.Hearing.{DoesWhatIsDue}
-use Rattle.gateway_model.specs.Orders.{AreFor, AreSends, Delivers, IsFor, IsInOrder, IsSends, IsTurn, ServesOut, Turn, acts_of}
+use Rattle.gateway_model.specs.Orders.{AreFor, AreSends, Delivers, IsFor, IsInOrder, IsSends, IsTurn, ServesOut, Turn, acts_of, telling}
 use Rattle.gateway_model.specs.declared.input.Happening.{Happening}
 use Rattle.gateway_model.specs.declared.input.Happening.TheVariants as H
 use Rattle.gateway_model.specs.declared.input.When.{When}
@@ -131,6 +131,10 @@ does-pace M w (Tells c k) old out new not h = by (closes h.answer.mapping.came) 
     by false e =
         paces-none IsShort (at w old) old.core.state new.core.state (ap (λ (s : Served). s.core.state) e.0 ∙ taken)
 does-pace M w (GoesOn c) old out new not h = paces-none IsShort (at w old) old.core.state new.core.state (ap (λ (v : CoreValue). v.state) h.1)
+does-pace M w (GivesUp c) old out new not h = closes-pace (at w old) c old.core new.core h.0.0
+does-pace M w (Forgoes c k) old out new not h =
+    subst (λ (S : State). Paces IsShort (now S.moment w.moment) S new.core.state) (ap (λ (v : CoreValue). v.state) h.1.taken.3)
+    (closes-pace (at w h.0) c h.0.core new.core h.2.0)
 does-pace M w (Rests c) old out new not h = paces-none IsShort (at w old) old.core.state new.core.state (ap (λ (v : CoreValue). v.state) h.0)
 does-pace M w (Leaves c) old out new not h = closes-pace (at w old) c old.core new.core h.0.0
 does-pace M w (Misses c) old out new not h = paces-none IsShort (at w old) old.core.state new.core.state (ap (λ (s : Served). s.core.state) h.0)
@@ -163,6 +167,8 @@ for-not c (a ∷ acts) f = (by a f.0, for-not c acts f.1)
     by SendsOne k = tt
     by (Tells d n) k = tt
     by (GoesOn d) k = tt
+    by (GivesUp d) k = tt
+    by (Forgoes d n) k = tt
     by (OpensOne d) k = absurd k
     by TurnsAway k = absurd k
     by (Takes d b) k = absurd k
@@ -178,7 +184,11 @@ out-not c acts s = subst LookNot (sym s.are) (look-both s.first (Rests c ∷ [])
 turns-not : (turns : List Turn) → AllByRecursion IsTurn turns → LookNot (flat_map acts_of turns)
 turns-not [] each = tt
 turns-not (x ∷ xs) each =
-    look-both (acts_of x) (flat_map acts_of xs) (tt, out-not x.conn x.further each.0) (turns-not xs each.1)
+    look-both (acts_of x) (flat_map acts_of xs) (told-not x.told x.conn x.ask, out-not x.conn x.further each.0) (turns-not xs each.1)
+  where
+    told-not : (told : Bool) (c k : ℕ) → LooksNot (telling told c k)
+    told-not true c k = tt
+    told-not false c k = tt
 
 sends-not : (acts : List Act) → AreSends acts → LookNot acts
 sends-not [] s = tt
@@ -190,6 +200,8 @@ sends-not (a ∷ acts) s = (by a s.0, sends-not acts s.1)
     by (Denies d) k = absurd k
     by (Tells d n) k = absurd k
     by (GoesOn d) k = absurd k
+    by (GivesUp d) k = absurd k
+    by (Forgoes d n) k = absurd k
     by (OpensOne d) k = absurd k
     by TurnsAway k = absurd k
     by (Takes d b) k = absurd k

@@ -16,7 +16,7 @@ use Rattle.exchange_model.specs.State.{PeerLink, State, link_of}
 use Rattle.exchange_core.specs.Calls.{AsksSo, HearsSo, IsClosed}
 use Rattle.exchange_core.specs.Values.{CoreValue}
 use Rattle.gateway_model.specs.Acts.{Act, Served, Terms, Does, DoesAll, Ends, at}
-use Rattle.gateway_model.specs.Acts.{Opens as OpensOne, TurnsAway, Takes, Hears as HearsOne, Passes as PassesOne, Asks as AsksOne, Denies, Sends as SendsOne, Tells, GoesOn, Rests, Leaves, Misses}
+use Rattle.gateway_model.specs.Acts.{Opens as OpensOne, TurnsAway, Takes, Hears as HearsOne, Passes as PassesOne, Asks as AsksOne, Denies, Sends as SendsOne, Tells, GoesOn, GivesUp, Forgoes, Rests, Leaves, Misses}
 use Rattle.gateway_model.specs.Emissions.{Emission}
 use Rattle.gateway_model.specs.declared.input.When.{When}
 use Rattle.gateway_model.proofs.CallerLemmas.{AreCopies, begins-copied}
@@ -72,6 +72,10 @@ does-issue lo M w (Tells c k) old out new h i = by (closes h.answer.mapping.came
     by true e = closes-issue lo _ c h.told.core new.core e.0.0 taken
     by false e = issued-so lo h.told.core.state new.core.state (ap (λ (s : Served). s.core.state) e.0) taken
 does-issue lo M w (GoesOn c) old out new h i = issued-so lo old.core.state new.core.state (ap (λ (v : CoreValue). v.state) h.1) i
+does-issue lo M w (GivesUp c) old out new h i = closes-issue lo (at w old) c old.core new.core h.0.0 i
+does-issue lo M w (Forgoes c k) old out new h i =
+    closes-issue lo (at w h.0) c h.0.core new.core h.2.0
+    (issued-so lo old.core.state h.0.core.state (ap (λ (v : CoreValue). v.state) h.1.taken.3) i)
 does-issue lo M w (Rests c) old out new h i = issued-so lo old.core.state new.core.state (ap (λ (v : CoreValue). v.state) h.0) i
 does-issue lo M w (Leaves c) old out new h i = closes-issue lo (at w old) c old.core new.core h.0.0 i
 does-issue lo M w (Misses c) old out new h i = issued-so lo old.core.state new.core.state (ap (λ (s : Served). s.core.state) h.0) i

@@ -9,11 +9,12 @@ use Rattle.gateway_world.specs.declared.engine.Engine.{Engine}
 use Rattle.gateway_world.specs.Keeping.{IsKept}
 use Rattle.gateway_world.specs.Worlds.{WorldValue, IsTooMuch, served_in, world_of}
 use Rattle.gateway_world.proofs.Advancing.{taken-stepped}
+use Rattle.gateway_world.proofs.Ends.{ends-none, gone-back}
 use Rattle.gateway_world.proofs.Promises.{kept-back, kept-stepped, world-back}
 use Rattle.gateway_world.proofs.state.World.input.Goals as goal
 
-pub invariant_of-self : goal.invariant_of-self
-invariant_of-self g c =
+pub invariant_of-self-in-Ok-1 : goal.invariant_of-self-in-Ok-1
+invariant_of-self-in-Ok-1 g c =
     let kept = subst (λ (e : Engine _). IsKept g.R.Relation.holds g.R.Relation.takes (rules_of (arc_value c.self.inside.settings)) c.self.inside.moment e)
     (sym c.deref_mut-engine.ensures.value) c.self.invariant in
     kept-stepped g.R.Relation.holds g.R.Relation.takes _ _ _ _ c.max-moment.result c.deref_mut-engine.result.now c.step.new.self _ _ _
@@ -28,17 +29,17 @@ invariant_of-self-in-Err-1 g c =
     (sym same) c.self.invariant in
     let taken = subst (λ (e : Engine _). IsOf c.in_ok-before.before e.core) (c.deref.ensures ∙ sym same) c.in_ok-before.ensures in
     kept-back g.R.Relation.holds g.R.Relation.takes _ c.self.inside.moment c.deref_mut-engine.result.now _
-    (c.restore.ensures c.deref_mut-engine.result.now.core taken c.in-Err.ensures.back.grows)
-    (c.back.ensures.current ∙ (c.in-Err.ensures.back.marked ∙ kept.0.marked))
-    (c.back.ensures.marked ∙ c.in-Err.ensures.back.marked)
+    (c.restore-in-Err.ensures c.deref_mut-engine.result.now.core taken c.in-Err.ensures.back.grows)
+    (c.back-in-Err.ensures.current ∙ (c.in-Err.ensures.back.marked ∙ kept.0.marked))
+    (c.back-in-Err.ensures.marked ∙ c.in-Err.ensures.back.marked)
     kept
 
 abbrev IsOff : Bool → Type 0
 IsOff true = ⊥
 IsOff false = ⊤
 
-pub returns-in-Ok-clause-takes : goal.returns-in-Ok-clause-takes
-returns-in-Ok-clause-takes g c =
+pub returns-else-gives_up-clause-takes : goal.returns-else-gives_up-clause-takes
+returns-else-gives_up-clause-takes g c =
     let same = c.deref_mut-engine.ensures.value in
     let kept = subst (λ (e : Engine _). IsKept g.R.Relation.holds g.R.Relation.takes (rules_of (arc_value c.self.inside.settings)) c.self.inside.moment e)
     (sym same) c.self.invariant in
@@ -49,10 +50,10 @@ returns-in-Ok-clause-takes g c =
     (taken-stepped g.R.Relation.holds g.R.Relation.takes _ c.in_order.ensures c.args.input _ c.max-moment.result c.deref_mut-engine.result.now c.step.new.self _ _ _
     c.in-Ok.ensures.steps (ap emissions c.new-outputs.ensures.items)
     (let a = c.max-moment.ensures in let b = c.min.ensures in omega (arith, a, b)) refl c.mark.ensures.current
-    kept c.in-Ok.ensures.drained c.journal.ensures.kept c.journal.ensures.stands c.journal-in-Ok.ensures.stands room (invariant_of-self g c))
+    kept c.in-Ok.ensures.drained c.journal.ensures.kept c.journal.ensures.stands c.journal-in-Ok.ensures.stands room (invariant_of-self-in-Ok-1 g c))
 
-pub returns-in-Ok-clause-rests : goal.returns-in-Ok-clause-rests
-returns-in-Ok-clause-rests g c = let k = invariant_of-self g c in record { drained = k.1; rests = k.3 }
+pub returns-else-gives_up-clause-rests : goal.returns-else-gives_up-clause-rests
+returns-else-gives_up-clause-rests g c = let k = invariant_of-self-in-Ok-1 g c in record { drained = k.1; rests = k.3 }
 
 pub returns-in-Err-clause-unchanged : goal.returns-in-Err-clause-unchanged
 returns-in-Err-clause-unchanged g c =
@@ -61,11 +62,59 @@ returns-in-Err-clause-unchanged g c =
     let taken = subst (λ (e : Engine _). IsOf c.in_ok-before.before e.core) (c.deref.ensures ∙ sym same) c.in_ok-before.ensures in
     let view = ap (λ (e : Engine _). world_of e (rules_of (arc_value c.self.inside.settings)) c.self.inside.moment) same ∙ c.self.view_is in
     world-back c.deref_mut-engine.result.now
-    (record { alloc = c.step.new.self.alloc; core = c.restore.new.self; table = c.back.new.self })
+    (record { alloc = c.step.new.self.alloc; core = c.restore-in-Err.new.self; table = c.back-in-Err.new.self })
     _ c.self.inside.moment
-    (c.restore.ensures c.deref_mut-engine.result.now.core taken c.in-Err.ensures.back.grows)
-    (c.back.ensures.current ∙ (c.in-Err.ensures.back.marked ∙ ready))
+    (c.restore-in-Err.ensures c.deref_mut-engine.result.now.core taken c.in-Err.ensures.back.grows)
+    (c.back-in-Err.ensures.current ∙ (c.in-Err.ensures.back.marked ∙ ready))
     ∙ view
 
 pub returns-in-Err-clause-rests : goal.returns-in-Err-clause-rests
 returns-in-Err-clause-rests g c = let k = invariant_of-self-in-Err-1 g c in record { drained = k.1; rests = k.3 }
+
+pub returns-else-gives_up-clause-whole : goal.returns-else-gives_up-clause-whole
+returns-else-gives_up-clause-whole g c =
+    ends-none c.step.new.outputs.items c.as_slice.result.now c.gives_up.result c.as_slice.ensures.value c.gives_up.ensures c.if-gives_up.false
+
+pub invariant_of-self : goal.invariant_of-self
+invariant_of-self g c =
+    let same = c.deref_mut-engine.ensures.value in
+    let kept = subst (λ (e : Engine _). IsKept g.R.Relation.holds g.R.Relation.takes (rules_of (arc_value c.self.inside.settings)) c.self.inside.moment e)
+    (sym same) c.self.invariant in
+    let taken = subst (λ (e : Engine _). IsOf c.in_ok-before.before e.core) (c.deref.ensures ∙ sym same) c.in_ok-before.ensures in
+    let gone = gone-back c.deref_mut-engine.result.now c.step.new.self _ c.step.new.outputs.items c.as_slice.result.now c.gives_up.result
+    c.new-outputs.ensures.items c.in-Ok.ensures.may c.as_slice.ensures.value c.gives_up.ensures c.if-gives_up.true in
+    kept-back g.R.Relation.holds g.R.Relation.takes _ c.self.inside.moment c.deref_mut-engine.result.now _
+    (c.restore.ensures c.deref_mut-engine.result.now.core taken gone.grows)
+    (c.back.ensures.current ∙ (gone.marked ∙ kept.0.marked))
+    (c.back.ensures.marked ∙ gone.marked)
+    kept
+
+pub returns-then-gives_up-clause-unchanged : goal.returns-then-gives_up-clause-unchanged
+returns-then-gives_up-clause-unchanged g c =
+    let same = c.deref_mut-engine.ensures.value in
+    let ready = subst (λ (e : Engine _). e.table.marked ≡ e.table.current) (sym same) c.self.invariant.0.marked in
+    let taken = subst (λ (e : Engine _). IsOf c.in_ok-before.before e.core) (c.deref.ensures ∙ sym same) c.in_ok-before.ensures in
+    let view = ap (λ (e : Engine _). world_of e (rules_of (arc_value c.self.inside.settings)) c.self.inside.moment) same ∙ c.self.view_is in
+    let gone = gone-back c.deref_mut-engine.result.now c.step.new.self _ c.step.new.outputs.items c.as_slice.result.now c.gives_up.result
+    c.new-outputs.ensures.items c.in-Ok.ensures.may c.as_slice.ensures.value c.gives_up.ensures c.if-gives_up.true in
+    world-back c.deref_mut-engine.result.now
+    (record { alloc = c.step.new.self.alloc; core = c.restore.new.self; table = c.back.new.self })
+    _ c.self.inside.moment
+    (c.restore.ensures c.deref_mut-engine.result.now.core taken gone.grows)
+    (c.back.ensures.current ∙ (gone.marked ∙ ready))
+    ∙ view
+
+pub returns-then-gives_up-clause-rests : goal.returns-then-gives_up-clause-rests
+returns-then-gives_up-clause-rests g c =
+    let k = invariant_of-self g c in record { drained = k.1; rests = k.3 }
+
+pub restore-requires : goal.restore-requires
+restore-requires g c =
+    let same = c.deref_mut-engine.ensures.value in
+    let gone = gone-back c.deref_mut-engine.result.now c.step.new.self _ c.step.new.outputs.items c.as_slice.result.now c.gives_up.result
+    c.new-outputs.ensures.items c.in-Ok.ensures.may c.as_slice.ensures.value c.gives_up.ensures c.if-gives_up.true in
+    record {
+      before = c.deref_mut-engine.result.now.core;
+      taken = subst (λ (e : Engine _). IsOf c.in_ok-before.before e.core) (c.deref.ensures ∙ sym same) c.in_ok-before.ensures;
+      grows = gone.grows;
+    }

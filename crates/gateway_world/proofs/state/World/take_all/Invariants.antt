@@ -1,6 +1,6 @@
 -- The inputs so far were taken.
 use Rattle.std.proofs.Common.{◌≡◌, take}
-use Rattle.gateway_model.specs.Emissions.{emissions}
+use Rattle.gateway_model.specs.Emissions.{emissions, IsWhole}
 use Rattle.gateway_world.specs.Inputs.{TakesAll}
 use Rattle.gateway_world.specs.Worlds.{IsAtRest}
 use Rattle.gateway_world.proofs.state.World.take_all.Given as goal
@@ -11,4 +11,5 @@ invariant-each g l = record {
       l.initial.self (emissions l.outputs.items) l.self;
   rules : l.self.rules ≡ l.initial.self.rules;
   rests : IsAtRest l.self;
+  whole : IsWhole (emissions l.outputs.items);
 }
