@@ -1,6 +1,7 @@
 -- What can be written, and what the writers append (RFC 7252, section 3).
 use Rattle.std.specs.Prelude.{◌≡◌, ℕ, ◌+◌, ◌-◌, ◌*◌, ◌/◌, ◌%◌, ◌≤◌, ◌<◌, List, [], ◌∷◌, ◌++◌, length, nat_lt, if◌then◌else◌}
 use Rattle.std.specs.List.{AllByRecursion}
+use Rattle.coap_codec.specs.declared.message.MsgType.{MsgType}
 use Rattle.coap_codec.specs.Spelling.{Entry, Content, code_of, SpellsOption, SpellsOptions}
 
 -- The options stand in the order of their numbers, of which the one before is given.
@@ -41,9 +42,12 @@ AppendsOption before o old new = (front : List ℕ) × (new ≡ old ++ front)
 abbrev pub AppendsOptions : List Entry → List ℕ → List ℕ → Type 0
 AppendsOptions os old new = (text : List ℕ) × (new ≡ old ++ text) × SpellsOptions 0 os text
 
+abbrev pub head_of : MsgType → ℕ → ℕ → List ℕ → List ℕ
+head_of kind code mid token =
+    (64 + 16 * code_of kind + length token) ∷ code ∷ (mid / 256) ∷ (mid % 256) ∷ token
+
 abbrev pub head_text : Content → List ℕ
-head_text m =
-    (64 + 16 * code_of m.kind + length m.token) ∷ m.code ∷ (m.mid / 256) ∷ (m.mid % 256) ∷ m.token
+head_text m = head_of m.kind m.code m.mid m.token
 
 abbrev pub payload_text : List ℕ → List ℕ
 payload_text [] = []

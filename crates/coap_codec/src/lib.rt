@@ -44,4 +44,6 @@ pub use recognition::{is_defined, is_forwardable, is_processable, is_rejected};
 pub use token::Token;
 pub use uint::{MAX_UINT_LEN, uint_of, uint_to};
 pub use values::{first_of, values_of};
-pub use writing::{MAX_VALUE_LEN, encode, is_encodable};
+pub use writing::{
+    MAX_VALUE_LEN, append_head, append_option, append_payload, encode, is_encodable,
+};

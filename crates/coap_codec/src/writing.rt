@@ -3,12 +3,13 @@
 ghost use Rattle.std.specs.Prelude.{◌≡◌, ◌≤◌, ◌<◌, ◌++◌, ◌↔◌, length, IsTrue, OnOk, IfOk, IsOkUnless};
 ghost use Rattle.std.specs.List.{AllByRecursion};
 ghost use Rattle.coap_codec.specs.Spelling.{Spells, content, entry, entries};
-ghost use Rattle.coap_codec.specs.Writing.{IsInOrder, IsShort, IsEncodable, nibble, more, AppendsOption, AppendsOptions, head_text, payload_text};
+ghost use Rattle.coap_codec.specs.Writing.{IsInOrder, IsShort, IsEncodable, nibble, more, AppendsOption, AppendsOptions, head_of, payload_text};
 
 use crate::fault::CodecFault;
-use crate::message::Message;
+use crate::message::{Message, MsgType};
 use crate::opt::Opt;
-use std::alloc::Global;
+use crate::token::Token;
+use std::alloc::{AllocError, Global};
 
 /// The most bytes of an option's value that `encode` takes, those of a Proxy-Uri.
 pub const MAX_VALUE_LEN: usize = 1034;
@@ -27,9 +28,8 @@ fn nibble_of(n: u16) -> u8
 }
 
 /// Appends the bytes that extend the nibble.
-fn push_more(out: &mut Vec<u8>, n: u16) -> Result<(), CodecFault>
-    ensures ok { OnOk result (out.new.items ≡ out.old.items ++ more n) }
-    ensures memory { IsOkUnless result CodecFault.Memory }
+fn push_more(out: &mut Vec<u8>, n: u16) -> Result<(), AllocError>
+    ensures { OnOk result (out.new.items ≡ out.old.items ++ more n) }
 {
     if n >= 269 {
         out.extend_from_slice(&(n - 269).to_be_bytes())?;
@@ -39,20 +39,34 @@ fn push_more(out: &mut Vec<u8>, n: u16) -> Result<(), CodecFault>
     Ok(())
 }
 
-/// Appends an option after one of the number before.
-fn push_option(out: &mut Vec<u8>, before: u16, o: &Opt) -> Result<(), CodecFault>
-    requires in_order { before ≤ o.now.number }
-    requires short { length o.now.value.items ≤ 1034 }
-    ensures ok { OnOk result (AppendsOption before (entry o.now) out.old.items out.new.items) }
-    ensures memory { IsOkUnless result CodecFault.Memory }
+/// Appends an option with this number and value, after one of the number before.
+pub fn append_option(
+    out: &mut Vec<u8>,
+    before: u16,
+    number: u16,
+    value: &[u8],
+) -> Result<(), AllocError>
+    requires in_order { before ≤ number }
+    requires short { length value.now ≤ MAX_VALUE_LEN }
+    ensures { OnOk result (AppendsOption before (record { number = number; value = value.now })
+        out.old.items out.new.items) }
 {
-    let delta = o.number - before;
-    let len = o.value.len() as u16;
+    let delta = number - before;
+    let len = value.len() as u16;
     out.push(16 * nibble_of(delta) + nibble_of(len))?;
     push_more(out, delta)?;
     push_more(out, len)?;
-    out.extend_from_slice(&o.value)?;
+    out.extend_from_slice(value)?;
     Ok(())
+}
+
+/// Appends an option after one of the number before.
+fn push_option(out: &mut Vec<u8>, before: u16, o: &Opt) -> Result<(), AllocError>
+    requires in_order { before ≤ o.now.number }
+    requires short { length o.now.value.items ≤ MAX_VALUE_LEN }
+    ensures { OnOk result (AppendsOption before (entry o.now) out.old.items out.new.items) }
+{
+    append_option(out, before, o.number, o.value.as_slice())
 }
 
 /// Appends all options.
@@ -70,24 +84,28 @@ fn push_options(out: &mut Vec<u8>, options: &[Opt]) -> Result<(), CodecFault>
     Ok(())
 }
 
-/// Appends the header and the token.
-fn push_head(out: &mut Vec<u8>, m: &Message) -> Result<(), CodecFault>
-    ensures ok { OnOk result (out.new.items ≡ out.old.items ++ head_text (content m.now)) }
-    ensures token { OnOk result (length m.now.token ≤ 8) }
-    ensures mid { OnOk result (m.now.mid < 65536) }
-    ensures memory { IsOkUnless result CodecFault.Memory }
+/// Appends the header of a message and its token.
+pub fn append_head(
+    out: &mut Vec<u8>,
+    kind: MsgType,
+    code: u8,
+    mid: u16,
+    token: &Token,
+) -> Result<(), AllocError>
+    ensures ok { OnOk result
+        (out.new.items ≡ out.old.items ++ head_of kind code mid token.now) }
+    ensures token { OnOk result (length token.now ≤ Token.LIMIT) }
 {
-    out.push(64 + 16 * (m.kind as u8) + m.token.len() as u8)?;
-    out.push(m.code)?;
-    out.extend_from_slice(&m.mid.to_be_bytes())?;
-    out.extend_from_slice(m.token.as_slice())?;
+    out.push(64 + 16 * (kind as u8) + token.len() as u8)?;
+    out.push(code)?;
+    out.extend_from_slice(&mid.to_be_bytes())?;
+    out.extend_from_slice(token.as_slice())?;
     Ok(())
 }
 
 /// Appends the payload after its marker, or nothing where there is none.
-fn push_payload(out: &mut Vec<u8>, payload: &[u8]) -> Result<(), CodecFault>
-    ensures ok { OnOk result (out.new.items ≡ out.old.items ++ payload_text payload.now) }
-    ensures memory { IsOkUnless result CodecFault.Memory }
+pub fn append_payload(out: &mut Vec<u8>, payload: &[u8]) -> Result<(), AllocError>
+    ensures { OnOk result (out.new.items ≡ out.old.items ++ payload_text payload.now) }
 {
     if !payload.is_empty() {
         out.push(0xff)?;
@@ -138,8 +156,8 @@ pub fn encode(alloc: Global, m: &Message) -> Result<Vec<u8>, CodecFault>
     ensures memory { IsOkUnless result CodecFault.Memory }
 {
     let mut out = Vec::with_capacity(alloc, size_of(m))?;
-    push_head(&mut out, m)?;
+    append_head(&mut out, m.kind, m.code, m.mid, &m.token)?;
     push_options(&mut out, &m.options)?;
-    push_payload(&mut out, &m.payload)?;
+    append_payload(&mut out, &m.payload)?;
     Ok(out)
 }
