@@ -1,9 +1,9 @@
 pub mod Blocks
 pub mod Codes
-pub mod Inserted
 pub mod OptionOrder
 pub mod OptionLengths
 pub mod Payloads
+pub mod Written
 pub mod Sendable
 pub mod Sharing
 pub mod CallerLemmas

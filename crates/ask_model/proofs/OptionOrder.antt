@@ -68,10 +68,6 @@ short (o ∷ os) h =
     let le : length o.value ≤ 255 = leb-true (length o.value) 255 p.0 in
     (omega (arith, le), short os p.1)
 
-short_both : (os others : List Entry) → AllByRecursion IsShort os → AllByRecursion IsShort others → AllByRecursion IsShort (os ++ others)
-short_both [] others h k = k
-short_both (o ∷ os) others h k = (h.0, short_both os others h.1 k)
-
 short_first : (os others : List Entry) → AllByRecursion IsShort (os ++ others) → AllByRecursion IsShort os
 short_first [] others h = tt
 short_first (o ∷ os) others h = (h.0, short_first os others h.1)
@@ -83,27 +79,17 @@ short_second (o ∷ os) others h = short_second os others h.1
 pub uint_bytes_short : (n : ℕ) → length (uint_bytes n) ≤ 3
 uint_bytes_short n = grind (arith, nat_tests)
 
-short_optional : (number : ℕ) (v : Option ℕ) → AllByRecursion IsShort (optional number v)
-short_optional number None = tt
-short_optional number (Some v) = (omega (arith, uint_bytes_short v), tt)
-
-pub asking_short : (t : Target) (format accept : Option ℕ) → fits (uri_options t) ≡ true → AllByRecursion IsShort (options_asking t format accept)
-asking_short t format accept h =
+-- the options of a target within its limits are short
+pub path_short : (t : Target) → fits (uri_options t) ≡ true → AllByRecursion IsShort (options_with 11 t.path)
+path_short t h =
     let all = short (uri_options t) (and_parts (list_all is_short (uri_options t)) _ h).0 in
     let place = short_first (host_options t.host ++ options_with 11 t.path) (options_with 15 t.query) all in
-    let query = short_second (host_options t.host ++ options_with 11 t.path) (options_with 15 t.query) all in
-    short_both (host_options t.host) _ (short_first (host_options t.host) (options_with 11 t.path) place)
-    (short_both (options_with 11 t.path) _ (short_second (host_options t.host) (options_with 11 t.path) place)
-    (short_both (optional 12 format) _ (short_optional 12 format)
-    (short_both (options_with 15 t.query) _ query (short_optional 17 accept))))
+    short_second (host_options t.host) (options_with 11 t.path) place
 
--- The message of a request, still without its payload, can be written.
-pub asking_encodable : (m : Method) (t : Target) (number : ℕ) (format accept block : Option ℕ) (code mid : ℕ) (token payload : List ℕ) (os : List Entry) → 17 ≤ number → fits (uri_options t) ≡ true → code ≡ request_code m → os ≡ options_asking t format accept ++ optional number block → IsEncodable (record { kind = Con; code = code; mid = mid; token = token; options = os; payload = payload })
-asking_encodable m t number format accept block code mid token payload os le within same e = record {
-  in_order = rw e (blocks_in_order t number format accept block le);
-  short = rw e (short_both (options_asking t format accept) _ (asking_short t format accept within) (short_optional number block));
-  nothing_else = λ zero. absurd (code_is_not_zero m (sym same ∙ zero));
-}
+pub query_short : (t : Target) → fits (uri_options t) ≡ true → AllByRecursion IsShort (options_with 15 t.query)
+query_short t h =
+    let all = short (uri_options t) (and_parts (list_all is_short (uri_options t)) _ h).0 in
+    short_second (host_options t.host ++ options_with 11 t.path) (options_with 15 t.query) all
 
 -- the same of one that asks to be told of changes
 host_before : (host : Host) (n : ℕ) (os : List Entry) → 3 ≤ n → IsInOrder n os → IsInOrder 0 (host_options host ++ os)
@@ -120,19 +106,6 @@ observing_in_order t format accept =
           (behind_equal 12 15 t.query _ (omega arith) (last_optional 15 17 accept (omega arith)))),
     )
 
-observing_short : (t : Target) (format accept : Option ℕ) → fits (uri_options t) ≡ true → AllByRecursion IsShort (observing_options t format accept)
-observing_short t format accept h =
-    let all = asking_short t format accept h in
-    short_both (host_options t.host) _ (short_first (host_options t.host) _ all)
-    (omega arith, short_second (host_options t.host) _ all)
-
-pub observing_encodable : (m : Method) (t : Target) (format accept : Option ℕ) (code mid : ℕ) (token payload : List ℕ) (os : List Entry) → fits (uri_options t) ≡ true → code ≡ request_code m → os ≡ observing_options t format accept → IsEncodable (record { kind = Con; code = code; mid = mid; token = token; options = os; payload = payload })
-observing_encodable m t format accept code mid token payload os within same e = record {
-  in_order = rw e (observing_in_order t format accept);
-  short = rw e (observing_short t format accept within);
-  nothing_else = λ zero. absurd (code_is_not_zero m (sym same ∙ zero));
-}
-
 -- and of one that asks whether something is valid still
 pub validating_in_order : (etag : List ℕ) (t : Target) (format accept : Option ℕ) → IsInOrder 0 (validating_options etag t format accept)
 validating_in_order etag t format accept =
@@ -142,16 +115,3 @@ validating_in_order etag t format accept =
           (behind_optional 11 12 format _ (omega arith)
           (behind_equal 12 15 t.query _ (omega arith) (last_optional 15 17 accept (omega arith)))),
     )
-
-validating_short : (etag : List ℕ) (t : Target) (format accept : Option ℕ) → length etag ≤ 8 → fits (uri_options t) ≡ true → AllByRecursion IsShort (validating_options etag t format accept)
-validating_short etag t format accept le h =
-    let all = asking_short t format accept h in
-    short_both (host_options t.host) _ (short_first (host_options t.host) _ all)
-    (omega (arith, le), short_second (host_options t.host) _ all)
-
-pub validating_encodable : (m : Method) (etag : List ℕ) (t : Target) (format accept : Option ℕ) (code mid : ℕ) (token payload : List ℕ) (os : List Entry) → length etag ≤ 8 → fits (uri_options t) ≡ true → code ≡ request_code m → os ≡ validating_options etag t format accept → IsEncodable (record { kind = Con; code = code; mid = mid; token = token; options = os; payload = payload })
-validating_encodable m etag t format accept code mid token payload os le within same e = record {
-  in_order = rw e (validating_in_order etag t format accept);
-  short = rw e (validating_short etag t format accept le within);
-  nothing_else = λ zero. absurd (code_is_not_zero m (sym same ∙ zero));
-}

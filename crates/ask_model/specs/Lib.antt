@@ -7,3 +7,4 @@ pub mod Datagrams
 pub mod Sharing
 pub mod Observing
 pub mod Validating
+pub mod Written

@@ -13,6 +13,7 @@ mod request;
 mod settings;
 mod size;
 mod validating;
+mod writing;
 
 pub use cause::Cause;
 pub use mapped::Mapped;

@@ -1,8 +1,11 @@
-use Rattle.ask_model.proofs.OptionOrder.{validating_encodable}
+use Rattle.std.proofs.Common.{◌∙◌, sym}
+use Rattle.ask_model.proofs.Codes.{code_is_not_zero}
 use Rattle.ask_model.proofs.validating.validating_of.Goals as goal
 
-pub bytes_with-requires-clause-encodable : goal.bytes_with-requires-clause-encodable
-bytes_with-requires-clause-encodable c =
-    let asks = c.in-Ask in
-    let sendable = rw asks.is at c.requires.sendable in
-    validating_encodable asks.method c.args.etag.now asks.target asks.format asks.accept _ _ _ _ _ c.requires.short sendable.target c.code-code.ensures c.in_ok-options-in-Ask.ensures
+pub validating_bytes-requires-clause-code : goal.validating_bytes-requires-clause-code
+validating_bytes-requires-clause-code c = λ zero. code_is_not_zero c.in-Ask.method (sym c.code-code.ensures ∙ zero)
+
+pub validating_bytes-requires-clause-fits : goal.validating_bytes-requires-clause-fits
+validating_bytes-requires-clause-fits c =
+    let sendable = rw c.in-Ask.is at c.requires.sendable in
+    sendable.target
