@@ -130,18 +130,34 @@ impl<R: Relation, S: Stream + Drop, W: Wire + Drop> Loop<R, S, W> {
         if !it.may_resume() {
             return Ok(it);
         }
-        it.parked = false;
+        it.rest.parked = false;
         'each: for number in it.gateway.first_number()..it.gateway.next_number() {
-            if it.gateway.stage(number) == Some(Stage::Parked) {
-                let when = it.when(host);
-                it.gateway = it.gateway.resume(bank, when, number, host)?;
-            }
+            it = it.resume_one(bank, host, number)?;
         }
+        Ok(it)
+    }
+
+    /// Goes on with the stream of the connection, if it was parked.
+    fn resume_one<H: Host<S>>(
+        self,
+        bank: &Bank<R>,
+        host: &mut H,
+        number: u32,
+    ) -> Result<Loop<R, S, W>, Memory>
+        requires suits { Suits R.holds R.takes self.gateway.world.rules.routes bank.now }
+        ensures rules { IfOk result (λ l. l.gateway.world.rules ≡ self.gateway.world.rules) }
+    {
+        let mut it = self;
+        if it.gateway.stage(number) != Some(Stage::Parked) {
+            return Ok(it);
+        }
+        let when = it.when(host);
+        it.gateway = it.gateway.resume(bank, when, number, host)?;
         Ok(it)
     }
 
     /// Whether connections are parked, and the journal isn't turned over now.
     pub(crate) fn may_resume(&self) -> bool {
-        self.parked && self.turning.is_none()
+        self.rest.parked && self.rest.turning.is_none()
     }
 }

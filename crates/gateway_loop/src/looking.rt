@@ -53,7 +53,7 @@ impl<R: Relation, S: Stream + Drop, W: Wire + Drop> Loop<R, S, W> {
 
     /// The connections that were given up in the last turn, in their order.
     pub fn given_up(&self) -> &[GivenUp] {
-        &self.given_up
+        &self.rest.given_up
     }
 
     /// Keeps from now on what tells of the bytes that are given out, until it is forgotten.

@@ -142,10 +142,10 @@ impl<R: Relation, S: Stream + Drop, W: Wire + Drop> Loop<R, S, W> {
         ensures rules { IfOk result (λ l. l.gateway.world.rules ≡ self.gateway.world.rules) }
     {
         let mut it = self;
-        if it.moment < it.sweeps {
+        if it.rest.moment < it.rest.sweeps {
             return Ok(it);
         }
-        it.sweeps = it.moment.saturating_add(SWEEP);
+        it.rest.sweeps = it.rest.moment.saturating_add(SWEEP);
         'each: for number in it.gateway.first_number()..it.gateway.next_number() {
             it = it.look_at(bank, host, number)?;
         }
@@ -164,8 +164,9 @@ impl<R: Relation, S: Stream + Drop, W: Wire + Drop> Loop<R, S, W> {
         ensures rules { IfOk result (λ l. l.gateway.world.rules ≡ self.gateway.world.rules) }
     {
         let mut it = self;
-        it.gateway.look(number, it.moment);
-        if !it.gateway.stands_still(number, it.moment, it.idle) {
+        let moment = it.rest.moment;
+        it.gateway.look(number, moment);
+        if !it.gateway.stands_still(number, moment, it.rest.idle) {
             return Ok(it);
         }
         it.give_up(bank, host, number, Why::Still)
@@ -185,7 +186,7 @@ impl<R: Relation, S: Stream + Drop, W: Wire + Drop> Loop<R, S, W> {
         let mut it = self;
         let when = it.when(host);
         it.gateway = it.gateway.end(bank, when, number)?;
-        let _ = it.given_up.push(GivenUp { number, why });
+        let _ = it.rest.given_up.push(GivenUp { number, why });
         Ok(it)
     }
 
@@ -212,7 +213,10 @@ impl<R: Relation, S: Stream + Drop, W: Wire + Drop> Loop<R, S, W> {
     fn readiest(&self) -> Option<(u32, Readiness)> {
         let mut found: Option<(u32, Readiness)> = None;
         'each: for number in self.gateway.first_number()..self.gateway.next_number() {
-            let Some(readiness) = self.gateway.readiness(number, self.moment, self.idle) else {
+            let Some(readiness) = self
+                .gateway
+                .readiness(number, self.rest.moment, self.rest.idle)
+            else {
                 continue 'each;
             };
             let is_first = match found {

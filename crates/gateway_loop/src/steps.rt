@@ -45,7 +45,7 @@ impl<R: Relation, S: Stream + Drop, W: Wire + Drop> Loop<R, S, W> {
     {
         let mut it = self;
         'each: for _ in 0..STEPS {
-            match it.gateway.serve(number, &mut it.buffer) {
+            match it.gateway.serve(number, &mut it.rest.buffer) {
                 Due::Nothing => return Ok(it),
                 Due::Piece => {
                     let when = it.when(host);
@@ -54,7 +54,8 @@ impl<R: Relation, S: Stream + Drop, W: Wire + Drop> Loop<R, S, W> {
                 Due::More => {}
                 Due::Farewell => {
                     it.gateway.leave(number);
-                    it.farewells.push(number, it.moment)?;
+                    let moment = it.rest.moment;
+                    it.rest.farewells.push(number, moment)?;
                 }
                 Due::End => {
                     let when = it.when(host);
@@ -77,8 +78,9 @@ impl<R: Relation, S: Stream + Drop, W: Wire + Drop> Loop<R, S, W> {
         ensures rules { IfOk result (λ l. l.gateway.world.rules ≡ self.gateway.world.rules) }
     {
         let mut it = self;
+        let moment = it.rest.moment;
         'each: for _ in 0..AT_ONCE {
-            let Some(number) = it.farewells.next_over(it.moment) else {
+            let Some(number) = it.rest.farewells.next_over(moment) else {
                 return Ok(it);
             };
             let when = it.when(host);

@@ -46,14 +46,14 @@ impl Turning {
 impl<R: Relation, S: Stream + Drop, W: Wire + Drop> Loop<R, S, W> {
     /// Whether the journal is turned over, since it is nearly full: no connection is taken.
     pub fn is_turning(&self) -> bool {
-        self.turning.is_some()
+        self.rest.turning.is_some()
     }
 
     /// The journal that was turned over last, once.
     pub fn take_journal(&mut self) -> Option<Journal<R>>
         ensures { self.new.gateway ≡ self.old.gateway }
     {
-        self.journal.take()
+        self.rest.journal.take()
     }
 
     /// Does what can be done now for the journal to be turned over, where it is nearly full.
@@ -69,9 +69,9 @@ impl<R: Relation, S: Stream + Drop, W: Wire + Drop> Loop<R, S, W> {
         let Some(turning) = it.begun_turning() else {
             return Ok(it);
         };
-        let late = turning.is_late(it.moment);
+        let late = turning.is_late(it.rest.moment);
         it = it.dismiss_all(bank, host, late)?;
-        if it.moment < turning.again || it.gateway.next_due().is_some() || it.is_connected() {
+        if it.rest.moment < turning.again || it.gateway.next_due().is_some() || it.is_connected() {
             return Ok(it);
         }
         it = it.fill_up(bank, host)?;
@@ -82,13 +82,13 @@ impl<R: Relation, S: Stream + Drop, W: Wire + Drop> Loop<R, S, W> {
     fn begun_turning(&mut self) -> Option<Turning>
         ensures { self.new.gateway ≡ self.old.gateway }
     {
-        if self.turning.is_none() && self.gateway.is_nearly_full() {
-            self.turning = Some(Turning {
-                since: self.moment,
+        if self.rest.turning.is_none() && self.gateway.is_nearly_full() {
+            self.rest.turning = Some(Turning {
+                since: self.rest.moment,
                 again: 0,
             });
         }
-        self.turning
+        self.rest.turning
     }
 
     /// Whether a connection is open.
@@ -116,11 +116,12 @@ impl<R: Relation, S: Stream + Drop, W: Wire + Drop> Loop<R, S, W> {
             if it.gateway.is_between(number) {
                 let when = it.when(host);
                 it.gateway = it.gateway.park(bank, when, number)?;
-                it.parked = true;
+                it.rest.parked = true;
             } else if late && it.gateway.is_written(number) {
                 let when = it.when(host);
                 it.gateway = it.gateway.dismiss(bank, when, number)?;
-                it.farewells.push(number, it.moment)?;
+                let moment = it.rest.moment;
+                it.rest.farewells.push(number, moment)?;
             } else if late && it.gateway.is_idle(number) {
                 let when = it.when(host);
                 it.gateway = it.gateway.end(bank, when, number)?;
@@ -158,16 +159,16 @@ impl<R: Relation, S: Stream + Drop, W: Wire + Drop> Loop<R, S, W> {
         it.gateway = gateway;
         match told {
             Some(Output::Rotated(journal)) => {
-                it.journal = Some(journal);
-                it.turning = None;
+                it.rest.journal = Some(journal);
+                it.rest.turning = None;
                 Ok(it)
             }
             Some(Output::Unrotated(RotateFault::Spent)) => {
-                it.spent = true;
+                it.rest.spent = true;
                 Ok(it)
             }
             _ => {
-                it.turning = Some(Turning {
+                it.rest.turning = Some(Turning {
                     since: when.moment,
                     again: when.moment.saturating_add(PAUSE),
                 });

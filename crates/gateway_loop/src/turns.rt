@@ -53,10 +53,9 @@ fn sooner(a: Option<u64>, b: Option<u64>) -> Option<u64> {
     }
 }
 
-/// The gateway as a loop, and what it has still to look at though no sign will tell of it again.
+/// What the loop keeps beside its gateway.
 #[derive(Drop)]
-pub struct Loop<R: Relation, S: Stream, W: Wire> {
-    pub(crate) gateway: Gateway<R, S, W>,
+pub(crate) struct Rest<R: Relation> {
     pub(crate) farewells: Farewells,
     pub(crate) buffer: Vec<u8>,
     /// The moment of the last turn.
@@ -64,8 +63,6 @@ pub struct Loop<R: Relation, S: Stream, W: Wire> {
     /// Clients may want connections, and nobody is taken before that moment.
     clients: bool,
     resumes: u64,
-    /// Datagrams may have come in.
-    wire: bool,
     /// For how many milliseconds a client may stand still in a request, and after how many a
     /// connection may be closed for another one.
     pub(crate) idle: u64,
@@ -83,30 +80,41 @@ pub struct Loop<R: Relation, S: Stream, W: Wire> {
     pub(crate) given_up: Vec<GivenUp>,
 }
 
+/// The gateway as a loop, and what it has still to look at though no sign will tell of it again.
+#[derive(Drop)]
+pub struct Loop<R: Relation, S: Stream, W: Wire> {
+    pub(crate) gateway: Gateway<R, S, W>,
+    /// Datagrams may have come in.
+    wire: bool,
+    /// In a place of its own, so that who hands a loop on moves little.
+    pub(crate) rest: Box<Rest<R>>,
+}
+
 impl<R: Relation, S: Stream + Drop, W: Wire + Drop> Loop<R, S, W> {
     /// A loop that looks at everything first. A client may stand still in a request for so many
     /// milliseconds, after which an idle connection may be closed for another one.
     pub fn new(gateway: Gateway<R, S, W>, idle: u64) -> Result<Loop<R, S, W>, AllocError>
         ensures { IfOk result (λ l. l.gateway ≡ gateway) }
     {
-        let buffer = vec![in gateway.alloc; 0u8; ROOM]?;
-        let farewells = Farewells::new(gateway.alloc);
-        let given_up = Vec::new(gateway.alloc);
-        Ok(Loop {
-            gateway,
-            farewells,
-            buffer,
+        let alloc = gateway.alloc;
+        let rest = Rest {
+            farewells: Farewells::new(alloc),
+            buffer: vec![in alloc; 0u8; ROOM]?,
             moment: 0,
             clients: true,
             resumes: 0,
-            wire: true,
             idle,
             sweeps: 0,
             turning: None,
             journal: None,
             spent: false,
             parked: false,
-            given_up,
+            given_up: Vec::new(alloc),
+        };
+        Ok(Loop {
+            gateway,
+            wire: true,
+            rest: Box::new(alloc, rest).map_err(AllocError::from)?,
         })
     }
 
@@ -115,14 +123,14 @@ impl<R: Relation, S: Stream + Drop, W: Wire + Drop> Loop<R, S, W> {
     pub fn wait<H: Host<S>>(&mut self, host: &mut H) -> Result<(), Stop>
         ensures { self.new.gateway ≡ self.old.gateway }
     {
-        if self.spent {
+        if self.rest.spent {
             return Err(Stop::Spent);
         }
         if !host.wait(self.longest_wait()) {
             return Err(Stop::Wait);
         }
         match host.moment() {
-            Some(moment) => self.moment = moment,
+            Some(moment) => self.rest.moment = moment,
             None => return Err(Stop::Clock),
         }
         Ok(())
@@ -135,7 +143,7 @@ impl<R: Relation, S: Stream + Drop, W: Wire + Drop> Loop<R, S, W> {
         ensures rules { IfOk result (λ l. l.gateway.world.rules ≡ self.gateway.world.rules) }
     {
         let mut it = self;
-        it.given_up.clear();
+        it.rest.given_up.clear();
         it.take_signs(host)?;
         if it.may_take() {
             return it.take_all(bank, host);
@@ -145,7 +153,9 @@ impl<R: Relation, S: Stream + Drop, W: Wire + Drop> Loop<R, S, W> {
 
     /// Whether there may be connections to be taken.
     fn may_take(&self) -> bool {
-        let wanted = self.clients && self.moment >= self.resumes && self.turning.is_none();
+        let wanted = self.rest.clients
+            && self.rest.moment >= self.rest.resumes
+            && self.rest.turning.is_none();
         wanted || self.may_resume()
     }
 
@@ -177,11 +187,14 @@ impl<R: Relation, S: Stream + Drop, W: Wire + Drop> Loop<R, S, W> {
     /// Whether nothing else is due in this turn.
     fn is_over(&self) -> bool {
         let is_due = match self.gateway.next_due() {
-            Some(due) => due <= self.moment,
+            Some(due) => due <= self.rest.moment,
             None => false,
         };
-        let waits = self.turning.is_some() || self.gateway.is_nearly_full();
-        !is_due && !waits && self.moment < self.sweeps && self.farewells.next_due().is_none()
+        let waits = self.rest.turning.is_some() || self.gateway.is_nearly_full();
+        !is_due
+            && !waits
+            && self.rest.moment < self.rest.sweeps
+            && self.rest.farewells.next_due().is_none()
     }
 
     /// Does what else is due.
@@ -202,20 +215,20 @@ impl<R: Relation, S: Stream + Drop, W: Wire + Drop> Loop<R, S, W> {
         if self.wire || self.gateway.in_line() > 0 || self.may_resume() {
             return Some(0);
         }
-        let resumes = match self.turning {
-            Some(turning) => Some(turning.again.max(self.moment.saturating_add(LOOK))),
-            None if self.clients => Some(self.resumes),
+        let resumes = match self.rest.turning {
+            Some(turning) => Some(turning.again.max(self.rest.moment.saturating_add(LOOK))),
+            None if self.rest.clients => Some(self.rest.resumes),
             None => None,
         };
         let sweeps = if self.gateway.open() > 0 {
-            Some(self.sweeps)
+            Some(self.rest.sweeps)
         } else {
             None
         };
-        let until = sooner(self.gateway.next_due(), self.farewells.next_due());
+        let until = sooner(self.gateway.next_due(), self.rest.farewells.next_due());
         let until = sooner(until, sweeps);
         let until = sooner(until, resumes)?;
-        Some(until.saturating_sub(self.moment).min(LONGEST))
+        Some(until.saturating_sub(self.rest.moment).min(LONGEST))
     }
 
     /// Looks at the signs that there are.
@@ -224,7 +237,7 @@ impl<R: Relation, S: Stream + Drop, W: Wire + Drop> Loop<R, S, W> {
     {
         'each: for _ in 0..SIGNS {
             match host.sign() {
-                Some(Sign::Clients) => self.clients = true,
+                Some(Sign::Clients) => self.rest.clients = true,
                 Some(Sign::Wire) => self.wire = true,
                 Some(Sign::Ready(number)) => self.gateway.wake(number, false)?,
                 Some(Sign::Ended(number)) => self.gateway.wake(number, true)?,
@@ -240,18 +253,18 @@ impl<R: Relation, S: Stream + Drop, W: Wire + Drop> Loop<R, S, W> {
         ensures rules { IfOk result (λ l. l.gateway.world.rules ≡ self.gateway.world.rules) }
     {
         let mut it = self;
-        if !it.clients || it.moment < it.resumes || it.turning.is_some() {
+        if !it.rest.clients || it.rest.moment < it.rest.resumes || it.rest.turning.is_some() {
             return Ok(it);
         }
         'each: for _ in 0..AT_ONCE {
             match host.accept() {
                 Accepted::Client(stream) => it = it.take_client(bank, host, stream)?,
                 Accepted::Later => {
-                    it.clients = false;
+                    it.rest.clients = false;
                     return Ok(it);
                 }
                 Accepted::Refused => {
-                    it.resumes = it.moment.saturating_add(PAUSE);
+                    it.rest.resumes = it.rest.moment.saturating_add(PAUSE);
                     return Ok(it);
                 }
             }
@@ -298,7 +311,7 @@ impl<R: Relation, S: Stream + Drop, W: Wire + Drop> Loop<R, S, W> {
         }
         'each: for _ in 0..AT_ONCE {
             let when = it.when(host);
-            let Listened { gateway, heard } = it.gateway.hear(bank, when, &mut it.buffer)?;
+            let Listened { gateway, heard } = it.gateway.hear(bank, when, &mut it.rest.buffer)?;
             it.gateway = gateway;
             if !heard {
                 it.wire = false;
@@ -315,7 +328,7 @@ impl<R: Relation, S: Stream + Drop, W: Wire + Drop> Loop<R, S, W> {
     {
         let mut it = self;
         match it.gateway.next_due() {
-            Some(due) if due <= it.moment => {
+            Some(due) if due <= it.rest.moment => {
                 let when = it.when(host);
                 it.gateway = it.gateway.tick(bank, when)?;
                 Ok(it)
@@ -327,7 +340,7 @@ impl<R: Relation, S: Stream + Drop, W: Wire + Drop> Loop<R, S, W> {
     /// When an input of this turn is, with a word of its own.
     pub(crate) fn when<H: Host<S>>(&self, host: &mut H) -> When {
         When {
-            moment: self.moment,
+            moment: self.rest.moment,
             word: host.word(),
         }
     }
