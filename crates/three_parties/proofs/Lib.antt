@@ -29,6 +29,7 @@ pub mod Outrunning
 pub mod Linked
 pub mod Paths
 pub mod Pages
+pub mod Standing
 pub mod Reading
 pub mod Inherited
 pub mod Walking

@@ -36,6 +36,7 @@ use Rattle.three_parties.proofs.Lists.{got-below, got-in}
 use Rattle.three_parties.proofs.Chapters.{IsPast}
 use Rattle.three_parties.proofs.Tales.{IsDoneBy}
 use Rattle.three_parties.proofs.Pages.{IsEarlier, end}
+use Rattle.three_parties.proofs.Standing.{stood-first}
 use Rattle.three_parties.proofs.Timing.{moment_then, timed-after, timed-then, timed-upto, heard-at, more-told, no-less-told, told-before}
 
 -- ---- a reply
@@ -116,13 +117,17 @@ module _ (R : Relation) (block : ℕ) (resources : List Held) (s : Scene) (known
         ]
 
     pub held-at : IsHeldAt when (values 11 m.options) resources s.taken (count shown.place) state
-    held-at = record {
-      earlier = earlier;
-      later = later;
-      left = λ i first there.
-          shown.left i first there
-          ∙ ap (left_with (values 11 m.options) first.state) (told-before calls shown.place s.taken known.order.tells);
-    }
+    held-at =
+        let there = stood-first R calls (fresh block resources) shown.place (values 11 m.options) shown.number shown.held known.tale.follow shown.there in
+        record {
+          earlier = earlier;
+          later = later;
+          place = there.0;
+          first = there.1;
+          stands = there.2;
+          left = shown.left there.0 there.1 there.2
+              ∙ ap (left_with (values 11 m.options) there.1.state) (told-before calls shown.place s.taken known.order.tells);
+        }
 
   -- what the device showed by a message, and which writes it had done
   abbrev pub ShownBy : (o since : ℕ) (m : Content) (state : List ℕ) → Type 0

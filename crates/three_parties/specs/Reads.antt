@@ -20,16 +20,19 @@ use Rattle.three_parties.specs.Ticks.{LooksInTime}
 use Rattle.three_parties.specs.declared.story.Execution.{Execution}
 use Rattle.three_parties.specs.declared.turn.Turn.{Turn}
 
--- At this moment the resource of the path held this state: the first so many executions left it
--- with that, none of which came later, and none of the others came earlier.
+-- At this moment the resource of the path, which is one of these, held this state: the first so
+-- many executions left it with that, none of which came later, and none of the others came earlier.
 pub record IsHeldAt (moment : ℕ) (path : List (List ℕ)) (resources : List Held)
     (taken : List Execution) (count : ℕ) (state : List ℕ) : Type 0 where
   pub earlier : (e : ℕ) (y : Execution) → slice_get taken e ≡ Some y → e < count
       → y.moment ≤ moment
   pub later : (e : ℕ) (y : Execution) → slice_get taken e ≡ Some y → count ≤ e
       → moment ≤ y.moment
-  pub left : (i : ℕ) (first : Held) → IsAt path resources i first
-      → state ≡ left_with path first.state (map (λ (y : Execution). y.taken) (take count taken))
+  pub place : ℕ
+  pub first : Held
+  pub stands : IsAt path resources place first
+  pub left :
+      state ≡ left_with path first.state (map (λ (y : Execution). y.taken) (take count taken))
 
 -- Each request but a GET (method 1) to the place of q that was answered by success before the entry
 -- k was executed exactly once, as one of the first so many.
