@@ -30,8 +30,8 @@ pub record IsDoneOnce (h : List Written) (k : ℕ) (q : CoapRequest) (proxy : Pe
   pub executes : Executes proxy message call
   pub once : (b : ℕ) (y : Call) → slice_get cs b ≡ Some y → Executes proxy message y → b ≡ place
 
--- Of a POST (method 2) that was answered by success the message to which that answer came was
--- executed, exactly once. Of a body in pieces a device executes the last alone (LastPieceExecutes).
+-- For a POST (method 2) that was answered by success a message was executed, exactly once. Of a body
+-- in pieces a device executes the last alone (LastPieceExecutes).
 abbrev pub PostsOnce : Relation → Type 0
 PostsOnce R =
     (h : List Written) (device proxy : Peer) (block : ℕ) (resources : List Held) (cs : List Call)
