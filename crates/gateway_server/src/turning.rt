@@ -59,7 +59,7 @@ fn turn_one<
     }
     let begin = Instant::now(rt).ok();
     info!(rt; target: "hcproxy", "journal {number} is nearly full: connections are closed");
-    if !await_end(rt, shared) {
+    if !await_end(rt, shared, number) {
         return false;
     }
     let Some((journal, report)) = turn(rt, shared) else {
@@ -70,10 +70,12 @@ fn turn_one<
     true
 }
 
-/// Waits until nobody is connected and no exchange is open. False where the desk was shut.
-fn await_end<W: Clock + RandomSource + Drop, L: Ledger, V: Wait + Clock>(
+/// Waits until nobody is connected and no exchange is open, and notes it where that takes long.
+/// False where the desk was shut.
+fn await_end<W: Clock + RandomSource + Drop, L: Ledger, V: Wait + Log + Clock>(
     rt: &V,
     shared: &Shared<W, L>,
+    number: u64,
 ) -> bool {
     let mut looks: u64 = 0;
     for _ in rt.forever() {
@@ -82,6 +84,9 @@ fn await_end<W: Clock + RandomSource + Drop, L: Ledger, V: Wait + Clock>(
         }
         if shared.is_left(rt, looks < LONGEST_LOOKS) && shared.desk.is_quiet(rt) {
             return true;
+        }
+        if looks == LONGEST_LOOKS {
+            note_waiting(rt, number);
         }
         looks = looks.saturating_add(1);
         thread::sleep(rt, Duration::from_millis(LOOK));
@@ -139,6 +144,15 @@ fn is_final(why: TurnReason) -> bool {
         TurnReason::Rotate(fault) => fault == RotateFault::Spent,
         TurnReason::Settle(fault) => fault != SettleFault::Memory,
     }
+}
+
+/// Logs that a journal isn't turned over yet.
+fn note_waiting<V: Log>(rt: &V, number: u64) {
+    warn!(
+        rt;
+        target: "hcproxy",
+        "journal {number} isn't turned over yet: what is in hand is waited for"
+    );
 }
 
 /// Logs that a journal was turned over, and for how long nobody was served.

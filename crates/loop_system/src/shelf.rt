@@ -10,6 +10,9 @@ use std::thread::{self, JoinHandle, Threads};
 use std::time::Instant;
 use transformers::Relation;
 
+/// After how long it is noted that a journal isn't turned over yet, in milliseconds.
+const LONG: u128 = 10_000;
+
 /// The journals that were turned over, and the turn that is under way.
 #[derive(Drop)]
 pub struct Shelf {
@@ -21,6 +24,8 @@ pub struct Shelf {
     noted: bool,
     /// when it was
     begin: Option<Instant>,
+    /// It isn't turned over yet after a long time, and that was noted.
+    waiting: bool,
 }
 
 impl Shelf {
@@ -31,21 +36,45 @@ impl Shelf {
             number: 1,
             noted: false,
             begin: None,
+            waiting: false,
         }
     }
 
-    /// Notes that the journal is to be turned over, where that wasn't noted.
+    /// Notes that the journal is to be turned over, where that wasn't noted, and that it isn't yet
+    /// where that takes long.
     pub fn look<V: Log + Clock>(&mut self, rt: &V, turning: bool) {
         if turning && !self.noted {
             let number = self.number;
             info!(rt; target: "hcproxy", "journal {number} is nearly full: no connection is taken");
             self.noted = true;
             self.begin = Instant::now(rt).ok();
+        } else if turning && !self.waiting {
+            self.note_waiting(rt);
         }
     }
 
-    /// Has the archive keep the journal that was turned over, in a thread of its own, while others are
-    /// served. It waits until the one before is kept.
+    /// Notes that the journal isn't turned over yet, once that takes long.
+    fn note_waiting<V: Log + Clock>(&mut self, rt: &V) {
+        let time = match &self.begin {
+            Some(begin) => begin.elapsed(rt).ok(),
+            None => None,
+        };
+        self.waiting = match time {
+            Some(time) => time.as_millis() >= LONG,
+            None => false,
+        };
+        if self.waiting {
+            let number = self.number;
+            warn!(
+                rt;
+                target: "hcproxy",
+                "journal {number} isn't turned over yet: what is in hand is waited for"
+            );
+        }
+    }
+
+    /// Has the archive keep the journal that was turned over, in a thread of its own, while others
+    /// are served. It waits until the one before is kept.
     pub fn keep<V: Threads + Log + Clock, A: Archive<Profile> + Drop + Send + Sync + 'static>(
         &mut self,
         rt: &V,
@@ -61,6 +90,7 @@ impl Shelf {
         }
         self.number = self.number.saturating_add(1);
         self.noted = false;
+        self.waiting = false;
     }
 
     /// The loop ends: has the archive keep what there is of this journal, after those before it.
