@@ -38,11 +38,10 @@ use Rattle.exchange_progress.specs.declared.coming.Coming.TheVariants as Comes
 use Rattle.exchange_progress.specs.declared.coming.Ended.{Ended}
 use Rattle.exchange_progress.specs.declared.coming.Ended.TheVariants as How
 use Rattle.exchange_progress.specs.declared.coming.Onward.{Onward}
-use Rattle.exchange_core.specs.declared.matter.Answered.{Answered}
 use Rattle.exchange_core.specs.declared.matter.Matter.{Matter as RustMatter}
 use Rattle.exchange_core.specs.declared.matter.Matter.TheVariants as M
 use Rattle.exchange_core.specs.Notifying.{is_alone, matter_alone}
-use Rattle.exchange_core.specs.Matters.{Answer, IsAnswered, IsAskedFor, IsFewTimes, IsMatter, IsNextFor, IsNextToken, IsPrepared, more_in, answer_in, comes_or_renews, matter_for, matter_with, replied_to}
+use Rattle.exchange_core.specs.Matters.{Answer, IsAnsweredSo, IsAskedFor, IsFewTimes, IsMatter, IsNextFor, IsNextToken, IsPrepared, more_in, answer_in, comes_or_renews, matter_for, matter_with, replied_to}
 use Rattle.exchange_core.specs.Renewing.{unless_confirmed}
 
 -- it is the same as by the news
@@ -92,30 +91,34 @@ answer-stands no_news token S a e = absurd (none-some a e)
 answer-stands (timed_out of) token S a e = absurd (none-some a e)
 answer-stands was_dropped token S a e = absurd (none-some a e)
 
+pub found-in : (q : Exchange → Bool) (es : List Exchange) (e : Exchange) → find q es ≡ Some e → Contains es e
+found-in q es e is = (find-some q es e is).0
+
 pub few-found : (q : Exchange → Bool) (es : List Exchange) (e : Exchange) → AllByRecursion IsFewTimes es → find q es ≡ Some e → IsFewTimes e
-few-found q es e all is = all-of IsFewTimes es e all (find-some q es e is).0
+few-found q es e all is = all-of IsFewTimes es e all (found-in q es e is)
 
 -- what is found
 
-pub response-none : (n : ℕ) (m : Content) (token : List ℕ) (S : State) → find (is_under token) S.exchanges ≡ None → IsAnswered n None (answer_in (response m) token S)
-response-none n m token S e = ap (λ (v : Option Exchange). replied_to v (comes_or_renews m S)) e
-
 pub response-some : (n : ℕ) (m : Content) (token : List ℕ) (S : State) (e : Exchange) (c : Coming) → find (is_under token) S.exchanges ≡ Some e → n ≡ length S.entries
     → IsComing n c (unless_confirmed (stale_in e.opening S.stales) n m (comes_by S.entries S.pieces e n m))
-    → IsAnswered n (Some (record { exchange = e; coming = c })) (answer_in (response m) token S)
-response-some n m token S e c is number comes = (
-  unless_confirmed (stale_in e.opening S.stales) n m (comes_by S.entries S.pieces e n m),
-  ap (λ (v : Option Exchange). replied_to v (comes_or_renews m S)) is
-      ∙ ap (λ (k : ℕ). Some (record { exchange = e; progress = unless_confirmed (stale_in e.opening S.stales) k m (comes_by S.entries S.pieces e k m) })) (sym number),
-  comes,
+    → IsAnsweredSo (length S.entries) e c (answer_in (response m) token S)
+response-some n m token S e c is number comes =
+    let u : ℕ → Progress = λ k. unless_confirmed (stale_in e.opening S.stales) k m (comes_by S.entries S.pieces e k m) in (
+      u (length S.entries),
+      ap (λ (v : Option Exchange). replied_to v (comes_or_renews m S)) is,
+      subst (λ (k : ℕ). IsComing k c (u k)) number comes,
+    )
+
+pub reset-none : (of token : List ℕ) (S : State) → find (is_under of) S.exchanges ≡ None → answer_in (was_reset of) token S ≡ None
+reset-none of token S e = ap (λ (v : Option Exchange). replied_to v (λ x. Ends Reset)) e
+
+pub reset-some : (n : ℕ) (of token : List ℕ) (S : State) (e : Exchange) (x : Ended) → find (is_under of) S.exchanges ≡ Some e → n ≡ length S.entries → IsEnded n x Reset
+    → IsAnsweredSo (length S.entries) e (Comes.Ends x) (answer_in (was_reset of) token S)
+reset-some n of token S e x is number ended = (
+  Ends Reset,
+  ap (λ (v : Option Exchange). replied_to v (λ y. Ends Reset)) is,
+  (Reset, refl, subst (λ (k : ℕ). IsEnded k x Reset) number ended),
 )
-
-pub reset-none : (n : ℕ) (of token : List ℕ) (S : State) → find (is_under of) S.exchanges ≡ None → IsAnswered n None (answer_in (was_reset of) token S)
-reset-none n of token S e = ap (λ (v : Option Exchange). replied_to v (λ x. Ends Reset)) e
-
-pub reset-some : (n : ℕ) (of token : List ℕ) (S : State) (e : Exchange) (x : Ended) → find (is_under of) S.exchanges ≡ Some e → IsEnded n x Reset
-    → IsAnswered n (Some (record { exchange = e; coming = Comes.Ends x })) (answer_in (was_reset of) token S)
-reset-some n of token S e x is ended = (Ends Reset, ap (λ (v : Option Exchange). replied_to v (λ y. Ends Reset)) is, (Reset, refl, ended))
 
 -- what is prepared of it
 
@@ -213,7 +216,7 @@ module _ (t word : ℕ) (p : Peer) (link : LinkValue) (x : Heeding) (told : Told
   abbrev place : Bool
   place = has_next_place t p x.verdict S
 
-  pub prepared-nothing : IsAnswered (length S.entries) None (answer_in told x.token S) → IsPrepared t word link x S M.Nothing (matter_for t p x told S)
+  pub prepared-nothing : answer_in told x.token S ≡ None → IsPrepared t word link x S M.Nothing (matter_for t p x told S)
   prepared-nothing none =
       let is : matter_for t p x told S ≡ Nothing = ap (matter_with place) none in
       prepared-still t word link x S token M.Nothing (matter_for t p x told S) fresh (ap goes_with is) refl (λ new. is)
@@ -223,12 +226,12 @@ module _ (t word : ℕ) (p : Peer) (link : LinkValue) (x : Heeding) (told : Told
   over-by e ended how is ends =
       prepared-still t word link x S token (M.Over e ended) (matter_for t p x told S) fresh (ap goes_with is) refl (λ new. (how, is, ends))
 
-  pub prepared-ends : (e : Exchange) (ended : Ended) → IsAnswered (length S.entries) (Some (record { exchange = e; coming = Comes.Ends ended })) (answer_in told x.token S)
+  pub prepared-ends : (e : Exchange) (ended : Ended) → IsAnsweredSo (length S.entries) e (Comes.Ends ended) (answer_in told x.token S)
       → IsPrepared t word link x S (M.Over e ended) (matter_for t p x told S)
   prepared-ends e ended h =
       over-by e ended h.2.0 (ap (matter_with place) h.1 ∙ ap (replied place e) h.2.1) h.2.2
 
-  pub prepared-turned : (e : Exchange) (o : Onward) → place ≡ false → IsAnswered (length S.entries) (Some (record { exchange = e; coming = Comes.Goes o })) (answer_in told x.token S)
+  pub prepared-turned : (e : Exchange) (o : Onward) → place ≡ false → IsAnsweredSo (length S.entries) e (Comes.Goes o) (answer_in told x.token S)
       → IsPrepared t word link x S (M.Over e How.Turned) (matter_for t p x told S)
   prepared-turned e o full h =
       over-by e How.Turned Turned (ap (matter_with place) h.1 ∙ (ap (replied place e) h.2.is ∙ turned-with place e o.work h.2.got full)) refl
@@ -236,7 +239,7 @@ module _ (t word : ℕ) (p : Peer) (link : LinkValue) (x : Heeding) (told : Told
   pub prepared-goes : (e : Exchange) (o : Onward) (q : CoapRequest) (s : Submission) → AllByRecursion IsFewTimes S.exchanges → AllByRecursion (IsAskedFor S.entries) S.exchanges
       → place ≡ true → asked_in S.entries e.ask ≡ Some q
       → IsNextFor t word link x q o.block token s
-      → IsAnswered (length S.entries) (Some (record { exchange = e; coming = Comes.Goes o })) (answer_in told x.token S)
+      → IsAnsweredSo (length S.entries) e (Comes.Goes o) (answer_in told x.token S)
       → IsPrepared t word link x S (M.Goes (record { exchange = e; onward = o; token = token; submission = s })) (matter_for t p x told S)
   prepared-goes e o q s few worked free asked next h =
       let u : Progress = progress_with o.work h.2.got in
@@ -270,10 +273,6 @@ module _ (t word : ℕ) (p : Peer) (link : LinkValue) (x : Heeding) (told : Told
           named-by S q o.block o.work h.2.got e (comes-by told x.token S (record { exchange = e; progress = h.0 }) h.1) h.2.is h.2.block h.2.fetches
           ((all-of (IsAskedFor S.entries) S.exchanges e worked stands).1 q asked) (all-of IsFewTimes S.exchanges e few stands)
 
-pub few-some : (v : Option Exchange) (token : List ℕ) (es : List Exchange) → AllByRecursion IsFewTimes es → v ≡ find (is_under token) es → IfSome v IsFewTimes
-few-some None token es all is = tt
-few-some (Some e) token es all is = few-found (is_under token) es e all (sym is)
-
 -- the text of the next message
 
 pub sent-for : (sense : Sense) (q : CoapRequest) (block : Option Block) (token text : List ℕ) → request_in sense ≡ Some q → IsSentFor sense (block_named sense block) 0 token (Some text)
@@ -298,10 +297,8 @@ sent-unnumbered (Refuses cause status) block token text sent = absurd (some-none
 
 -- the request of the exchange that is answered
 
-pub asked-for : (n : ℕ) (told : Told) (token : List ℕ) (S : State) (a : Answered) → AllByRecursion (IsAskedFor S.entries) S.exchanges → IsAnswered n (Some a) (answer_in told token S)
-    → is_some (asked_in S.entries a.exchange.ask) ≡ true
-asked-for n told token S a all h =
-    (all-of (IsAskedFor S.entries) S.exchanges a.exchange all (answer-stands told token S (record { exchange = a.exchange; progress = h.0 }) h.1)).0
+pub asked-for : (S : State) (e : Exchange) → AllByRecursion (IsAskedFor S.entries) S.exchanges → Contains S.exchanges e → is_some (asked_in S.entries e.ask) ≡ true
+asked-for S e all stands = (all-of (IsAskedFor S.entries) S.exchanges e all stands).0
 
 pub request-of : (ws : List Written) (e : Exchange) → is_some (asked_in ws e.ask) ≡ true → (q : CoapRequest) × (asked_in ws e.ask ≡ Some q)
 request-of ws e some = by (asked_in ws e.ask) some

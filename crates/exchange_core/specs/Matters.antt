@@ -25,9 +25,9 @@ use Rattle.exchange_model.specs.Hearing.{Numbers}
 use Rattle.exchange_model.specs.Calls.{goes_with, is_reader_of}
 use Rattle.exchange_model.specs.Growing.{IsFewTimes as WorkedFew, IsWorkOf}
 use Rattle.exchange_model.specs.Laws.{IsContinued}
+use Rattle.exchange_progress.specs.declared.coming.Coming.{Coming}
 use Rattle.exchange_progress.specs.Coming.{IsComing, IsEnded, IsOnward, found_for, renews}
 use Rattle.exchange_core.specs.declared.ending.Telling.{Telling}
-use Rattle.exchange_core.specs.declared.matter.Answered.{Answered}
 use Rattle.exchange_core.specs.declared.matter.Matter.{Matter as RustMatter}
 use Rattle.exchange_core.specs.declared.matter.Matter.TheVariants as M
 use Rattle.exchange_core.specs.Calls.{IsWordedBy}
@@ -55,11 +55,10 @@ answer_in (response m) token S =
 answer_in (was_reset of) token S = replied_to (find (is_under of) S.exchanges) (λ e. Ends Reset)
 answer_in told token S = None
 
-abbrev pub IsAnswered : ℕ → Option Answered → Option Answer → Type 0
-IsAnswered n None v = v ≡ None
-IsAnswered n (Some a) v =
-    (u : Progress) × (v ≡ Some (record { exchange = a.exchange; progress = u }))
-    × IsComing n a.coming u
+-- It is answered: this exchange comes to that by the entry with this number.
+abbrev pub IsAnsweredSo : ℕ → Exchange → Coming → Option Answer → Type 0
+IsAnsweredSo n e coming v =
+    (u : Progress) × (v ≡ Some (record { exchange = e; progress = u })) × IsComing n coming u
 
 -- what it is to the exchanges, where there is a place for a next message or not
 abbrev pub matter_with : Bool → Option Answer → Matter

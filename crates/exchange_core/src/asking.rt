@@ -18,6 +18,7 @@ ghost use Rattle.exchange_core.specs.States.{state_of, seen, number_in};
 
 use crate::answer::Ticket;
 use crate::beginning::{Begun, begin};
+use crate::draft::Draft;
 use crate::fault::AskFault;
 use crate::joining::{find_joined, join};
 use crate::numbering::token_of;
@@ -134,6 +135,7 @@ fn read_stored<R: Relation>(
 fn ask_peer<R: Relation>(
     alloc: Global,
     s: &mut State<R>,
+    draft: &mut Draft<R>,
     moment: u64,
     word: u64,
     conn: u32,
@@ -162,7 +164,7 @@ fn ask_peer<R: Relation>(
     if s.exchanges.as_slice().len() >= MAX_EXCHANGES {
         return turn_away(alloc, s, moment, word, conn, mapped, Cause::Busy);
     }
-    let begun = match begin(alloc, s, moment, word, conn, mapped, peer) {
+    let begun = match begin(alloc, s, draft, moment, word, conn, mapped, peer) {
         Ok(begun) => begun,
         Err(fault) => return Err(fault),
     };
@@ -176,6 +178,7 @@ fn ask_peer<R: Relation>(
 pub fn ask<R: Relation>(
     alloc: Global,
     s: &mut State<R>,
+    draft: &mut Draft<R>,
     moment: u64,
     word: u64,
     conn: u32,
@@ -196,6 +199,6 @@ pub fn ask<R: Relation>(
     let _came = mapped.came();
     match *mapped.meaning() {
         Meaning::Refuse(cause, _) => turn_away(alloc, s, moment, word, conn, mapped, cause),
-        Meaning::Ask { peer, .. } => ask_peer(alloc, s, moment, word, conn, mapped, peer),
+        Meaning::Ask { peer, .. } => ask_peer(alloc, s, draft, moment, word, conn, mapped, peer),
     }
 }

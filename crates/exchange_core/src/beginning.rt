@@ -35,7 +35,7 @@ use crate::numbering::token_of;
 use crate::room;
 use crate::sealing::seal;
 use crate::sending::draft_first;
-use crate::state::{State, commit, make_places, start};
+use crate::state::{State, commit, make_places, start_anew};
 use crate::watching::{renew, tokens_renewed};
 use crate::wording::{First, first_of};
 use ask_model::{Mapped, Meaning};
@@ -65,28 +65,28 @@ pub enum Begun<R: Relation> {
 
 /// The ask of a connection, and its message where that goes out at once.
 fn draft_ask<R: Relation>(
-    alloc: Global,
     s: &State<R>,
+    draft: &mut Draft<R>,
     moment: u64,
     conn: u32,
     mapped: &Arc<Mapped<R>>,
     peer: Peer,
     sent: &Option<FirstSending>,
-) -> Result<Draft<R>, AllocError>
+) -> Result<(), AllocError>
     requires few { length s.now.journal.entries ≤ MAX_ENTRIES }
     requires timely { IsTimed sent.now }
-    ensures drafts { IfOk result (λ d. Drafts moment (state_of s.now)
-        (Asks conn (ask_of (arc_value mapped.now)) ∷ sent_first peer sent.now) d) }
-    ensures answers { IfOk result (λ d. d.answers ≡ []) }
+    ensures drafts { OnOk result (Drafts moment (state_of s.now)
+        (Asks conn (ask_of (arc_value mapped.now)) ∷ sent_first peer sent.now) draft.new) }
+    ensures answers { OnOk result (draft.new.answers ≡ []) }
 {
     let asked = Arc::try_clone(mapped)?;
-    let mut draft = start(alloc, s);
+    start_anew(draft, s);
     draft.enter(Entry {
         moment,
         event: Event::Asked(conn, asked),
     })?;
-    draft_first(&mut draft, moment, peer, sent)?;
-    Ok(draft)
+    draft_first(draft, moment, peer, sent)?;
+    Ok(())
 }
 
 /// Notes what the exchange with this opening asks about, if it does. There is room for it.
@@ -110,13 +110,13 @@ fn add_exchange<R: Relation>(
     keeps: Option<StoredResponse>,
     submission: Submission,
     gone: &[Token],
-    draft: Draft<R>,
+    draft: &mut Draft<R>,
     moment: u64,
 )
     requires early { moment ≤ LAST_MOMENT }
     requires issued { s.old.issued < 4294967295 }
-    requires places { HasPlaces s.old draft }
-    requires few { length s.old.journal.entries + length draft.entries ≤ MAX_ENTRIES }
+    requires places { HasPlaces s.old draft.old }
+    requires few { length s.old.journal.entries + length draft.old.entries ≤ MAX_ENTRIES }
     requires ordered { IsOrdered (state_of s.old) }
     requires exchange { s.old.exchanges.room ≡ true }
     requires reader { s.old.readers.room ≡ true }
@@ -127,11 +127,11 @@ fn add_exchange<R: Relation>(
     requires may { MaySubmit moment (link_at s.old.endpoints exchange.peer) submission }
     requires gone { gone.now ≡ tokens_of (is_renewed_for mapped.now.sense) s.old.watches.standing }
     ensures state { state_of s.new ≡ with_exchange moment mapped.now.sense exchange reader keeps
-        submission.waiting (with_draft moment draft (state_of s.old)) }
-    ensures bytes { s.new.bytes ≡ capped (s.old.bytes + capped (sum_by entry_size draft.entries)) }
+        submission.waiting (with_draft moment draft.old (state_of s.old)) }
+    ensures bytes { s.new.bytes ≡ capped (s.old.bytes + capped (sum_by entry_size draft.old.entries)) }
     ensures held { length s.old.conns.items + 1 ≤ s.new.journal.room }
-    ensures answers { given_in s.new ≡ given_in s.old ++ draft.answers }
-    ensures sends { outgoing s.new ≡ outgoing s.old ++ draft.sends }
+    ensures answers { given_in s.new ≡ given_in s.old ++ draft.old.answers }
+    ensures sends { outgoing s.new ≡ outgoing s.old ++ draft.old.sends }
 {
     let peer = exchange.peer;
     let opening = exchange.opening;
@@ -230,7 +230,7 @@ fn enter<R: Relation>(
     keeps: Option<StoredResponse>,
     submission: Submission,
     gone: &[Token],
-    draft: Draft<R>,
+    draft: &mut Draft<R>,
     moment: u64,
 ) -> Result<(), AskFault>
     requires sound { IsSound s.old }
@@ -242,14 +242,14 @@ fn enter<R: Relation>(
     requires may { MaySubmit moment (link_at s.old.endpoints exchange.peer) submission }
     requires gone { gone.now ≡ tokens_of (is_renewed_for mapped.now.sense) s.old.watches.standing }
     ensures { IsEntered result moment mapped.now.sense exchange reader keeps submission.waiting
-        draft s.old s.new }
+        draft.old s.old s.new }
 {
-    let taken = room::takes(alloc, s, &draft)?;
+    let taken = room::takes(alloc, s, draft)?;
     if !taken {
         seal(s, moment);
         return Err(AskFault::Sealed);
     }
-    make_all_places(s, &draft)?;
+    make_all_places(s, draft)?;
     add_exchange(
         s, mapped, exchange, reader, keeps, submission, gone, draft, moment,
     );
@@ -289,6 +289,7 @@ struct Prepared {
 fn ask<R: Relation>(
     alloc: Global,
     s: &mut State<R>,
+    draft: &mut Draft<R>,
     moment: u64,
     word: u64,
     conn: u32,
@@ -319,7 +320,7 @@ fn ask<R: Relation>(
         gone,
     } = message;
     let sent = &submission.sent;
-    let draft = draft_ask(alloc, s, moment, conn, &mapped, peer, sent)?;
+    draft_ask(s, draft, moment, conn, &mapped, peer, sent)?;
     let number = s.journal.len() as u32;
     let observes = first.observes;
     let exchange = exchange_of(number, moment, token, peer, &mapped, observes, sent);
@@ -348,6 +349,7 @@ fn ask<R: Relation>(
 pub fn begin<R: Relation>(
     alloc: Global,
     s: &mut State<R>,
+    draft: &mut Draft<R>,
     moment: u64,
     word: u64,
     conn: u32,
@@ -379,7 +381,7 @@ pub fn begin<R: Relation>(
                 submission,
                 gone,
             };
-            match ask(alloc, s, moment, word, conn, mapped, message) {
+            match ask(alloc, s, draft, moment, word, conn, mapped, message) {
                 Ok(ticket) => Ok(Begun::Asked(ticket)),
                 Err(fault) => Err(fault),
             }

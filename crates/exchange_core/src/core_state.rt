@@ -22,6 +22,7 @@ ghost use Rattle.exchange_core.specs.Rotating.{IsRefused, IsTurned};
 ghost use Rattle.exchange_core.specs.Taking.{IsTaken, IsSent};
 
 use crate::answer::{Answer, Ticket};
+use crate::draft::Draft;
 use crate::fault::{AskFault, OpenFault, RotateFault};
 use crate::outgoing::Datagram;
 use crate::snapshot::Snapshot;
@@ -48,12 +49,18 @@ use uri_map::Peer;
 pub struct Core<R: Relation> {
     alloc: Global,
     state: State<R>,
+    /// the queues of what an ask or a datagram adds, which stay for the next
+    draft: Draft<R>,
 }
 
 /// As derived; but written here, how all that it has is dropped is proved in this crate alone.
 impl<R: Relation> Drop for Core<R> {
     fn drop(self) {
-        let Core { alloc: _, state: _ } = self;
+        let Core {
+            alloc: _,
+            state: _,
+            draft: _,
+        } = self;
     }
 }
 
@@ -98,6 +105,7 @@ impl<R: Relation> Core<R> {
                 answers: Vec::new(alloc),
                 sends: VecDeque::new(alloc),
             },
+            draft: Draft::new(alloc, 0),
         })
     }
 
@@ -173,7 +181,15 @@ impl<R: Relation> Core<R> {
             → HasConn self.old.state.conns conn None → ⊥ }
     {
         let moment = self.now(moment);
-        asking::ask(self.alloc, &mut self.state, moment, word, conn, mapped)
+        asking::ask(
+            self.alloc,
+            &mut self.state,
+            &mut self.draft,
+            moment,
+            word,
+            conn,
+            mapped,
+        )
     }
 
     /// Takes a datagram that came from this endpoint at this moment (RFC 7252 sections 4.2 to 4.5
@@ -197,7 +213,15 @@ impl<R: Relation> Core<R> {
         ensures kept { KeptInRoom self.old.state }
     {
         let moment = self.now(moment);
-        hearing::hear(self.alloc, &mut self.state, moment, word, peer, datagram)
+        hearing::hear(
+            self.alloc,
+            &mut self.state,
+            &mut self.draft,
+            moment,
+            word,
+            peer,
+            datagram,
+        )
     }
 
     /// Does what is due at this moment (RFC 7252 sections 4.2 and 4.8.2): copies go out; messages

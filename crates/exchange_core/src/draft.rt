@@ -1,6 +1,8 @@
 //! What a step adds, built before anything changes.
 
-ghost use Rattle.std.specs.Prelude.{◌≡◌, ◌+◌, ◌≤◌, ◌<◌, ◌^◌, ◌∷◌, ◌++◌, [], List, length, map, sum_by, OnOk};
+ghost use Rattle.std.specs.Prelude.{◌≡◌, ◌+◌, ◌≤◌, ◌<◌, ◌^◌, ◌∷◌, ◌++◌, [], true, List, length, map, sum_by, vec_capacity, vec_len, OnOk};
+ghost use Rattle.std.specs.VecDeque.{deque_capacity, deque_len};
+ghost use Rattle.limits.specs.declared.TheConstants.{MAX_ENTRIES};
 ghost use Rattle.ask_model.specs.Sizes.{capped};
 ghost use Rattle.journal_book.specs.Entries.{Deed, Sends, Answers, entry_size};
 ghost use Rattle.journal_book.specs.Views.{event_of, item_of};
@@ -10,13 +12,17 @@ ghost use Rattle.exchange_core.specs.Values.{outgoing_of};
 ghost use Rattle.exchange_core.specs.Answering.{given_of, answer_entry};
 ghost use Rattle.exchange_core.specs.Places.{id_of};
 ghost use Rattle.exchange_table.specs.Places.{RiseBy};
+ghost use Rattle.exchange_table.specs.Readers.{ask_in};
+ghost use Rattle.exchange_core.specs.States.{readers_with};
 ghost use Rattle.exchange_core.specs.Drafts.{AllKeep, Drafts, IsAlone, KeepsConns, empty_draft, draft_with, draft_sending, draft_answering};
 
 use crate::answer::Answer;
 use crate::noting::note_all;
 use crate::outgoing::Datagram;
+use crate::pouring::{add_all, put_answers, put_sends};
 use exchange_model::Conn;
-use journal_book::{Entry, Event};
+use exchange_table::Readers;
+use journal_book::{Entry, Event, Journal};
 use message_layer::Bytes;
 use std::alloc::{AllocError, Global};
 use std::collections::VecDeque;
@@ -39,10 +45,10 @@ pub struct Draft<R: Relation> {
 
 /// The parts of a draft.
 #[derive(Drop)]
-pub struct Parts<R: Relation> {
-    pub entries: VecDeque<Entry<R>>,
-    pub sends: VecDeque<Datagram>,
-    pub answers: VecDeque<Answer<R>>,
+struct Parts<R: Relation> {
+    entries: VecDeque<Entry<R>>,
+    sends: VecDeque<Datagram>,
+    answers: VecDeque<Answer<R>>,
 }
 
 impl<R: Relation> Model for Draft<R> {
@@ -131,14 +137,60 @@ impl<R: Relation> Draft<R> {
         self.parts.answers.len()
     }
 
-    /// The entries, the datagrams and the answers.
-    pub fn into_parts(self) -> Parts<R>
-        ensures entries { map item_of result.entries.items ≡ self.entries }
-        ensures keep { AllKeep self.entries }
-        ensures sends { map outgoing_of result.sends.items ≡ self.sends }
-        ensures answers { map given_of result.answers.items ≡ self.answers }
+    /// Nothing yet, where there are so many entries. What was drafted before is let go; its queues
+    /// stay.
+    pub fn begin(&mut self, entries: u32)
+        ensures { self.new ≡ empty_draft entries }
     {
-        self.parts
+        self.parts.entries.clear();
+        self.parts.sends.clear();
+        self.parts.answers.clear();
+        self.next = entries;
+        self.bytes = 0;
+    }
+
+    /// Adds the entries, for which there are places, and notes what they do to the connections, and
+    /// to those who wait.
+    pub fn pour_entries(
+        &mut self,
+        journal: &mut Journal<R>,
+        conns: &mut Vec<Conn>,
+        readers: &mut Readers,
+    )
+        requires room { length self.old.entries ≤ journal.old.room }
+        requires few { length journal.old.entries + length self.old.entries ≤ MAX_ENTRIES }
+        requires conns { RiseBy id_of conns.old.items }
+        requires readers { RiseBy ask_in readers.old.items }
+        ensures entries { journal.new.entries ≡ journal.old.entries ++ self.old.entries }
+        ensures room { journal.new.room + length self.old.entries ≡ journal.old.room }
+        ensures conns { conns.new.items
+            ≡ conns_with conns.old.items (length journal.old.entries) self.old.entries }
+        ensures readers { readers.new.items ≡ readers_with readers.old.items self.old.entries }
+        ensures place { readers.old.room ≡ true → readers.new.room ≡ true }
+        ensures sends { self.new.sends ≡ self.old.sends }
+        ensures answers { self.new.answers ≡ self.old.answers }
+    {
+        add_all(journal, conns, readers, &mut self.parts.entries);
+        self.bytes = 0;
+    }
+
+    /// Puts the datagrams, for which there are places, after those that there are.
+    pub fn pour_sends(&mut self, sends: &mut VecDeque<Datagram>)
+        requires { deque_len sends.old + length self.old.sends ≤ deque_capacity sends.old }
+        ensures sends { map outgoing_of sends.new.items
+            ≡ map outgoing_of sends.old.items ++ self.old.sends }
+        ensures answers { self.new.answers ≡ self.old.answers }
+    {
+        put_sends(sends, &mut self.parts.sends);
+    }
+
+    /// Puts the answers, for which there are places, after those that there are.
+    pub fn pour_answers(&mut self, answers: &mut Vec<Answer<R>>)
+        requires { vec_len answers.old + length self.old.answers ≤ vec_capacity answers.old }
+        ensures { map given_of answers.new.items
+            ≡ map given_of answers.old.items ++ self.old.answers }
+    {
+        put_answers(answers, &mut self.parts.answers);
     }
 
     /// An entry more, which neither sends nor answers.

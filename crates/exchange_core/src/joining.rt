@@ -100,7 +100,8 @@ pub fn join<R: Relation>(
     }
     make_places(s, &draft)?;
     s.readers.make_room()?;
-    commit(s, draft, moment);
+    let mut draft = draft;
+    commit(s, &mut draft, moment);
     touch(&mut s.watches, moment, &mapped);
     s.exchanges.read(opening, moment);
     s.readers.push_in_room(Reader { ask, conn, opening });

@@ -9,6 +9,7 @@
 mod answer;
 mod asking;
 mod beginning;
+mod changing;
 mod core_state;
 mod draft;
 mod due;
@@ -25,6 +26,7 @@ mod opening;
 mod outgoing;
 mod passing;
 mod places;
+mod pouring;
 mod recalling;
 mod refusing;
 mod renewing;

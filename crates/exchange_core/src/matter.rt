@@ -1,20 +1,23 @@
 //! What a datagram is to the open exchanges.
 
-ghost use Rattle.std.specs.Prelude.{◌≡◌, ◌≤◌, ◌<◌, ◌^◌, None, Some, true, is_some, IfOk, IfSome, length};
-ghost use Rattle.std.specs.List.{AllByRecursion, find};
+ghost use Rattle.std.specs.Prelude.{ℕ, ◌≡◌, ◌≤◌, ◌<◌, ◌^◌, List, None, Some, true, is_some, IfOk, IfSome, length};
+ghost use Rattle.std.specs.List.{AllByRecursion, Contains, find};
 ghost use Rattle.coap_codec.specs.Spelling.{Spells, content};
 ghost use Rattle.limits.specs.declared.TheConstants.{LAST_MOMENT, MAX_ENTRIES, MAX_MESSAGE_LEN};
 ghost use Rattle.ask_model.specs.Requests.{CoapRequest, block_message};
 ghost use Rattle.ask_model.specs.Datagrams.{block_or_first};
 ghost use Rattle.blockwise.specs.Downloads.{IsSayable};
-ghost use Rattle.message_layer.specs.Values.{told};
+ghost use Rattle.uri_map.specs.declared.peer.Peer.{Peer as PeerValue};
+ghost use Rattle.message_layer.specs.Values.{LinkValue, Told, response, was_reset};
 ghost use Rattle.message_layer.specs.Prepared.{IsUnnumberedCon, MayHeed};
+ghost use Rattle.message_layer.specs.declared.prepared.Heeding.{Heeding as HeedingValue};
 ghost use Rattle.endpoint_table.specs.Tables.{link_at};
 ghost use Rattle.exchange_model.specs.State.{link_of};
 ghost use Rattle.exchange_model.specs.Steps.{is_under};
 ghost use Rattle.exchange_model.specs.Matters.{asked_in, has_next_place, stale_in};
+ghost use Rattle.exchange_progress.specs.declared.coming.Coming.TheVariants as Comes;
 ghost use Rattle.exchange_progress.specs.Coming.{AsksSayable, IsComing, comes_by};
-ghost use Rattle.exchange_core.specs.Matters.{IsAnswered, IsAskedFor, IsFewTimes, IsNextFor, IsNextToken, IsPrepared, answer_in, matter_for, next_in};
+ghost use Rattle.exchange_core.specs.Matters.{IsAnsweredSo, IsAskedFor, IsFewTimes, IsNextFor, IsNextToken, IsPrepared, answer_in, matter_for, next_in};
 ghost use Rattle.exchange_core.specs.Renewing.{unless_confirmed};
 ghost use Rattle.exchange_core.specs.States.{state_of};
 
@@ -27,19 +30,12 @@ use exchange_model::Exchange;
 use exchange_progress::{Coming, Ended, Onward, comes_to};
 use exchange_table::asked;
 use journal_book::Journal;
-use message_layer::{FirstSending, Heeding, LinkFault, Submission, Up};
+use message_layer::{FirstSending, Heeding, LinkFault, Submission};
 use reply_reading::Finding;
 use resp_cache::StoredResponse;
 use std::alloc::{AllocError, Global};
 use transformers::Relation;
 use uri_map::Peer;
-
-/// The exchange that a datagram answers, and what that comes to.
-#[derive(Drop)]
-pub struct Answered {
-    pub exchange: Exchange,
-    pub coming: Coming,
-}
 
 /// An exchange that goes on, with its next message.
 #[derive(Drop)]
@@ -89,15 +85,6 @@ pub enum Matter {
     Over(Exchange, Ended),
 }
 
-/// The exchange whose latest message goes under the token.
-fn exchange_under<R: Relation>(s: &State<R>, token: &Token) -> Option<Exchange>
-    requires { AllByRecursion IsFewTimes s.now.exchanges.exchanges }
-    ensures is { result ≡ find (is_under token.now) s.now.exchanges.exchanges }
-    ensures few { IfSome result IsFewTimes }
-{
-    s.exchanges.find(token).copied()
-}
-
 /// What the exchange comes to by the reply, which the entry with this number bears.
 fn coming_of<R: Relation>(
     alloc: Global,
@@ -138,41 +125,6 @@ fn replied_to<R: Relation>(
         }
     }
     coming_of(alloc, s, exchange, number, message)
-}
-
-/// The exchange that the datagram answers, by what its link tells of it, and what that comes to by
-/// the entry with this number.
-fn answer_in<R: Relation>(
-    alloc: Global,
-    s: &State<R>,
-    number: u32,
-    token: &Token,
-    up: Up,
-) -> Result<Option<Answered>, AllocError>
-    requires number { number ≡ length s.now.journal.entries }
-    requires few { AllByRecursion IsFewTimes s.now.exchanges.exchanges }
-    ensures is { IfOk result
-        (λ o. IsAnswered number o (answer_in (told up) token.now (state_of s.now))) }
-    ensures sayable { IfOk result (λ o. IfSome o (λ a. AsksSayable a.coming)) }
-{
-    match up {
-        Up::Response(message) => {
-            let Some(exchange) = exchange_under(s, token) else {
-                return Ok(None);
-            };
-            let coming = replied_to(alloc, s, &exchange, number, message)?;
-            Ok(Some(Answered { exchange, coming }))
-        }
-        Up::Reset(of) => {
-            let Some(exchange) = exchange_under(s, &of) else {
-                return Ok(None);
-            };
-            let finding = Finding::fault(Cause::Reset, number);
-            let coming = Coming::Ends(Ended::Found(finding));
-            Ok(Some(Answered { exchange, coming }))
-        }
-        _ => Ok(None),
-    }
 }
 
 /// The message for this block of what the ask with this number was for, or of its body, or for the
@@ -234,8 +186,84 @@ pub fn prepare_next<R: Relation>(
     }
 }
 
-/// What the datagram is to the exchanges, by what its link tells of it. A next message goes under
-/// this token.
+/// What it is that an exchange goes on: its next message goes under this token, where there is a
+/// place for that, and else it ends. Apart, so that those that end at once need no room for it.
+#[inline(never)]
+fn goes_on<R: Relation>(
+    alloc: Global,
+    s: &State<R>,
+    moment: u64,
+    word: u64,
+    token: &Token,
+    peer: &Peer,
+    heeding: &Heeding,
+    exchange: &Exchange,
+    onward: Onward,
+) -> Result<Matter, AllocError>
+    requires few { AllByRecursion IsFewTimes s.now.exchanges.exchanges }
+    requires asked { AllByRecursion (IsAskedFor s.now.journal.entries) s.now.exchanges.exchanges }
+    requires open { Contains s.now.exchanges.exchanges exchange.now }
+    requires sayable { IfSome onward.block IsSayable }
+    requires early { moment ≤ LAST_MOMENT }
+    requires ready { MayHeed moment (link_at s.now.endpoints peer.now) heeding.now }
+    requires known { is_some (link_of s.now.endpoints.links peer.now).last_mid ≡ true }
+    requires token { IsNextToken word token.now (state_of s.now) }
+    ensures { (said : Told) → IsAnsweredSo (length s.now.journal.entries) exchange.now
+        (Comes.Goes onward) (answer_in said heeding.now.token (state_of s.now))
+        → IfOk result (λ k. IsPrepared moment word (link_at s.now.endpoints peer.now)
+        heeding.now (state_of s.now) k
+        (matter_for moment peer.now heeding.now said (state_of s.now))) }
+{
+    let ask = exchange.ask;
+    let block = onward.block;
+    let next = prepare_next(alloc, s, moment, word, token, peer, heeding, ask, block)?;
+    match next {
+        Some(submission) => Ok(Matter::Goes(Going {
+            exchange: *exchange,
+            onward,
+            token: *token,
+            submission,
+        })),
+        None => Ok(Matter::Over(*exchange, Ended::Turned)),
+    }
+}
+
+/// What the exchange comes to, as it is prepared.
+fn matter_by<R: Relation>(
+    alloc: Global,
+    s: &State<R>,
+    moment: u64,
+    word: u64,
+    token: &Token,
+    peer: &Peer,
+    heeding: &Heeding,
+    exchange: &Exchange,
+    coming: Coming,
+) -> Result<Matter, AllocError>
+    requires few { AllByRecursion IsFewTimes s.now.exchanges.exchanges }
+    requires asked { AllByRecursion (IsAskedFor s.now.journal.entries) s.now.exchanges.exchanges }
+    requires open { Contains s.now.exchanges.exchanges exchange.now }
+    requires sayable { AsksSayable coming }
+    requires early { moment ≤ LAST_MOMENT }
+    requires ready { MayHeed moment (link_at s.now.endpoints peer.now) heeding.now }
+    requires known { is_some (link_of s.now.endpoints.links peer.now).last_mid ≡ true }
+    requires token { IsNextToken word token.now (state_of s.now) }
+    ensures { (said : Told) → IsAnsweredSo (length s.now.journal.entries) exchange.now coming
+        (answer_in said heeding.now.token (state_of s.now))
+        → IfOk result (λ k. IsPrepared moment word (link_at s.now.endpoints peer.now)
+        heeding.now (state_of s.now) k
+        (matter_for moment peer.now heeding.now said (state_of s.now))) }
+{
+    match coming {
+        Coming::Ends(ended) => Ok(Matter::Over(*exchange, ended)),
+        Coming::Goes(onward) => goes_on(
+            alloc, s, moment, word, token, peer, heeding, exchange, onward,
+        ),
+    }
+}
+
+/// What a response is to the exchange whose latest message goes under its token. A next message
+/// goes under this one.
 pub fn matter_of<R: Relation>(
     alloc: Global,
     s: &State<R>,
@@ -244,41 +272,42 @@ pub fn matter_of<R: Relation>(
     token: &Token,
     peer: &Peer,
     heeding: &Heeding,
-    up: Up,
+    exchange: &Exchange,
+    message: Message,
 ) -> Result<Matter, AllocError>
     requires entries { length s.now.journal.entries ≤ MAX_ENTRIES }
     requires few { AllByRecursion IsFewTimes s.now.exchanges.exchanges }
     requires asked { AllByRecursion (IsAskedFor s.now.journal.entries) s.now.exchanges.exchanges }
+    requires found { find (is_under heeding.now.token) s.now.exchanges.exchanges
+        ≡ Some exchange.now }
     requires early { moment ≤ LAST_MOMENT }
     requires ready { MayHeed moment (link_at s.now.endpoints peer.now) heeding.now }
     requires known { is_some (link_of s.now.endpoints.links peer.now).last_mid ≡ true }
     requires token { IsNextToken word token.now (state_of s.now) }
     ensures { IfOk result (λ k. IsPrepared moment word (link_at s.now.endpoints peer.now)
-        heeding.now (state_of s.now) k
-        (matter_for moment peer.now heeding.now (told up) (state_of s.now))) }
+        heeding.now (state_of s.now) k (matter_for moment peer.now heeding.now
+        (response (content message)) (state_of s.now))) }
 {
     let number = s.journal.len() as u32;
-    let Some(answered) = answer_in(alloc, s, number, &heeding.token, up)? else {
-        return Ok(Matter::Nothing);
+    let coming = replied_to(alloc, s, exchange, number, message)?;
+    matter_by(
+        alloc, s, moment, word, token, peer, heeding, exchange, coming,
+    )
+}
+
+/// What an RST is to the exchanges, by the token of the message that it rejects: that one's ends.
+pub fn reset_of<R: Relation>(s: &State<R>, of: &Token) -> Matter
+    requires { length s.now.journal.entries ≤ MAX_ENTRIES }
+    ensures { (moment word : ℕ) (token : List ℕ) (p : PeerValue) (link : LinkValue) (x : HeedingValue)
+        → IsNextToken word token (state_of s.now)
+        → IsPrepared moment word link x (state_of s.now) result
+        (matter_for moment p x (was_reset of.now) (state_of s.now)) }
+{
+    let Some(exchange) = s.exchanges.find(of) else {
+        return Matter::Nothing;
     };
-    let Answered { exchange, coming } = answered;
-    match coming {
-        Coming::Ends(ended) => Ok(Matter::Over(exchange, ended)),
-        Coming::Goes(onward) => {
-            let ask = exchange.ask;
-            let block = onward.block;
-            let next = prepare_next(alloc, s, moment, word, token, peer, heeding, ask, block)?;
-            match next {
-                Some(submission) => Ok(Matter::Goes(Going {
-                    exchange,
-                    onward,
-                    token: *token,
-                    submission,
-                })),
-                None => Ok(Matter::Over(exchange, Ended::Turned)),
-            }
-        }
-    }
+    let finding = Finding::fault(Cause::Reset, s.journal.len() as u32);
+    Matter::Over(*exchange, Ended::Found(finding))
 }
 
 /// The message that goes out next: the one that waited first, or else the one that is handed in.

@@ -17,11 +17,11 @@ ghost use Rattle.exchange_model.specs.State.{link_of};
 ghost use Rattle.exchange_model.specs.Matters.{IsDigested, Matter as ModelMatter, Tells as TellsOf, asked_in, has_next_place, told_alone, told_so};
 ghost use Rattle.exchange_model.specs.Hearing.{Numbers};
 ghost use Rattle.exchange_core.specs.Matters.{IsAskedFor, IsFewTimes, IsMatter, IsNextToken, IsPrepared};
-ghost use Rattle.exchange_core.specs.Notifying.{IsReadBy, IsNotedIn, IsStarted, IsUnder, IsWatchedBy, IsWatchedFor, ReadsIn, has_link_place, is_alone, matter_told, may_start_for, notice_told, registered_by, started, unless_more};
+ghost use Rattle.exchange_core.specs.Notifying.{IsReadBy, IsNotedIn, IsStarted, IsUnder, IsWatchedBy, IsWatchedFor, ReadsIn, has_link_place, matter_told, may_start_for, notice_told, registered_by, started, unless_more};
 ghost use Rattle.exchange_core.specs.States.{state_of};
 
 use crate::beginning::GET;
-use crate::matter::{Going, Matter, Notification, Starting, matter_of, prepare_next};
+use crate::matter::{Going, Matter, Notification, Starting, matter_of, prepare_next, reset_of};
 use crate::state::State;
 use crate::storing::stored_for;
 use crate::watching::add_written;
@@ -45,16 +45,6 @@ pub fn notice_told(up: &Up) -> Notice
     match up {
         Up::Response(message) => notice_of(message),
         _ => Notice::Other(None),
-    }
-}
-
-/// Whether it is a response under a token that no exchange has.
-fn is_alone<R: Relation>(s: &State<R>, token: &Token, up: &Up) -> bool
-    ensures { result ≡ is_alone (told up.now) token.now s.now.exchanges.exchanges }
-{
-    match up {
-        Up::Response(_) => s.exchanges.find(token).is_none(),
-        _ => false,
     }
 }
 
@@ -226,7 +216,9 @@ fn update<R: Relation>(
     }
 }
 
-/// What a response is that no exchange awaits: a notification, where it counts for a watch.
+/// What a response is that no exchange awaits: a notification, where it counts for a watch. Apart,
+/// so that what exchanges await needs no room for it.
+#[inline(never)]
 fn tells<R: Relation>(
     alloc: Global,
     s: &State<R>,
@@ -290,15 +282,18 @@ pub fn matter_told<R: Relation>(
         heeding.now (state_of s.now) k
         (matter_told moment peer.now heeding.now (told up) (state_of s.now))) }
 {
-    if !is_alone(s, &heeding.token, &up) {
-        return matter_of(alloc, s, moment, word, token, peer, heeding, up);
+    match up {
+        Up::Response(message) => match s.exchanges.find(&heeding.token) {
+            Some(exchange) => matter_of(
+                alloc, s, moment, word, token, peer, heeding, exchange, message,
+            ),
+            None => tells(
+                alloc, s, moment, word, token, peer, heeding, notice, message,
+            ),
+        },
+        Up::Reset(of) => Ok(reset_of(s, &of)),
+        _ => Ok(Matter::Nothing),
     }
-    let Up::Response(message) = up else {
-        unreachable!()
-    };
-    tells(
-        alloc, s, moment, word, token, peer, heeding, notice, message,
-    )
 }
 
 /// What becomes of what is observed.

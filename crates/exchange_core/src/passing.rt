@@ -198,5 +198,6 @@ pub fn pass<R: Relation>(s: &mut State<R>, passing: Passing<R>, moment: u64)
     s.endpoints.tick(turns, moment, &gone);
     s.fetched.drop_all(&over);
     s.stales.drop_all(&over);
-    state::commit(s, draft, moment);
+    let mut draft = draft;
+    state::commit(s, &mut draft, moment);
 }

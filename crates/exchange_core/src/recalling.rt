@@ -141,7 +141,8 @@ pub fn recall<R: Relation>(
         return Err(AskFault::Sealed);
     }
     make_places(s, &draft)?;
-    commit(s, draft, moment);
+    let mut draft = draft;
+    commit(s, &mut draft, moment);
     touch(&mut s.store, moment, &mapped);
     watching::touch(&mut s.watches, moment, &mapped);
     Ok(Ticket {

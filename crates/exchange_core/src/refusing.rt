@@ -97,7 +97,8 @@ pub fn refuse<R: Relation>(
         return Err(AskFault::Sealed);
     }
     make_places(s, &draft)?;
-    commit(s, draft, moment);
+    let mut draft = draft;
+    commit(s, &mut draft, moment);
     touch(&mut s.watches, moment, &mapped);
     Ok(Ticket {
         conn,

@@ -33,7 +33,8 @@ fn tick_sealed<R: Relation>(alloc: Global, s: &mut State<R>, moment: u64) -> Res
         return Ok(());
     }
     state::make_places(s, &draft)?;
-    state::commit(s, draft, moment);
+    let mut draft = draft;
+    state::commit(s, &mut draft, moment);
     Ok(())
 }
 
@@ -51,7 +52,8 @@ fn tick_full<R: Relation>(alloc: Global, s: &mut State<R>, moment: u64) -> Resul
 {
     let draft = draft_sealing(alloc, s, moment)?;
     state::make_places(s, &draft)?;
-    state::commit(s, draft, moment);
+    let mut draft = draft;
+    state::commit(s, &mut draft, moment);
     s.sealed = true;
     Ok(())
 }

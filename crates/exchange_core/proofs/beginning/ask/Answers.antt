@@ -26,11 +26,11 @@ returns-in-Ok-clause-sound g c =
     let k = link-takes c.args.moment c.args.message.peer c.args.s.now.endpoints c.args.message.submission
     c.requires.message.ready in
     let next = sent-next _ _ _ _ _ k c.requires.message.waiting in
-    let h = c.in_ok-draft.ensures.drafts in
-    let i = entered-by c.enter.result _ _ _ _ _ _ _ _ _ _ _ _ c.in_ok-draft.draft c.args.s.now c.enter.new.s
+    let h = c.in_ok-draft_ask.ensures.drafts in
+    let i = entered-by c.enter.result _ _ _ _ _ _ _ _ _ _ _ _ c.draft_ask.new.draft c.args.s.now c.enter.new.s
     (ap (λ (m : Mapping). m.sense) c.deref-2.ensures) (exchange-is _ _ _ _ _ _ _ _ _ _ _ asked c.requires.observes n c.exchange_of-exchange.ensures) n c.requires.keeps c.requires.message.waiting c.enter.ensures in
-    enters-sound c.args.moment c.args.word c.args.conn (arc_value c.args.mapped) c.args.message.peer c.args.message.token c.args.message.first.text c.args.message.submission.sent c.in_ok-draft.draft c.args.s.now c.enter.new.s
-    c.requires.sound c.requires.begins h next c.in_ok-draft.ensures.answers c.enter.result i
+    enters-sound c.args.moment c.args.word c.args.conn (arc_value c.args.mapped) c.args.message.peer c.args.message.token c.args.message.first.text c.args.message.submission.sent c.draft_ask.new.draft c.args.s.now c.enter.new.s
+    c.requires.sound c.requires.begins h next c.in_ok-draft_ask.ensures.answers c.enter.result i
 
 pub returns-in-Err-clause-sound : goal.returns-in-Err-clause-sound
 returns-in-Err-clause-sound g c =
@@ -39,11 +39,11 @@ returns-in-Err-clause-sound g c =
     let k = link-takes c.args.moment c.args.message.peer c.args.s.now.endpoints c.args.message.submission
     c.requires.message.ready in
     let next = sent-next _ _ _ _ _ k c.requires.message.waiting in
-    let h = c.in_ok-draft.ensures.drafts in
-    let i = entered-by c.enter.result _ _ _ _ _ _ _ _ _ _ _ _ c.in_ok-draft.draft c.args.s.now c.enter.new.s
+    let h = c.in_ok-draft_ask.ensures.drafts in
+    let i = entered-by c.enter.result _ _ _ _ _ _ _ _ _ _ _ _ c.draft_ask.new.draft c.args.s.now c.enter.new.s
     (ap (λ (m : Mapping). m.sense) c.deref-2.ensures) (exchange-is _ _ _ _ _ _ _ _ _ _ _ asked c.requires.observes n c.exchange_of-exchange.ensures) n c.requires.keeps c.requires.message.waiting c.enter.ensures in
-    enters-sound c.args.moment c.args.word c.args.conn (arc_value c.args.mapped) c.args.message.peer c.args.message.token c.args.message.first.text c.args.message.submission.sent c.in_ok-draft.draft c.args.s.now c.enter.new.s
-    c.requires.sound c.requires.begins h next c.in_ok-draft.ensures.answers c.enter.result i
+    enters-sound c.args.moment c.args.word c.args.conn (arc_value c.args.mapped) c.args.message.peer c.args.message.token c.args.message.first.text c.args.message.submission.sent c.draft_ask.new.draft c.args.s.now c.enter.new.s
+    c.requires.sound c.requires.begins h next c.in_ok-draft_ask.ensures.answers c.enter.result i
 
 pub returns-in-Ok-clause-ok : goal.returns-in-Ok-clause-ok
 returns-in-Ok-clause-ok g c =
@@ -52,12 +52,12 @@ returns-in-Ok-clause-ok g c =
     let k = link-takes c.args.moment c.args.message.peer c.args.s.now.endpoints c.args.message.submission
     c.requires.message.ready in
     let next = sent-next _ _ _ _ _ k c.requires.message.waiting in
-    let h = c.in_ok-draft.ensures.drafts in
-    let i = entered-by c.enter.result _ _ _ _ _ _ _ _ _ _ _ _ c.in_ok-draft.draft c.args.s.now c.enter.new.s
+    let h = c.in_ok-draft_ask.ensures.drafts in
+    let i = entered-by c.enter.result _ _ _ _ _ _ _ _ _ _ _ _ c.draft_ask.new.draft c.args.s.now c.enter.new.s
     (ap (λ (m : Mapping). m.sense) c.deref-2.ensures) (exchange-is _ _ _ _ _ _ _ _ _ _ _ asked c.requires.observes n c.exchange_of-exchange.ensures) n c.requires.keeps c.requires.message.waiting c.enter.ensures in
     let b =
-    enters-ok c.args.moment c.args.word c.args.conn (arc_value c.args.mapped) c.args.message.peer c.args.message.token c.args.message.first.text c.args.message.submission.sent c.in_ok-draft.draft c.args.s.now c.enter.new.s
-    c.requires.sound c.requires.begins h next c.in_ok-draft.ensures.answers c.in-Ok.field-0 (rw (c.in-Ok.is) at i) in
+    enters-ok c.args.moment c.args.word c.args.conn (arc_value c.args.mapped) c.args.message.peer c.args.message.token c.args.message.first.text c.args.message.submission.sent c.draft_ask.new.draft c.args.s.now c.enter.new.s
+    c.requires.sound c.requires.begins h next c.in_ok-draft_ask.ensures.answers c.in-Ok.field-0 (rw (c.in-Ok.is) at i) in
     (refl, refl, (n, b.1, b.2))
 
 pub returns-in-Err-clause-err : goal.returns-in-Err-clause-err
@@ -67,11 +67,11 @@ returns-in-Err-clause-err g c =
     let k = link-takes c.args.moment c.args.message.peer c.args.s.now.endpoints c.args.message.submission
     c.requires.message.ready in
     let next = sent-next _ _ _ _ _ k c.requires.message.waiting in
-    let h = c.in_ok-draft.ensures.drafts in
-    let i = entered-by c.enter.result _ _ _ _ _ _ _ _ _ _ _ _ c.in_ok-draft.draft c.args.s.now c.enter.new.s
+    let h = c.in_ok-draft_ask.ensures.drafts in
+    let i = entered-by c.enter.result _ _ _ _ _ _ _ _ _ _ _ _ c.draft_ask.new.draft c.args.s.now c.enter.new.s
     (ap (λ (m : Mapping). m.sense) c.deref-2.ensures) (exchange-is _ _ _ _ _ _ _ _ _ _ _ asked c.requires.observes n c.exchange_of-exchange.ensures) n c.requires.keeps c.requires.message.waiting c.enter.ensures in
-    enters-err c.args.moment c.args.word c.args.conn (arc_value c.args.mapped) c.args.message.peer c.args.message.token c.args.message.first.text c.args.message.submission.sent c.in_ok-draft.draft c.args.s.now c.enter.new.s
-    c.requires.sound c.requires.begins h next c.in_ok-draft.ensures.answers (Unit {0}) c.in-Err.fault (rw (c.in-Err.is) at i)
+    enters-err c.args.moment c.args.word c.args.conn (arc_value c.args.mapped) c.args.message.peer c.args.message.token c.args.message.first.text c.args.message.submission.sent c.draft_ask.new.draft c.args.s.now c.enter.new.s
+    c.requires.sound c.requires.begins h next c.in_ok-draft_ask.ensures.answers (Unit {0}) c.in-Err.fault (rw (c.in-Err.is) at i)
 
 pub enter-requires-clause-later : goal.enter-requires-clause-later
 enter-requires-clause-later g c =

@@ -16,7 +16,7 @@ add_exchange-requires-clause-issued g c =
 pub add_exchange-requires-clause-few : goal.add_exchange-requires-clause-few
 add_exchange-requires-clause-few g c =
     let fit = sym (c.in_ok-taken.ensures c.args.moment) ∙ c.if-not-taken.false in
-    let left = few-for c.args.moment (state_of c.args.s.now) c.args.draft fit in
+    let left = few-for c.args.moment (state_of c.args.s.now) c.args.draft.now fit in
     let same = ap (λ (S : State). length S.entries) c.make_all_places.ensures.same.state in
     omega (arith, left, same)
 
@@ -38,6 +38,6 @@ pub returns : goal.returns
 returns g c =
     let e = c.add_exchange.ensures in (
       sym (c.in_ok-taken.ensures c.args.moment) ∙ c.if-not-taken.false,
-      leaves c.args.moment c.args.mapped.now.sense c.args.exchange c.args.reader c.args.keeps c.args.submission.waiting c.args.draft c.args.s.now c.make_all_places.new.s c.add_exchange.new.s c.make_all_places.ensures.same
+      leaves c.args.moment c.args.mapped.now.sense c.args.exchange c.args.reader c.args.keeps c.args.submission.waiting c.args.draft.now c.args.s.now c.make_all_places.new.s c.add_exchange.new.s c.make_all_places.ensures.same
           (record { state = e.state; bytes = e.bytes; held = e.held; answers = e.answers; sends = e.sends }),
     )

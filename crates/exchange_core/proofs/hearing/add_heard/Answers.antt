@@ -5,15 +5,14 @@ use Rattle.exchange_model.specs.Matters.{IsDigested}
 use Rattle.exchange_core.proofs.hearing.add_heard.Goals as goal
 
 pub change_tables-requires-clause-ready : goal.change_tables-requires-clause-ready
-change_tables-requires-clause-ready g c = rw (c.make_places.ensures.endpoints) c.requires.ready
+change_tables-requires-clause-ready g c = rw (c.make_room_to_add.ensures.endpoints) c.requires.ready
 
 pub change_tables-requires-clause-follows : goal.change_tables-requires-clause-follows
-change_tables-requires-clause-follows g c = rw (c.make_places.ensures.endpoints) c.requires.follows
+change_tables-requires-clause-follows g c = rw (c.make_room_to_add.ensures.endpoints) c.requires.follows
 
 pub change_tables-requires-clause-known : goal.change_tables-requires-clause-known
-change_tables-requires-clause-known g c = rw (c.make_places.ensures.endpoints) c.requires.known
+change_tables-requires-clause-known g c = rw (c.make_room_to_add.ensures.endpoints) c.requires.known
 
 pub change_tables-requires-clause-digests : goal.change_tables-requires-clause-digests
 change_tables-requires-clause-digests g c =
-    subst (AllByRecursion (IsDigested c.make_places.new.s.journal.entries)) (sym c.make_room_to_open.ensures.same)
-    (subst (λ (V : State). AllByRecursion (IsDigested V.entries) V.exchanges) (sym c.make_places.ensures.same.state) c.requires.digests)
+    subst (λ (V : State). AllByRecursion (IsDigested V.entries) V.exchanges) (sym c.make_room_to_add.ensures.same.state) c.requires.digests

@@ -22,7 +22,7 @@ draft_tellings-requires-clause-room g c =
     let k = c.requires.tells in
     let are : c.in_ok-told.told.items ≡ told_of (length S.entries) k.matter S.readers =
     c.in_ok-told.ensures (length S.entries) k.numbers k.matter k.is in
-    let next = c.in_ok-draft.ensures.drafts.next in
+    let next = c.in_ok-draft_link.ensures.drafts.next in
     let few = c.requires.few in
     let link = link-few c.args.peer c.args.datagram.now c.args.heeding.now c.next_in-next.result.now in
     let most = told-few (length S.entries) k.matter S.readers in
@@ -37,14 +37,14 @@ draft_tellings-requires-clause-told g c =
     let k = c.requires.tells in
     let are : c.in_ok-told.told.items ≡ told_of (length S.entries) k.matter S.readers =
     c.in_ok-told.ensures (length S.entries) k.numbers k.matter k.is in
-    let drafted : c.in_ok-draft.draft.entries ≡ map (written t) (link_deeds c.args.peer c.args.datagram.now c.args.heeding.now (next_in c.args.heeding.now c.args.matter.now)) =
-    c.in_ok-draft.ensures.drafts.entries
+    let drafted : c.draft_link.new.draft.entries ≡ map (written t) (link_deeds c.args.peer c.args.datagram.now c.args.heeding.now (next_in c.args.heeding.now c.args.matter.now)) =
+    c.in_ok-draft_link.ensures.drafts.entries
     ∙ ap (λ v. map (written t) (link_deeds c.args.peer c.args.datagram.now c.args.heeding.now v)) c.next_in-next.ensures in
-    subst (AllByRecursion (IsTold S.entries c.in_ok-draft.draft.entries t)) (sym are)
+    subst (AllByRecursion (IsTold S.entries c.draft_link.new.draft.entries t)) (sym are)
     (subst (λ (ws : List Written). AllByRecursion (IsTold S.entries ws t) (told_of (length S.entries) k.matter S.readers)) (sym drafted) k.told)
 
-pub returns-clause-drafted : goal.returns-clause-drafted
-returns-clause-drafted g c = λ new x i.
+pub returns : goal.returns
+returns g c = λ new x i.
     let t = c.args.moment in
     let S : State = state_of c.args.s.now in
     let n : ℕ = length S.entries in
@@ -57,4 +57,4 @@ returns-clause-drafted g c = λ new x i.
     ∙ (ap (λ (es : List Deed). ds now ++ es) (told-same n x S.readers)
     ∙ ap (λ v. ds v ++ map answer_of (told_for n x S.readers)) c.next_in-next.ensures))
     (c.in_ok-draft_tellings.ensures S (ds now) refl
-    (answers-none t S (ds now) c.in_ok-draft.draft c.in_ok-draft.ensures.drafts c.in_ok-draft.ensures.answers))
+    (answers-none t S (ds now) c.draft_link.new.draft c.in_ok-draft_link.ensures.drafts c.in_ok-draft_link.ensures.answers))

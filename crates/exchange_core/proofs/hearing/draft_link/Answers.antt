@@ -8,7 +8,7 @@ use Rattle.exchange_core.proofs.hearing.draft_link.Goals as goal
 pub draft_reply-requires : goal.draft_reply-requires
 draft_reply-requires g c =
     let S = state_of c.args.s.now in
-    let one = c.in_ok-enter.ensures.drafts S [] tt (c.start-draft.ensures.drafts c.args.moment) in
+    let one = c.in_ok-enter.ensures.drafts S [] tt (c.start_anew.ensures.drafts c.args.moment) in
     let n = one.next in
     let few = c.requires.few in
     omega (arith, n, few)
@@ -16,7 +16,7 @@ draft_reply-requires g c =
 pub draft_first-requires-clause-next : goal.draft_first-requires-clause-next
 draft_first-requires-clause-next g c =
     let S = state_of c.args.s.now in
-    let one = c.in_ok-enter.ensures.drafts S [] tt (c.start-draft.ensures.drafts c.args.moment) in
+    let one = c.in_ok-enter.ensures.drafts S [] tt (c.start_anew.ensures.drafts c.args.moment) in
     let two = c.in_ok-draft_reply.ensures.drafts S _ one in
     let n = two.next in
     let few = c.requires.few in
@@ -26,7 +26,7 @@ draft_first-requires-clause-next g c =
 pub returns-clause-drafts : goal.returns-clause-drafts
 returns-clause-drafts g c =
     let S = state_of c.args.s.now in
-    let one = c.in_ok-enter.ensures.drafts S [] tt (c.start-draft.ensures.drafts c.args.moment) in
+    let one = c.in_ok-enter.ensures.drafts S [] tt (c.start_anew.ensures.drafts c.args.moment) in
     let two = c.in_ok-draft_reply.ensures.drafts S _ one in
     let three = c.in_ok-draft_first.ensures.drafts S _ two in
     subst (λ (b : List ℕ). Drafts c.args.moment S
@@ -35,6 +35,6 @@ returns-clause-drafts g c =
 
 pub enter-requires-clause-next : goal.enter-requires-clause-next
 enter-requires-clause-next g c =
-    let n = (c.start-draft.ensures.drafts c.args.moment).next in
+    let n = (c.start_anew.ensures.drafts c.args.moment).next in
     let few = c.requires.few in
     omega (arith, n, few)

@@ -1,4 +1,5 @@
-use Rattle.std.proofs.Common.{refl, sym, ◌∙◌, arith}
+use Rattle.std.proofs.Common.{◌≡◌, Bool, true, false, not, refl, sym, ◌∙◌, arith}
+use Rattle.std.proofs.lemmas.Bool.{false≢true}
 use Rattle.endpoint_table.specs.Tables.{link_at}
 use Rattle.exchange_core.specs.Matters.{more_in}
 use Rattle.exchange_core.specs.States.{state_of}
@@ -15,6 +16,14 @@ use Rattle.exchange_core.proofs.HeardSteps.{newest-in, sound-sealed, seen-sealed
 use Rattle.exchange_core.proofs.Readers.{few-readers}
 use Rattle.exchange_core.proofs.Sounding.{few-for}
 use Rattle.exchange_core.proofs.hearing.take.Goals as goal
+
+untaken : (b : Bool) → not b ≡ true → b ≡ false
+untaken true e = absurd (false≢true e)
+untaken false e = refl
+
+is-taken : (b : Bool) → not b ≡ false → b ≡ true
+is-taken true e = refl
+is-taken false e = absurd (false≢true (sym e))
 
 pub matter_told-requires-clause-few : goal.matter_told-requires-clause-few
 matter_told-requires-clause-few g c = restarts-few (state_of c.args.s.now) c.requires.sound.kept.kept
@@ -35,28 +44,28 @@ pub matter_told-requires-clause-under : goal.matter_told-requires-clause-under
 matter_told-requires-clause-under g c =
     under-told c.args.moment c.args.datagram.now _ c.args.hearing (message_at c.args.datagram.now) c.requires.hears.is
 
-pub watching_of-requires : goal.watching_of-requires
-watching_of-requires g c =
+pub bring-requires-clause-reads : goal.bring-requires-clause-reads
+bring-requires-clause-reads g c =
     let made = c.in_ok-matter.ensures in
     reads-in c.args.moment c.args.peer c.args.hearing.heeding (told c.args.hearing.up) (state_of c.args.s.now) _ made.numbers c.in_ok-matter.matter c.requires.sound.kept.kept made.is
 
-pub draft_heard-requires-clause-readers : goal.draft_heard-requires-clause-readers
-draft_heard-requires-clause-readers g c = few-readers (state_of c.args.s.now) c.requires.sound.kept
+pub bring-requires-clause-readers : goal.bring-requires-clause-readers
+bring-requires-clause-readers g c = few-readers (state_of c.args.s.now) c.requires.sound.kept
 
-pub draft_heard-requires-clause-timed : goal.draft_heard-requires-clause-timed
-draft_heard-requires-clause-timed g c =
+pub bring-requires-clause-timed : goal.bring-requires-clause-timed
+bring-requires-clause-timed g c =
     next-timed c.args.moment c.args.peer (state_of c.args.s.now) (link_at c.args.s.now.endpoints c.args.peer) c.args.hearing.heeding
     (more_in c.in_ok-matter.matter) c.requires.hears.ready c.in_ok-matter.ensures.follows refl c.requires.sound.kept.kept
 
-pub draft_heard-requires-clause-tells : goal.draft_heard-requires-clause-tells
-draft_heard-requires-clause-tells g c =
+pub bring-requires-clause-tells : goal.bring-requires-clause-tells
+bring-requires-clause-tells g c =
     tells-so c.args.moment c.args.word c.args.peer c.args.datagram.now (state_of c.args.s.now) (link_at c.args.s.now.endpoints c.args.peer) c.args.hearing _ _ _
     c.requires.sound c.requires.unsealed c.requires.later c.requires.early
     (bytes-small c.args.datagram.now (λ i. omega (arith, c.type_inv.datagram i)))
     c.requires.hears refl c.in_ok-matter.matter c.in_ok-matter.ensures
 
-pub takes-requires-clause-ordered : goal.takes-requires-clause-ordered
-takes-requires-clause-ordered g c = conns-ordered (state_of c.args.s.now) c.requires.sound.kept
+pub bring-requires-clause-ordered : goal.bring-requires-clause-ordered
+bring-requires-clause-ordered g c = conns-ordered (state_of c.args.s.now) c.requires.sound.kept
 
 pub add_heard-requires-clause-ordered : goal.add_heard-requires-clause-ordered
 add_heard-requires-clause-ordered g c = ordered (state_of c.args.s.now) c.requires.sound.kept
@@ -80,32 +89,32 @@ add_heard-requires-clause-known g c = c.requires.hears.known
 
 pub add_heard-requires-clause-few : goal.add_heard-requires-clause-few
 add_heard-requires-clause-few g c =
-    few-for c.args.moment (state_of c.args.s.now) c.in_ok-brought.brought.draft
-    (sym (c.in_ok-taken.ensures c.args.moment) ∙ c.if-not-taken.false)
+    few-for c.args.moment (state_of c.args.s.now) c.bring.new.draft
+    (sym (c.in_ok-brought.ensures.taken c.args.moment) ∙ is-taken _ c.if-not-brought.false)
 
-pub returns-then-not-taken-clause-sound : goal.returns-then-not-taken-clause-sound
-returns-then-not-taken-clause-sound g c =
+pub returns-then-not-brought-clause-sound : goal.returns-then-not-brought-clause-sound
+returns-then-not-brought-clause-sound g c =
     let e = c.seal.ensures in let made = c.in_ok-matter.ensures in
     sound-sealed c.args.moment c.args.word c.args.peer c.args.datagram.now
     (state_of c.args.s.now) (link_at c.args.s.now.endpoints c.args.peer) c.args.hearing _ _ _
     c.requires.sound c.requires.unsealed c.requires.later c.requires.early
     (bytes-small c.args.datagram.now (λ i. omega (arith, c.type_inv.datagram i)))
     c.requires.hears refl c.in_ok-matter.matter made
-    c.in_ok-brought.brought.draft (c.in_ok-brought.ensures.drafted made.numbers _ made.is) _ _ (watched-as c.args.moment c.args.word c.args.peer c.args.datagram.now (state_of c.args.s.now) (link_at c.args.s.now.endpoints c.args.peer) c.args.hearing
-    c.in_ok-matter.matter c.requires.hears refl made c.in_ok-watching.watching c.notice_told-notice.result c.notice_told-notice.ensures c.in_ok-watching.ensures.is) _ _ _ _
-    (sym (c.in_ok-taken.ensures c.args.moment) ∙ c.if-not-taken.true) e.state e.bytes e.room e.answers
+    c.bring.new.draft (c.in_ok-brought.ensures.drafted made.numbers _ made.is) _ _ (watched-as c.args.moment c.args.word c.args.peer c.args.datagram.now (state_of c.args.s.now) (link_at c.args.s.now.endpoints c.args.peer) c.args.hearing
+    c.in_ok-matter.matter c.requires.hears refl made c.in_ok-brought.brought.watching c.notice_told-notice.result c.notice_told-notice.ensures c.in_ok-brought.ensures.watched) _ _ _ _
+    (sym (c.in_ok-brought.ensures.taken c.args.moment) ∙ untaken _ c.if-not-brought.true) e.state e.bytes e.room e.answers
 
-pub returns-then-not-taken-clause-heard : goal.returns-then-not-taken-clause-heard
-returns-then-not-taken-clause-heard g c =
+pub returns-then-not-brought-clause-heard : goal.returns-then-not-brought-clause-heard
+returns-then-not-brought-clause-heard g c =
     let e = c.seal.ensures in let made = c.in_ok-matter.ensures in
     seen-sealed c.args.moment c.args.word c.args.peer c.args.datagram.now
     (state_of c.args.s.now) (link_at c.args.s.now.endpoints c.args.peer) c.args.hearing _ _ _
     c.requires.sound c.requires.unsealed c.requires.later c.requires.early
     (bytes-small c.args.datagram.now (λ i. omega (arith, c.type_inv.datagram i)))
     c.requires.hears refl c.in_ok-matter.matter made
-    c.in_ok-brought.brought.draft (c.in_ok-brought.ensures.drafted made.numbers _ made.is) _ _ (watched-as c.args.moment c.args.word c.args.peer c.args.datagram.now (state_of c.args.s.now) (link_at c.args.s.now.endpoints c.args.peer) c.args.hearing
-    c.in_ok-matter.matter c.requires.hears refl made c.in_ok-watching.watching c.notice_told-notice.result c.notice_told-notice.ensures c.in_ok-watching.ensures.is) _ _ _ _
-    (sym (c.in_ok-taken.ensures c.args.moment) ∙ c.if-not-taken.true) e.state e.answers e.sends
+    c.bring.new.draft (c.in_ok-brought.ensures.drafted made.numbers _ made.is) _ _ (watched-as c.args.moment c.args.word c.args.peer c.args.datagram.now (state_of c.args.s.now) (link_at c.args.s.now.endpoints c.args.peer) c.args.hearing
+    c.in_ok-matter.matter c.requires.hears refl made c.in_ok-brought.brought.watching c.notice_told-notice.result c.notice_told-notice.ensures c.in_ok-brought.ensures.watched) _ _ _ _
+    (sym (c.in_ok-brought.ensures.taken c.args.moment) ∙ untaken _ c.if-not-brought.true) e.state e.answers e.sends
 
 pub returns-clause-sound : goal.returns-clause-sound
 returns-clause-sound g c =
@@ -115,12 +124,12 @@ returns-clause-sound g c =
     c.requires.sound c.requires.unsealed c.requires.later c.requires.early
     (bytes-small c.args.datagram.now (λ i. omega (arith, c.type_inv.datagram i)))
     c.requires.hears refl c.in_ok-matter.matter made
-    c.in_ok-brought.brought.draft (c.in_ok-brought.ensures.drafted made.numbers _ made.is) _ _ (watched-as c.args.moment c.args.word c.args.peer c.args.datagram.now (state_of c.args.s.now) (link_at c.args.s.now.endpoints c.args.peer) c.args.hearing
-    c.in_ok-matter.matter c.requires.hears refl made c.in_ok-watching.watching c.notice_told-notice.result c.notice_told-notice.ensures c.in_ok-watching.ensures.is) _ _ _ _
-    (sym (c.in_ok-taken.ensures c.args.moment) ∙ c.if-not-taken.false)
+    c.bring.new.draft (c.in_ok-brought.ensures.drafted made.numbers _ made.is) _ _ (watched-as c.args.moment c.args.word c.args.peer c.args.datagram.now (state_of c.args.s.now) (link_at c.args.s.now.endpoints c.args.peer) c.args.hearing
+    c.in_ok-matter.matter c.requires.hears refl made c.in_ok-brought.brought.watching c.notice_told-notice.result c.notice_told-notice.ensures c.in_ok-brought.ensures.watched) _ _ _ _
+    (sym (c.in_ok-brought.ensures.taken c.args.moment) ∙ is-taken _ c.if-not-brought.false)
     (e.state (effect c.args.moment c.args.word c.args.peer c.args.datagram.now (state_of c.args.s.now) (link_at c.args.s.now.endpoints c.args.peer) c.args.hearing
-    c.in_ok-matter.matter c.requires.hears refl made (watches_after c.args.moment c.args.s.now.journal.entries c.in_ok-watching.watching.notice c.in_ok-matter.matter
-    c.in_ok-watching.watching.more c.args.s.now.watches.standing) c.in_ok-watching.watching.gone.items) (record { matter = made.is; first = first-so c.args.moment c.args.peer c.args.hearing.heeding (told c.args.hearing.up) (state_of c.args.s.now) _ made.numbers c.in_ok-matter.matter c.requires.sound.kept.kept made.is; watches = refl; gone = refl }) (c.in_ok-brought.ensures.put made.numbers _ made.is)) e.bytes e.held e.answers
+    c.in_ok-matter.matter c.requires.hears refl made (watches_after c.args.moment c.args.s.now.journal.entries c.in_ok-brought.brought.watching.notice c.in_ok-matter.matter
+    c.in_ok-brought.brought.watching.more c.args.s.now.watches.standing) c.in_ok-brought.brought.watching.gone.items) (record { matter = made.is; first = first-so c.args.moment c.args.peer c.args.hearing.heeding (told c.args.hearing.up) (state_of c.args.s.now) _ made.numbers c.in_ok-matter.matter c.requires.sound.kept.kept made.is; watches = refl; gone = refl }) (c.in_ok-brought.ensures.put made.numbers _ made.is)) e.bytes e.held e.answers
 
 pub returns-clause-heard : goal.returns-clause-heard
 returns-clause-heard g c =
@@ -130,9 +139,9 @@ returns-clause-heard g c =
     c.requires.sound c.requires.unsealed c.requires.later c.requires.early
     (bytes-small c.args.datagram.now (λ i. omega (arith, c.type_inv.datagram i)))
     c.requires.hears refl c.in_ok-matter.matter made
-    c.in_ok-brought.brought.draft (c.in_ok-brought.ensures.drafted made.numbers _ made.is) _ _ (watched-as c.args.moment c.args.word c.args.peer c.args.datagram.now (state_of c.args.s.now) (link_at c.args.s.now.endpoints c.args.peer) c.args.hearing
-    c.in_ok-matter.matter c.requires.hears refl made c.in_ok-watching.watching c.notice_told-notice.result c.notice_told-notice.ensures c.in_ok-watching.ensures.is) _ _ _ _
-    (sym (c.in_ok-taken.ensures c.args.moment) ∙ c.if-not-taken.false)
+    c.bring.new.draft (c.in_ok-brought.ensures.drafted made.numbers _ made.is) _ _ (watched-as c.args.moment c.args.word c.args.peer c.args.datagram.now (state_of c.args.s.now) (link_at c.args.s.now.endpoints c.args.peer) c.args.hearing
+    c.in_ok-matter.matter c.requires.hears refl made c.in_ok-brought.brought.watching c.notice_told-notice.result c.notice_told-notice.ensures c.in_ok-brought.ensures.watched) _ _ _ _
+    (sym (c.in_ok-brought.ensures.taken c.args.moment) ∙ is-taken _ c.if-not-brought.false)
     (e.state (effect c.args.moment c.args.word c.args.peer c.args.datagram.now (state_of c.args.s.now) (link_at c.args.s.now.endpoints c.args.peer) c.args.hearing
-    c.in_ok-matter.matter c.requires.hears refl made (watches_after c.args.moment c.args.s.now.journal.entries c.in_ok-watching.watching.notice c.in_ok-matter.matter
-    c.in_ok-watching.watching.more c.args.s.now.watches.standing) c.in_ok-watching.watching.gone.items) (record { matter = made.is; first = first-so c.args.moment c.args.peer c.args.hearing.heeding (told c.args.hearing.up) (state_of c.args.s.now) _ made.numbers c.in_ok-matter.matter c.requires.sound.kept.kept made.is; watches = refl; gone = refl }) (c.in_ok-brought.ensures.put made.numbers _ made.is)) e.answers e.sends
+    c.in_ok-matter.matter c.requires.hears refl made (watches_after c.args.moment c.args.s.now.journal.entries c.in_ok-brought.brought.watching.notice c.in_ok-matter.matter
+    c.in_ok-brought.brought.watching.more c.args.s.now.watches.standing) c.in_ok-brought.brought.watching.gone.items) (record { matter = made.is; first = first-so c.args.moment c.args.peer c.args.hearing.heeding (told c.args.hearing.up) (state_of c.args.s.now) _ made.numbers c.in_ok-matter.matter c.requires.sound.kept.kept made.is; watches = refl; gone = refl }) (c.in_ok-brought.ensures.put made.numbers _ made.is)) e.answers e.sends

@@ -1,6 +1,6 @@
 use Rattle.std.proofs.Common.{◌≡◌, ◌++◌, ◌+◌, ◌≤◌}
 use Rattle.std.specs.VecDeque.{deque_len, deque_capacity}
-use Rattle.exchange_core.proofs.state.put_sends.Given as goal
+use Rattle.exchange_core.proofs.pouring.put_sends.Given as goal
 
 abbrev pub invariant-each : goal.invariant-each
 invariant-each l = record {

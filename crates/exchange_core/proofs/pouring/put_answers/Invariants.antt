@@ -1,6 +1,6 @@
 use Rattle.std.proofs.Common.{◌≡◌, ◌++◌, ◌+◌, ◌≤◌, vec_len, vec_capacity}
 use Rattle.std.specs.VecDeque.{deque_len}
-use Rattle.exchange_core.proofs.state.put_answers.Given as goal
+use Rattle.exchange_core.proofs.pouring.put_answers.Given as goal
 
 abbrev pub invariant-each : goal.invariant-each
 invariant-each g l = record {

@@ -6,7 +6,7 @@ use Rattle.exchange_table.specs.Tables.{IsLatest}
 use Rattle.exchange_core.specs.declared.matter.Matter.{Matter as RustMatter}
 use Rattle.exchange_core.specs.Hearing.{IsNewestIn}
 use Rattle.exchange_core.proofs.Started.{outdated-latest}
-use Rattle.exchange_core.proofs.hearing.change_exchanges.Goals as goal
+use Rattle.exchange_core.proofs.changing.change_exchanges.Goals as goal
 
 pub outrun-requires : goal.outrun-requires
 outrun-requires g c =

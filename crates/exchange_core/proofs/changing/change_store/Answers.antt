@@ -2,7 +2,7 @@ use Rattle.std.proofs.Common.{subst, ◌∙◌}
 use Rattle.exchange_core.specs.declared.matter.Matter.{Matter as RustMatter}
 use Rattle.exchange_core.specs.Matters.{IsMatter}
 use Rattle.exchange_core.proofs.Settling.{stored-over, stored-starts}
-use Rattle.exchange_core.proofs.hearing.change_store.Goals as goal
+use Rattle.exchange_core.proofs.changing.change_store.Goals as goal
 
 pub returns-in-Over : goal.returns-in-Over
 returns-in-Over g c = λ n t new x i is.

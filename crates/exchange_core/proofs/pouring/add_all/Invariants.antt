@@ -7,7 +7,7 @@ use Rattle.exchange_table.specs.Readers.{ask_in}
 use Rattle.exchange_core.specs.Drafts.{AllKeep}
 use Rattle.exchange_core.specs.Places.{id_of}
 use Rattle.exchange_core.specs.States.{readers_with}
-use Rattle.exchange_core.proofs.state.add_all.Given as goal
+use Rattle.exchange_core.proofs.pouring.add_all.Given as goal
 
 abbrev pub invariant-each : goal.invariant-each
 invariant-each g l = record {
