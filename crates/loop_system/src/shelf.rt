@@ -81,6 +81,10 @@ impl Shelf {
         archive: &Arc<A>,
         journal: Journal<Profile>,
     ) {
+        // It may have been turned over within one turn of the loop.
+        if !self.noted {
+            self.look(rt, true);
+        }
         self.note(rt, &journal);
         self.await_keeper(rt);
         let number = self.number;
