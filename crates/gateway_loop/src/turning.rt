@@ -69,7 +69,8 @@ impl<R: Relation, S: Stream + Drop, W: Wire + Drop> Loop<R, S, W> {
         let Some(turning) = it.begun_turning() else {
             return Ok(it);
         };
-        let late = turning.is_late(it.rest.moment);
+        // one that was given bytes in this turn has its turn first
+        let late = turning.is_late(it.rest.moment) && it.gateway.in_line() == 0;
         it = it.dismiss_all(bank, host, late)?;
         if it.rest.moment < turning.again || it.gateway.next_due().is_some() || it.is_connected() {
             return Ok(it);
