@@ -11,6 +11,9 @@ use uri_map::Peer;
 /// How often a lock that is held is tried again.
 const TRIES: u32 = 1_000_000;
 
+/// After how many turns a wire fails that breaks.
+const TURNS_LEFT: u64 = 100;
+
 /// How an ACK with a token of 8 bytes begins.
 pub const ACK: u8 = 0x68;
 
@@ -27,6 +30,8 @@ pub enum Manner {
     Once,
     /// Never.
     Silent,
+    /// Never, and the wire fails some turns after the first was asked.
+    Breaks,
 }
 
 /// After how many datagrams that come from the devices the wire fails.
@@ -55,6 +60,8 @@ struct Mail {
     has_failed: bool,
     /// whether a datagram was waited for
     is_heard: bool,
+    /// after how many turns the wire breaks, once that is known
+    breaks_in: Option<u64>,
     is_on: bool,
     ready: VecDeque<Letter>,
     /// the answer of the first device
@@ -94,6 +101,10 @@ impl Mail {
     fn take(&mut self, to: Peer, request: &[u8]) -> Result<(), AllocError> {
         match self.manner {
             Manner::Silent => return Ok(()),
+            Manner::Breaks => {
+                self.breaks_in = Some(TURNS_LEFT);
+                return Ok(());
+            }
             Manner::LosesFirst => {
                 self.manner = Manner::Prompt;
                 return Ok(());
@@ -134,15 +145,25 @@ impl Mail {
         }
     }
 
+    /// The wire fails.
+    fn fail(&mut self) -> Failed {
+        self.has_failed = true;
+        Failed
+    }
+
     /// The same, or none where the wire fails in its place.
     fn receive(&mut self) -> Result<Option<Letter>, Failed> {
         self.is_heard = true;
+        match self.breaks_in {
+            Some(0) => return Err(self.fail()),
+            Some(turns) => self.breaks_in = Some(turns - 1),
+            None => {}
+        }
         let Some(letter) = self.next() else {
             return Ok(None);
         };
         if self.left.received == 0 {
-            self.has_failed = true;
-            return Err(Failed);
+            return Err(self.fail());
         }
         self.left.received -= 1;
         Ok(Some(letter))
@@ -158,6 +179,7 @@ impl Device {
                 left: failing,
                 has_failed: false,
                 is_heard: false,
+                breaks_in: None,
                 is_on: true,
                 ready: VecDeque::new(alloc),
                 held: None,

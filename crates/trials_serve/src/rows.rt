@@ -274,9 +274,9 @@ pub fn lost() -> &'static Trial {
     &LOST
 }
 
-/// The desk is shut while a session waits.
+/// The desk is shut while a session waits: the wire fails some turns after it asked.
 static SHUT: Trial = Trial {
-    manner: Manner::Silent,
+    manner: Manner::Breaks,
     step: 0,
     one: &[Client {
         sends: &[GET],
