@@ -2,8 +2,6 @@
 
 ghost use Rattle.std.specs.Prelude.{◌≡◌, ◌-◌, ◌^◌, ◌<◌, IfSome};
 
-use crate::sample::{Nothing, shared_settings};
-use crate::threads::{Counter, new_desk};
 use ask_model::Mapped;
 use exchange_core::Ticket;
 use gateway_desk::{Pass, Receipt, SettleFault, settle};
@@ -14,6 +12,8 @@ use std::marker::Brand;
 use std::sync::ledger::{Blank, Ledger};
 use std::sync::{Arc, Wait};
 use transformers::Bank;
+use trials_clients::{Nothing, shared_settings};
+use trials_desk::{Counter, new_desk};
 
 /// What a session did wrong.
 #[derive(Clone, Copy, PartialEq, Eq)]

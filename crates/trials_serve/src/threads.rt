@@ -1,45 +1,26 @@
 //! Sessions in threads, over one desk.
 
-ghost use Rattle.std.specs.Prelude.{◌≡◌, ◌-◌, ◌^◌, []};
-ghost use Rattle.std.specs.Arc.{arc_value};
-ghost use Rattle.ask_model.specs.Views.{rules_of};
+ghost use Rattle.std.specs.Prelude.{◌≡◌, ◌-◌, ◌^◌};
 
-use crate::client::{Client, Keeper, Steps, Tape};
-use crate::device::{Device, Manner, SOUND};
-use crate::rows::{Trial, crossed, held, late, leaver, lost, shut, stored, stranger, told};
-use crate::sample::{Nothing, shared_settings};
-use ask_model::Settings;
-use gateway_desk::{LockedDesk, Note, Pass, Shop, settle};
-use journal_book::{Event, Journal};
-use sessions::{Done, Gateway, serve, tick_loop, udp_loop};
+use gateway_desk::{Note, Pass, Shop, settle};
+use sessions::Done;
 use std::alloc::Global;
 use std::marker::Brand;
+use std::sync::Wait;
 use std::sync::ledger::{Blank, Ledger};
-use std::sync::{Arc, Wait};
 use std::thread;
 use std::thread::Threads;
-use transformers::Bank;
-
-/// Turns within which all is done.
-const TURNS: u64 = 1_000_000;
+use trials_clients::{Nothing, shared_settings};
+use trials_desk::{
+    Client, Counter, Device, Keeper, Manner, SOUND, Tape, Trial, closed_at, crossed, go_on, held,
+    late, leaver, lost, new_desk, serve_plainly, shut, stored, stranger, told,
+};
 
 /// More sessions than may be open at once, which are 256.
 const SESSIONS: u32 = 300;
 
-/// A desk that sessions of these trials share.
-pub type Counter<L> = LockedDesk<Nothing, Steps, L>;
-
 /// What sessions leave.
 type Passes<L> = Vec<Pass<Nothing, L>>;
-
-/// A desk over a new shop.
-pub fn new_desk<L: Ledger>(alloc: Global, blank: Blank, step: u64) -> Option<Counter<L>>
-    requires name { blank.name ≡ L.name }
-    requires parts { (blank.parts ≡ L.parts) × (blank.parts ≡ 2 ^ 32 - 1) }
-{
-    let shop: Shop<Nothing, L> = Shop::new(alloc, blank).ok()?;
-    LockedDesk::new(alloc, shop, Steps { at: 0, step }).ok()
-}
 
 /// The pass of a new connection, which is told the answer that another was given last.
 fn open_told<L: Ledger, W: Wait>(
@@ -56,31 +37,8 @@ fn open_told<L: Ledger, W: Wait>(
     Some(pass)
 }
 
-/// Serves a connection under settings without routes, so that no bank of transformers is needed.
-pub fn serve_plainly<L: Ledger, W: Wait>(
-    rt: &W,
-    alloc: Global,
-    device: &Device,
-    desk: &Counter<L>,
-    settings: &Arc<Settings>,
-    tape: &mut Tape,
-    gate: &mut Keeper<'_>,
-    pass: Pass<Nothing, L>,
-) -> Done<Nothing, L>
-    requires { (rules_of (arc_value settings.now)).routes ≡ [] }
-{
-    let bank: Bank<Nothing> = Bank::new(Vec::new(alloc));
-    let gateway = Gateway {
-        alloc,
-        wire: device,
-        desk,
-        settings,
-        bank: &bank,
-    };
-    serve(rt, &gateway, tape, gate, pass)
-}
-
-/// Serves a client. What its session leaves is its pass, where its end and what the client got are as wanted.
+/// Serves a client. What its session leaves is its pass, where its end and what the client got are
+/// as wanted.
 fn serve_client<L: Ledger, W: Wait>(
     rt: &W,
     alloc: Global,
@@ -148,20 +106,6 @@ fn serve_both<L: Ledger + Send + Sync, W: Threads + Wait + Sync>(
     joined(one, two)
 }
 
-/// Lets time go on, and hands in what the devices send.
-pub fn go_on<L: Ledger + Send + Sync, W: Threads + Wait + std::rt::Clock + Sync>(
-    rt: &W,
-    alloc: Global,
-    device: &Device,
-    desk: &Counter<L>,
-) {
-    thread::join(
-        rt,
-        || tick_loop(rt, device, desk, TURNS),
-        || udp_loop(rt, alloc, device, desk, TURNS),
-    );
-}
-
 /// Whether the trial goes as it says.
 fn run<L: Ledger + Send + Sync, W: Threads + Wait + std::rt::Clock + Sync>(
     rt: &W,
@@ -191,15 +135,8 @@ fn goes<W: Threads + Wait + std::rt::Clock + Sync>(
     run::<Brand, W>(rt, alloc, Blank::new(4294967295), trial) == Some(true)
 }
 
-/// The connection that the entry with this number closes.
-fn closed_at(journal: &Journal<Nothing>, number: usize) -> Option<u32> {
-    match &journal.get(number)?.event {
-        Event::Shut(conn) => Some(*conn),
-        _ => None,
-    }
-}
-
-/// Whether the sessions' connections were closed one after the other, each once, and then that which was opened first.
+/// Whether the sessions' connections were closed one after the other, each once, and then that
+/// which was opened first.
 fn are_closed_in_turn<L: Ledger>(shop: &Shop<Nothing, L>) -> bool {
     let mut closed: u32 = 0;
     let journal = shop.journal();
@@ -214,10 +151,11 @@ fn are_closed_in_turn<L: Ledger>(shop: &Shop<Nothing, L>) -> bool {
     closed == SESSIONS + 1
 }
 
-/// Serves more clients one after the other than may be open at once, while the first connection stays open, and
-/// then a request on that one. A session has the pass of its own connection and no other, and what closes one is a
-/// pass or its stub: so it can't close another's. That the desk closes the connection of the pass that it is given is
-/// a clause below the lock, and seen here in the journal too.
+/// Serves more clients one after the other than may be open at once, while the first connection
+/// stays open, and then a request on that one. A session has the pass of its own connection and no
+/// other, and what closes one is a pass or its stub: so it can't close another's. That the desk
+/// closes the connection of the pass that it is given is a clause below the lock, and seen here in
+/// the journal too.
 fn follow<L: Ledger, W: Wait>(rt: &W, alloc: Global, blank: Blank) -> Option<bool>
     requires name { blank.name ≡ L.name }
     requires parts { (blank.parts ≡ L.parts) × (blank.parts ≡ 2 ^ 32 - 1) }

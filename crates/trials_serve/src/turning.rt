@@ -2,9 +2,7 @@
 
 ghost use Rattle.std.specs.Prelude.{◌≡◌, ◌-◌, ◌^◌, ◌<◌, IfSome};
 
-use crate::sample::Nothing;
 use crate::settling::ask;
-use crate::threads::{Counter, new_desk};
 use exchange_core::RotateFault;
 use gateway_desk::{Pass, Report, SettleFault, TurnFault, TurnReason};
 use journal_book::{Event, Journal};
@@ -12,6 +10,8 @@ use std::alloc::Global;
 use std::marker::Brand;
 use std::sync::Wait;
 use std::sync::ledger::{Blank, Ledger};
+use trials_clients::Nothing;
+use trials_desk::{Counter, new_desk};
 
 /// How many journals are turned over.
 const TURNS: u32 = 3;
@@ -65,8 +65,8 @@ fn last_opened(journal: &Journal<Nothing>) -> Option<u32> {
     last
 }
 
-/// Whether two sessions' passes settle a journal, in which one alone isn't enough, and connections go
-/// on by number after it.
+/// Whether two sessions' passes settle a journal, in which one alone isn't enough, and connections
+/// go on by number after it.
 fn turn_two<L: Ledger, W: Wait>(
     rt: &W,
     alloc: Global,

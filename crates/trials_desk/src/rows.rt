@@ -1,7 +1,7 @@
 //! What clients send, what becomes of their sessions, and what is settled.
 
 use crate::client::Client;
-use crate::device::{ACK, Manner};
+use crate::device::Manner;
 use gateway_desk::Report;
 use sessions::{End, Point};
 
@@ -29,7 +29,8 @@ const IS_ON: &[u8] =
 const IS_OFF: &[u8] =
     b"HTTP/1.1 200 OK\r\nContent-Type: text/plain;charset=utf-8\r\nCache-Control: max-age=60\r\nContent-Length: 3\r\n\r\noff";
 
-/// A PUT whose body comes once the client is told to go on, in two pieces, and a GET that comes with it.
+/// A PUT whose body comes once the client is told to go on, in two pieces, and a GET that comes
+/// with it.
 const PUT_AND_GET: &[&[u8]] = &[
     b"PUT /hc/coap://s.example.com/light HTTP/1.1\r\nHost: p\r\nContent-Length: 3\r\nExpect: 100-continue\r\n\r\n",
     b"o",
@@ -296,21 +297,6 @@ pub fn shut() -> &'static Trial {
     &SHUT
 }
 
-/// A request over sockets.
-pub struct Row {
-    pub method: &'static [u8],
-    /// what comes after the device's address
-    pub rest: &'static [u8],
-    /// the code that the device hears, and what stands after the token
-    pub code: u8,
-    pub asked: &'static [u8],
-    /// how the device's reply begins, its code, and what stands after the token
-    pub reply: (u8, u8, &'static [u8]),
-    pub told: &'static [u8],
-    /// how many letters come after both
-    pub letters: usize,
-}
-
 /// A client that says nothing and goes.
 static LEAVER: Client = Client {
     sends: &[],
@@ -335,52 +321,4 @@ static STRANGER: Client = Client {
 
 pub fn stranger() -> &'static Client {
     &STRANGER
-}
-
-/// How an RST begins.
-const RST: u8 = 0x70;
-
-/// The device has forgotten who it is; then the light is read and put out, and in the end the device has so much to
-/// say of it that its datagram has 1,500 bytes, as many as go over Ethernet at once.
-static ROWS: [Row; 4] = [
-    Row {
-        method: b"GET",
-        rest: b"/light HTTP/1.1\r\nHost: p\r\n\r\n",
-        code: 1,
-        asked: b"\xb5light",
-        reply: (RST, 0, b""),
-        told: b"HTTP/1.1 502 Bad Gateway\r\nHC-Cause: reset 3\r\nContent-Length: 0\r\n\r\n",
-        letters: 0,
-    },
-    Row {
-        method: b"GET",
-        rest: b"/light HTTP/1.1\r\nHost: p\r\n\r\n",
-        code: 1,
-        asked: b"\xb5light",
-        reply: (ACK, 69, b"\xc0\xffon"),
-        told: IS_ON,
-        letters: 0,
-    },
-    Row {
-        method: b"PUT",
-        rest: b"/light HTTP/1.1\r\nHost: p\r\nContent-Length: 3\r\n\r\noff",
-        code: 3,
-        asked: b"\xb5light\xffoff",
-        reply: (ACK, 68, b""),
-        told: b"HTTP/1.1 204 No Content\r\n\r\n",
-        letters: 0,
-    },
-    Row {
-        method: b"GET",
-        rest: b"/light HTTP/1.1\r\nHost: p\r\n\r\n",
-        code: 1,
-        asked: b"\xb5light",
-        reply: (ACK, 69, b"\xc0\xff"),
-        told: b"HTTP/1.1 200 OK\r\nContent-Type: text/plain;charset=utf-8\r\nCache-Control: max-age=60\r\nContent-Length: 1486\r\n\r\n",
-        letters: 1486,
-    },
-];
-
-pub fn rows() -> &'static [Row] {
-    &ROWS
 }

@@ -1,78 +1,40 @@
-//! The gateway on sockets of this machine, with a device that goes by rows.
+//! What clients and devices do over sockets of this machine.
 
-use crate::device::reply_to;
-use crate::rows::{Row, rows};
-use crate::sample::settings;
-use gateway_server::{NoArchive, Options, Payloads, Ports, run};
-use log::Log;
+use crate::table::{Row, rows};
 use std::alloc::{AllocError, Global};
 use std::io::{Read, Write};
-use std::net::{IpAddr, Ipv4Addr, Net, SocketAddr, TcpListener, TcpStream, UdpSocket};
-use std::random::RandomSource;
+use std::net::{IpAddr, Ipv4Addr, Net, SocketAddr, TcpStream, UdpSocket};
 use std::rt::Clock;
-use std::sync::Wait;
 use std::thread;
-use std::thread::Threads;
 use std::time::Duration;
 
 /// How long the client and the device wait at most, in seconds.
 const PATIENCE: u64 = 20;
+
+/// How long a client may stand still in the trials of that, in seconds.
+pub const IDLE: u64 = 1;
 
 /// A port of this machine that the system chooses.
 pub fn any_port() -> SocketAddr {
     SocketAddr::new(IpAddr::V4(Ipv4Addr::LOCALHOST), 0)
 }
 
-/// How long a client may stand still in the trials of that, in seconds.
-const IDLE: u64 = 1;
-
-/// Starts a gateway with these options, and answers where it takes connections.
-pub fn start_with<
-    W: Threads
-        + Wait
-        + Log
-        + Clock
-        + RandomSource
-        + Net<Listener = TcpListener, Stream = TcpStream>
-        + Copy
-        + Drop
-        + Send
-        + Sync
-        + 'static,
->(rt: W, alloc: Global, options: Options) -> Option<SocketAddr> {
-    let ports = Ports::bind(&rt, any_port(), any_port()).ok()?;
-    let at = ports.listens_at().ok()?;
-    let settings = settings(alloc).ok()?;
-    let started = thread::spawn(&rt, move || {
-        let _ = run(rt, alloc, ports, settings, options, NoArchive);
-    });
-    started.is_ok().then_some(at)
-}
-
-/// Starts a gateway, and answers where it takes connections.
-pub fn start<
-    W: Threads
-        + Wait
-        + Log
-        + Clock
-        + RandomSource
-        + Net<Listener = TcpListener, Stream = TcpStream>
-        + Copy
-        + Drop
-        + Send
-        + Sync
-        + 'static,
->(rt: W, alloc: Global) -> Option<SocketAddr> {
-    start_with(rt, alloc, Options::default())
-}
-
-/// Notes each answer, and gives up who stands still for a second.
-fn hasty() -> Options {
-    Options {
-        access: true,
-        idle: IDLE,
-        payloads: Payloads::Hidden,
+/// The reply to a request that begins so, with its ID, and with its token where the length says so.
+pub fn reply_to(
+    alloc: Global,
+    first: u8,
+    request: &[u8],
+    code: u8,
+    rest: &[u8],
+) -> Result<Vec<u8>, AllocError> {
+    let mut bytes = Vec::new(alloc);
+    bytes.extend_from_slice(&[first, code])?;
+    if let [_, _, front @ ..] = request {
+        let kept = if first & 15 == 0 { 2 } else { 10 };
+        bytes.extend_from_slice(&front[..front.len().min(kept)])?;
     }
+    bytes.extend_from_slice(rest)?;
+    Ok(bytes)
 }
 
 /// A device's socket.
@@ -144,7 +106,7 @@ fn is_told(alloc: Global, client: &mut TcpStream, row: &'static Row) -> bool {
 }
 
 /// Whether the rows go as they say, one after the other on one connection.
-fn go<W: Net<Stream = TcpStream>>(rt: &W, alloc: Global, gateway: SocketAddr) -> Option<bool> {
+pub fn go<W: Net<Stream = TcpStream>>(rt: &W, alloc: Global, gateway: SocketAddr) -> Option<bool> {
     let device = open_device(rt)?;
     let port = device.local_addr().ok()?.port();
     let mut client = open_client(rt, gateway)?;
@@ -157,17 +119,8 @@ fn go<W: Net<Stream = TcpStream>>(rt: &W, alloc: Global, gateway: SocketAddr) ->
     Some(true)
 }
 
-#[test]
-fn rows_go_over_sockets(rt: HostRuntime) {
-    let gateway = start(rt, rt.alloc());
-    assert!(rt; gateway.is_some());
-    if let Some(gateway) = gateway {
-        assert!(rt; go(&rt, rt.alloc(), gateway) == Some(true));
-    }
-}
-
 /// Whether a client that stops within a request is told the end.
-fn is_given_up<W: Net<Stream = TcpStream>>(rt: &W, gateway: SocketAddr) -> Option<bool> {
+pub fn is_given_up<W: Net<Stream = TcpStream>>(rt: &W, gateway: SocketAddr) -> Option<bool> {
     let mut client = open_client(rt, gateway)?;
     client.write_all(b"GET /hc/coap").ok()?;
     let mut told = [0u8; 16];
@@ -175,17 +128,8 @@ fn is_given_up<W: Net<Stream = TcpStream>>(rt: &W, gateway: SocketAddr) -> Optio
     Some(count == 0)
 }
 
-#[test]
-fn a_request_that_stands_still_ends(rt: HostRuntime) {
-    let gateway = start_with(rt, rt.alloc(), hasty());
-    assert!(rt; gateway.is_some());
-    if let Some(gateway) = gateway {
-        assert!(rt; is_given_up(&rt, gateway) == Some(true));
-    }
-}
-
 /// Whether one more is answered where as many are connected as may be, and ask nothing.
-fn is_taken<W: Net<Stream = TcpStream> + Clock>(
+pub fn is_taken<W: Net<Stream = TcpStream> + Clock>(
     rt: &W,
     alloc: Global,
     gateway: SocketAddr,
@@ -200,13 +144,4 @@ fn is_taken<W: Net<Stream = TcpStream> + Clock>(
     let mut told = [0u8; 12];
     client.read_exact(&mut told).ok()?;
     Some(told.as_slice() == b"HTTP/1.1 400".as_slice())
-}
-
-#[test]
-fn the_longest_idle_makes_place(rt: HostRuntime) {
-    let gateway = start_with(rt, rt.alloc(), hasty());
-    assert!(rt; gateway.is_some());
-    if let Some(gateway) = gateway {
-        assert!(rt; is_taken(&rt, rt.alloc(), gateway) == Some(true));
-    }
 }

@@ -1,9 +1,9 @@
-//! Where the sessions' requests lead.
+//! Where requests lead.
 
 ghost use Rattle.std.specs.Prelude.{◌≡◌, [], IfOk, IfSome};
 ghost use Rattle.std.specs.Arc.{arc_value};
 ghost use Rattle.ask_model.specs.Views.{rules_of};
-ghost use Rattle.trials_serve.specs.Nothing.{HoldsNothing, TakesNothing};
+ghost use Rattle.trials_clients.specs.Nothing.{HoldsNothing, TakesNothing};
 
 use ask_model::Settings;
 use media_map::{Policy, Routes};
@@ -17,7 +17,7 @@ use uri_map::{Directory, Text, Texts};
 pub struct Nothing;
 
 impl Relation for Nothing {
-    ghost use Rattle.trials_serve.specs.Nothing.{HoldsNothing, TakesNothing};
+    ghost use Rattle.trials_clients.specs.Nothing.{HoldsNothing, TakesNothing};
 
     ghost holds = { HoldsNothing };
 

@@ -6,6 +6,7 @@ use std::collections::VecDeque;
 use std::net::{IpAddr, Ipv4Addr};
 use std::sync::{Mutex, MutexGuard};
 use std::thread;
+use trials_clients::{ACK, reply_to};
 use uri_map::Peer;
 
 /// How often a lock that is held is tried again.
@@ -13,9 +14,6 @@ const TRIES: u32 = 1_000_000;
 
 /// After how many turns a wire fails that breaks.
 const TURNS_LEFT: u64 = 100;
-
-/// How an ACK with a token of 8 bytes begins.
-pub const ACK: u8 = 0x68;
 
 /// When the devices answer.
 #[derive(Clone, Copy, Debug, PartialEq, Eq)]
@@ -76,24 +74,6 @@ pub struct Device {
 
 fn first_device() -> IpAddr {
     IpAddr::V4(Ipv4Addr::new(192, 0, 2, 1))
-}
-
-/// The reply to a request that begins so, with its ID, and with its token where the length says so.
-pub fn reply_to(
-    alloc: Global,
-    first: u8,
-    request: &[u8],
-    code: u8,
-    rest: &[u8],
-) -> Result<Vec<u8>, AllocError> {
-    let mut bytes = Vec::new(alloc);
-    bytes.extend_from_slice(&[first, code])?;
-    if let [_, _, front @ ..] = request {
-        let kept = if first & 15 == 0 { 2 } else { 10 };
-        bytes.extend_from_slice(&front[..front.len().min(kept)])?;
-    }
-    bytes.extend_from_slice(rest)?;
-    Ok(bytes)
 }
 
 impl Mail {

@@ -1,7 +1,7 @@
 //! The gateway and the demonstration device in one process, on sockets of this machine.
 
-use crate::sockets::{any_port, open_client, start};
-use crate::window::{Shown, start_shown, told_to};
+use crate::sockets::start;
+use crate::window::start_shown;
 use device_server::DevicePort;
 use log::Log;
 use proxy_settings::{Device, Part, Setup, settings_of};
@@ -11,6 +11,7 @@ use std::net::{Net, SocketAddr, TcpStream};
 use std::rt::Clock;
 use std::thread::Threads;
 use std::{str, thread};
+use trials_clients::{Shown, any_port, open_client, told_to};
 
 /// A device with a light that is on.
 static LIGHT: &str =
@@ -73,7 +74,8 @@ fn the_device_answers_the_gateway(rt: HostRuntime) {
     }
 }
 
-/// What the window shows of that request: its entries, and the device's reply with what it carries hidden.
+/// What the window shows of that request: its entries, and the device's reply with what it carries
+/// hidden.
 static DRAWN: [&str; 3] = ["<g id=\"e1\" ", "ff2a2a</title>", "<g id=\"e4\" "];
 
 fn drawn() -> &'static [&'static str] {

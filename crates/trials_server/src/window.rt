@@ -1,7 +1,5 @@
 //! What the window of a gateway shows.
 
-use crate::sample::{Nothing, settings};
-use crate::sockets::{any_port, open_client};
 use coap_codec::Bytes;
 use gateway_server::{NoArchive, Options, Payloads, Ports, run};
 use http_edge::{Edge, Incoming, answer_bytes};
@@ -12,53 +10,14 @@ use status_page::{
     Classes, Connections, Device, Excerpt, Fill, Last, Phase, Responses, Status, answer_of,
 };
 use std::alloc::{AllocError, Global};
-use std::io::{Read, Write};
-use std::net::{IpAddr, Ipv4Addr, Net, SocketAddr, TcpListener, TcpStream};
+use std::net::{IpAddr, Ipv4Addr, Net, TcpListener, TcpStream};
 use std::random::RandomSource;
 use std::rt::Clock;
 use std::sync::Wait;
 use std::thread::Threads;
 use std::{str, thread};
+use trials_clients::{Nothing, Shown, answers_all, any_port, is_counted, settings, shows_journal};
 use uri_map::Peer;
-
-/// What is asked of the window over a socket, and how the answer begins.
-static ASKED: [(&str, &str); 8] = [
-    (
-        "GET /health HTTP/1.1\r\nHost: w\r\n\r\n",
-        "HTTP/1.1 200 OK\r\n",
-    ),
-    (
-        "GET http://w/metrics?x HTTP/1.1\r\nHost: w\r\n\r\n",
-        "HTTP/1.1 200 OK\r\n",
-    ),
-    ("GET /nothing HTTP/1.1\r\nHost: w\r\n\r\n", "HTTP/1.1 404 "),
-    ("GET /journal HTTP/1.1\r\nHost: w\r\n\r\n", "HTTP/1.1 200 "),
-    (
-        "GET /journal?from=1 HTTP/1.1\r\nHost: w\r\n\r\n",
-        "HTTP/1.1 404 ",
-    ),
-    (
-        "GET /journal/0 HTTP/1.1\r\nHost: w\r\n\r\n",
-        "HTTP/1.1 404 ",
-    ),
-    (
-        "PUT / HTTP/1.1\r\nHost: w\r\nContent-Length: 0\r\n\r\n",
-        "HTTP/1.1 405 ",
-    ),
-    ("?\r\n\r\n", "HTTP/1.1 400 "),
-];
-
-/// They, handed out by a call that says nothing of them.
-fn asked() -> &'static [(&'static str, &'static str)] {
-    &ASKED
-}
-
-/// Where a gateway takes connections, and where it is looked at.
-#[derive(Clone, Copy)]
-pub struct Shown {
-    pub gateway: SocketAddr,
-    pub window: SocketAddr,
-}
 
 /// Starts a gateway that shows how it does, and answers where.
 pub fn start_shown<
@@ -87,35 +46,6 @@ pub fn start_shown<
     started.is_ok().then_some(shown)
 }
 
-/// Whether the window answers so.
-fn answers<W: Net<Stream = TcpStream>>(
-    rt: &W,
-    alloc: Global,
-    window: SocketAddr,
-    asked: &str,
-    told: &str,
-) -> Option<bool> {
-    let mut client = open_client(rt, window)?;
-    client.write_all(asked.as_bytes()).ok()?;
-    let mut begun = vec![in alloc; 0u8; told.len()].ok()?;
-    client.read_exact(&mut begun).ok()?;
-    Some(begun.as_slice() == told.as_bytes())
-}
-
-/// Whether the window answers all as it has to.
-fn answers_all<W: Net<Stream = TcpStream>>(
-    rt: &W,
-    alloc: Global,
-    window: SocketAddr,
-) -> Option<bool> {
-    for &(asked, told) in asked() {
-        if !answers(rt, alloc, window, asked, told)? {
-            return Some(false);
-        }
-    }
-    Some(true)
-}
-
 #[test]
 fn the_window_answers(rt: HostRuntime) {
     let shown = start_shown(rt, rt.alloc());
@@ -125,29 +55,6 @@ fn the_window_answers(rt: HostRuntime) {
     }
 }
 
-/// All that is answered to these bytes until the connection ends.
-pub fn told_to<W: Net<Stream = TcpStream>>(
-    rt: &W,
-    alloc: Global,
-    at: SocketAddr,
-    asked: &[u8],
-) -> Option<Vec<u8>> {
-    let mut client = open_client(rt, at)?;
-    client.write_all(asked).ok()?;
-    let mut told = Vec::new(alloc);
-    client.read_to_end(&mut told).ok()?;
-    Some(told)
-}
-
-/// Whether the window counts an answer of the gateway's own, once that was given.
-fn is_counted<W: Net<Stream = TcpStream>>(rt: &W, alloc: Global, shown: Shown) -> Option<bool> {
-    told_to(rt, alloc, shown.gateway, b"?\r\n\r\n")?;
-    let asked = b"GET /metrics HTTP/1.1\r\nHost: w\r\n\r\n";
-    let figures = told_to(rt, alloc, shown.window, asked)?;
-    let figures = str::from_utf8(&figures).ok()?;
-    Some(figures.contains("\nhcproxy_own_responses_total{cause=\"bad-http\"} 1\n"))
-}
-
 #[test]
 fn the_window_counts(rt: HostRuntime) {
     let shown = start_shown(rt, rt.alloc());
@@ -155,39 +62,6 @@ fn the_window_counts(rt: HostRuntime) {
     if let Some(shown) = shown {
         assert!(rt; is_counted(&rt, rt.alloc(), shown) == Some(true));
     }
-}
-
-/// What the window says of the journal, once bytes that are no request were answered.
-static SAID: [(&str, &str); 4] = [
-    ("GET /journal HTTP/1.1\r\nHost: w\r\n\r\n", " opened 0\n1 "),
-    (
-        "GET /journal?from=2 HTTP/1.1\r\nHost: w\r\n\r\n",
-        " answered 0 1 fault bad-http 1\n",
-    ),
-    (
-        "GET /journal/1 HTTP/1.1\r\nHost: w\r\n\r\n",
-        "<a href=\"#e1\">1</a>, bad-http: see <a href=\"#e1\">1</a>",
-    ),
-    (
-        "HEAD /journal/2 HTTP/1.1\r\nHost: w\r\n\r\n",
-        "Content-Type: text/html; charset=utf-8\r\n",
-    ),
-];
-
-fn said() -> &'static [(&'static str, &'static str)] {
-    &SAID
-}
-
-/// Whether the window leads from an answer of the gateway's own to its entries.
-fn shows_journal<W: Net<Stream = TcpStream>>(rt: &W, alloc: Global, shown: Shown) -> Option<bool> {
-    told_to(rt, alloc, shown.gateway, b"?\r\n\r\n")?;
-    for &(asked, said) in said() {
-        let text = told_to(rt, alloc, shown.window, asked.as_bytes())?;
-        if !str::from_utf8(&text).ok()?.contains(said) {
-            return Some(false);
-        }
-    }
-    Some(true)
 }
 
 #[test]

@@ -4,11 +4,6 @@
 
 ghost use Rattle.std.specs.Prelude.{◌≡◌, ◌-◌, ◌^◌};
 
-use crate::client::{Client, Keeper, Tape};
-use crate::device::{Device, Failing, SOUND};
-use crate::rows::{Trial, apart, late, lost, twice};
-use crate::sample::shared_settings;
-use crate::threads::{Counter, go_on, new_desk, serve_plainly};
 use exchange_core::OpenFault;
 use sessions::{Done, End};
 use std::alloc::Global;
@@ -17,6 +12,11 @@ use std::sync::Wait;
 use std::sync::ledger::{Blank, Ledger};
 use std::thread;
 use std::thread::Threads;
+use trials_clients::shared_settings;
+use trials_desk::{
+    Client, Counter, Device, Failing, Keeper, SOUND, Tape, Trial, apart, go_on, late, lost,
+    new_desk, serve_plainly, twice,
+};
 
 /// What fails: the call of each connection that comes after so many, or the wire.
 #[derive(Clone, Copy)]
@@ -33,7 +33,7 @@ const NOTHING: Fails = Fails {
 
 /// How a session went.
 #[derive(Clone, Copy, PartialEq, Eq)]
-enum Went {
+pub enum Went {
     /// As it was to.
     Right,
     /// It ended early, since something of it failed; what its client got is the beginning of what
@@ -55,7 +55,7 @@ fn worse(one: Went, two: Went) -> Went {
 
 /// How the session of a client went, which ended so. It says that a read or a write failed exactly
 /// where one did.
-fn outcome_of(client: &Client, tape: &Tape, end: End) -> Went {
+pub fn outcome_of(client: &Client, tape: &Tape, end: End) -> Went {
     if end == client.end && tape.is_done() {
         Went::Right
     } else if tape.is_right() {
