@@ -7,3 +7,5 @@
 
 #[cfg(test)]
 mod failing;
+#[cfg(test)]
+mod refused;
