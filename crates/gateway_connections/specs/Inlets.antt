@@ -16,10 +16,11 @@ pub record Inlet : Type 0 where
   pub closing : Bool
   pub unread : ℕ
 
--- the connections as they are, and as they were at the mark
+-- the connections as they are, and as they were at the mark; and for how many more there are places
 pub record TableValue : Type 0 where
   pub current : List Inlet
   pub marked : List Inlet
+  pub room : ℕ
 
 -- the first of that number
 abbrev pub inlet_at : ℕ → List Inlet → Option Inlet

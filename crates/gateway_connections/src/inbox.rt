@@ -1,6 +1,6 @@
 //! The bytes of one connection that are not asked yet.
 
-ghost use Rattle.std.specs.Prelude.{IfOk, OnOk, OnErr};
+ghost use Rattle.std.specs.Prelude.{OnOk, OnErr};
 
 use crate::reader::{Reader, closes};
 use http_edge::{Incoming, Memory};
@@ -25,6 +25,35 @@ pub struct Mark {
     unread: usize,
     told: bool,
     closing: bool,
+}
+
+/// What a connection that opens takes, made before it does.
+#[derive(Drop)]
+pub struct Spare {
+    reader: Reader,
+}
+
+impl Model for Spare {
+    ghost use Rattle.std.specs.Prelude.{◌≡◌, ⊤, [], false};
+    ghost use Rattle.http_edge.specs.Edges.{is_told};
+    ghost use Rattle.gateway_connections.specs.Readers.{IsInStep};
+
+    ghost Value = { ⊤ };
+
+    ghost view = { λ s. tt };
+
+    ghost invariant = { λ s. IsInStep s.reader
+        × (s.reader.bytes.items ≡ [])
+        × (s.reader.start ≡ 0)
+        × (is_told s.reader.edge ≡ false) };
+}
+
+impl Spare {
+    /// With no bytes.
+    pub(crate) fn new(alloc: Global) -> Result<Spare, Memory> {
+        let reader = Reader::new(alloc)?;
+        Ok(Spare { reader })
+    }
 }
 
 /// The bytes of a connection that aren't asked yet. It can go back to what it held at its mark.
@@ -68,15 +97,15 @@ impl Inbox {
     ghost use Rattle.gateway_connections.specs.Inlets.{IsSound, fresh, extended, is_full};
     ghost use Rattle.gateway_connections.specs.Reads.{ReadsInlet};
 
-    /// No bytes yet, which is its mark.
-    pub fn new(alloc: Global, number: u32) -> Result<Inbox, Memory>
-        ensures current { IfOk result (λ i. i.current ≡ fresh number) }
-        ensures marked { IfOk result (λ i. i.marked ≡ fresh number) }
-        ensures sound { IfOk result (λ i. IsSound i.current) }
+    /// No bytes yet, which is its mark. It takes no memory.
+    pub fn of(spare: Spare, number: u32) -> Inbox
+        ensures current { result.current ≡ fresh number }
+        ensures marked { result.marked ≡ fresh number }
+        ensures sound { IsSound result.current }
     {
-        Ok(Inbox {
+        Inbox {
             number,
-            reader: Reader::new(alloc)?,
+            reader: spare.reader,
             unread: 0,
             told: false,
             closing: false,
@@ -87,7 +116,7 @@ impl Inbox {
                 told: false,
                 closing: false,
             },
-        })
+        }
     }
 
     /// The number of its connection.

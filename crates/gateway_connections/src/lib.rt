@@ -14,5 +14,5 @@ mod row;
 mod table;
 
 pub use http_edge::{Incoming, Memory};
-pub use inbox::Next;
+pub use inbox::{Next, Spare};
 pub use table::Table;

@@ -1,11 +1,11 @@
 //! The open connections, by their numbers.
 
-ghost use Rattle.std.specs.Prelude.{◌≡◌, ◌≢◌, ◌∷◌, ◌++◌, [], None, false, All, map, nat_lt};
+ghost use Rattle.std.specs.Prelude.{◌≡◌, ◌≢◌, ◌<◌, ◌∷◌, ◌++◌, [], None, false, All, map, nat_lt};
 ghost use Rattle.std.specs.Prelude.{IfSome, OnOk, OnErr};
 ghost use Rattle.gateway_connections.specs.Rows.{AreInOrder, HasNumber, IsClosed, current_of};
 ghost use Rattle.gateway_connections.specs.Rows.{settled, put_back};
 
-use crate::inbox::{Inbox, Next};
+use crate::inbox::{Inbox, Next, Spare};
 use crate::row::Row;
 use http_edge::Memory;
 use std::alloc::Global;
@@ -26,7 +26,7 @@ impl Drop for Table {
 }
 
 impl Model for Table {
-    ghost use Rattle.std.specs.Prelude.{All};
+    ghost use Rattle.std.specs.Prelude.{◌-◌, All, vec_capacity, vec_len};
     ghost use Rattle.gateway_connections.specs.Inlets.{TableValue};
     ghost use Rattle.gateway_connections.specs.Rows.{AreInOrder, IsWhole, current_of, marked_of};
 
@@ -35,6 +35,7 @@ impl Model for Table {
     ghost view = { λ t. record {
       current = current_of t.rows.items;
       marked = marked_of t.rows.items;
+      room = vec_capacity t.rows - vec_len t.rows;
     } };
 
     ghost invariant = { λ t. AreInOrder t.rows.items × All IsWhole t.rows.items };
@@ -64,21 +65,28 @@ impl Table {
         let _rows = &self.rows;
     }
 
-    /// Opens a connection, which has a number above all others.
-    pub fn insert(&mut self, number: u32) -> Result<(), Memory>
-        requires { IsAbove number self.old }
-        ensures opened { OnOk result (self.new.current ≡ self.old.current ++ fresh number ∷ []) }
-        ensures unchanged { OnErr result (self.new.current ≡ self.old.current) }
+    /// Makes all that the next connection that opens takes.
+    pub fn make_room(&mut self) -> Result<Spare, Memory>
+        ensures current { self.new.current ≡ self.old.current }
         ensures marked { self.new.marked ≡ self.old.marked }
+        ensures room { OnOk result (0 < self.new.room) }
     {
         self.rows.try_reserve(1)?;
-        let inbox = Inbox::new(self.alloc, number)?;
+        Spare::new(self.alloc)
+    }
+
+    /// Opens a connection, which has a number above all others. It takes no memory.
+    pub fn insert(&mut self, spare: Spare, number: u32)
+        requires above { IsAbove number self.old }
+        requires room { 0 < self.old.room }
+        ensures opened { self.new.current ≡ self.old.current ++ fresh number ∷ [] }
+        ensures marked { self.new.marked ≡ self.old.marked }
+    {
         self.rows.push_reserved(Row {
-            inbox,
+            inbox: Inbox::of(spare, number),
             fresh: true,
             closed: false,
         });
-        Ok(())
     }
 
     /// Takes the connection out. It takes no memory.

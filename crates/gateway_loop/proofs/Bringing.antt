@@ -17,12 +17,13 @@ use Rattle.gateway_world.specs.Inputs.{Takes}
 use Rattle.gateway_world.specs.Openings.{IsCounted}
 use Rattle.gateway_world.specs.Worlds.{WorldValue}
 use Rattle.gateway_loop.specs.Clients.{ClientValue, Feeds, unserved}
-use Rattle.gateway_loop.specs.Delivery.{AreGiven, IsGiven, given_to}
-use Rattle.gateway_loop.specs.Places.{EachChanges, IsEmptied, OnlyAt}
+use Rattle.gateway_loop.specs.Delivery.{AreGiven, IsGiven, IsLost, given_to}
+use Rattle.gateway_loop.specs.Places.{EachChanges, EachKept, IsCarried, OnlyAt}
 use Rattle.gateway_loop.specs.Serving.{IsAfter, IsServed, IsServing, Past, brought_in, heard_at, said, then}
 use Rattle.gateway_loop.specs.Sockets.{Are, Grown}
 use Rattle.gateway_loop.specs.Telling.{NotesValue, Tells}
-use Rattle.gateway_loop.proofs.Changing.{each-as, each-from, each-then, each-with, same-or-not}
+use Rattle.gateway_loop.proofs.Changing.{all-as, all-from, all-kept, all-then, each-with, same-or-not}
+use Rattle.gateway_loop.proofs.Giving.{given-quietly}
 use Rattle.gateway_loop.proofs.Served.{once, served-carried, served-first, served-on, serving-on}
 
 -- only an input for one opens a connection
@@ -51,28 +52,33 @@ pub record Brings {S : Type 0} (i : Input) (out : List Emission) (c : ℕ) (x y 
   pub leaving : y.leaving ≡ x.leaving
 
 module _ {S : Type 0} (i : Input) (out : List Emission) where
-  -- one that brings nothing
+  -- one that brings it nothing
+  pub brings-one : (c : ℕ) (x y : ClientValue S) → brought_in c i ≡ [] → y ≡ given_to c out x → Brings i out c x y
+  brings-one c x y none e = record {
+    stream = ap (λ (z : ClientValue S). z.stream) e;
+    left = ap (λ (z : ClientValue S). z.left) e;
+    unfed = sym (ap (λ (z : ClientValue S). z.unfed) e) ∙ ap (λ (t : List ℕ). t ++ y.unfed) (sym none);
+    leaving = ap (λ (z : ClientValue S). z.leaving) e;
+  }
+
   pub brings-none : (xs ys : List (Option (ClientValue S))) → ((c : ℕ) → brought_in c i ≡ []) → AreGiven out xs ys
-      → EachChanges (Brings i out) xs ys
-  brings-none xs ys none g = each-as (IsGiven out) (Brings i out) xs ys by g
-    where
-      by : (c : ℕ) (x y : ClientValue S) → y ≡ given_to c out x → Brings i out c x y
-      by c x y e = record {
-        stream = ap (λ (z : ClientValue S). z.stream) e;
-        left = ap (λ (z : ClientValue S). z.left) e;
-        unfed = sym (ap (λ (z : ClientValue S). z.unfed) e) ∙ ap (λ (t : List ℕ). t ++ y.unfed) (sym (none c));
-        leaving = ap (λ (z : ClientValue S). z.leaving) e;
-      }
+      → EachKept (Brings i out) (IsLost out) xs ys
+  brings-none xs ys none g =
+      all-as (IsGiven out) (Brings i out) (IsLost out) (IsLost out) xs ys (λ c x y at e. brings-one c x y (none c) e) (λ c x h. h) g
 
   -- one that brings the first of what was read of a connection
   pub brings-piece : (xs zs ys : List (Option (ClientValue S))) (k n : ℕ)
       → EachChanges (OnlyAt k (Feeds n)) xs zs
       → ((x : ClientValue S) → slice_get xs k ≡ Some (Some x) → x.unfed ≡ brought_in k i ++ drop n x.unfed)
       → ((c : ℕ) → c ≢ k → brought_in c i ≡ [])
-      → AreGiven out zs ys → EachChanges (Brings i out) xs ys
+      → AreGiven out zs ys → EachKept (Brings i out) (IsLost out) xs ys
   brings-piece xs zs ys k n e piece none g =
-      each-then Feed (IsGiven out) (Brings i out) xs zs ys on (each-with (OnlyAt k (Feeds n)) Feed xs zs feed e) g
+      all-then Feed (IsGiven out) (Brings i out) Never (IsLost out) (IsLost out) xs zs ys on (λ c x h. absurd h) (λ c x z f h. h)
+      (all-kept Feed Never xs zs (each-with (OnlyAt k (Feeds n)) Feed xs zs feed e)) g
     where
+      Never : ℕ → ClientValue S → Type 0
+      Never c x = ⊥
+
       Feed : ℕ → ClientValue S → ClientValue S → Type 0
       Feed c x z = (z.stream ≡ x.stream) × (z.left ≡ x.left) × (x.unfed ≡ brought_in c i ++ z.unfed) × (z.leaving ≡ x.leaving)
 
@@ -141,23 +147,24 @@ module _ (holds : Form → Form → List ℕ → List ℕ → Type 0) (takes : F
     {S W : Type 0} (written gave : S → Option (List ℕ)) (sent heard : W → Option (List Outgoing)) where
   pub serving-takes : (i : Input) (out : List Emission) (w v : WorldValue) (xs ys : List (Option (ClientValue S))) (m n : W)
       (n0 n1 : NotesValue) → IsServing holds takes written gave sent heard w xs m n0 → Takes holds takes i w out v
-      → v.core.state.opened ≡ w.core.state.opened → EachChanges (Brings i out) xs ys
+      → v.core.state.opened ≡ w.core.state.opened → EachKept (Brings i out) (IsLost out) xs ys
       → Grown (sent m) (sent n) (goes_in out) → Grown (heard m) (heard n) (heard_at i) → Tells out n0 n1
       → IsServing holds takes written gave sent heard v ys n n1
   serving-takes i out w v xs ys m n n0 n1 h t same e goes came told =
       serving-on holds takes written gave sent heard i out w v xs ys m n n0 n1 h t (e.count ∙ (h.numbers ∙ sym same))
-      (λ past after each c y at. let x = each-from (Brings i out) xs ys c y e at in
+      (λ past after each c y at. let x = all-from (Brings i out) (IsLost out) xs ys c y e at in
       served-on holds takes written gave c past i out x.0 y (each c x.0 x.1) x.2.stream x.2.left x.2.unfed x.2.leaving) goes came told
 
+  -- A connection opens: its place was made before.
   pub serving-opens : (i : Input) (out : List Emission) (w v : WorldValue) (xs zs ys : List (Option (ClientValue S))) (m n : W) (s : S)
       (n0 n1 : NotesValue) → IsServing holds takes written gave sent heard w xs m n0 → Takes holds takes i w out v → i.happening ≡ H.Open
-      → v.core.state.opened ≡ w.core.state.opened + 1 → AreGiven out xs zs → ys ≡ zs ++ Some (unserved s) ∷ []
+      → v.core.state.opened ≡ w.core.state.opened + 1 → zs ≡ xs ++ Some (unserved s) ∷ [] → AreGiven out zs ys
       → Are (written s) [] → Are (gave s) []
       → Grown (sent m) (sent n) (goes_in out) → Grown (heard m) (heard n) (heard_at i) → Tells out n0 n1
       → IsServing holds takes written gave sent heard v ys n n1
-  serving-opens i out w v xs zs ys m n s n0 n1 h t opens more g e wrote read goes came told =
+  serving-opens i out w v xs zs ys m n s n0 n1 h t opens more e g wrote read goes came told =
       serving-on holds takes written gave sent heard i out w v xs ys m n n0 n1 h t
-      (ap length e ∙ (length-more zs ∙ (ap (λ (k : ℕ). k + 1) (g.count ∙ h.numbers) ∙ sym more)))
+      (g.count ∙ (ap length e ∙ (length-more xs ∙ (ap (λ (k : ℕ). k + 1) h.numbers ∙ sym more))))
       each goes came told
     where
       none : (c : ℕ) → brought_in c i ≡ []
@@ -171,37 +178,40 @@ module _ (holds : Form → Form → List ℕ → List ℕ → Type 0) (takes : F
           → (c : ℕ) (y : ClientValue S) → slice_get ys c ≡ Some (Some y)
           → IsServed holds takes written gave c (then past (once i out)) y
       each past after old c y at =
-          by (get-push zs (Some (unserved s)) (Some y) c (sym (ap (λ (us : List (Option (ClientValue S))). slice_get us c) e) ∙ at))
+          let x = all-from (IsGiven out) (IsLost out) zs ys c y g at in
+          by x.0 x.2 (get-push xs (Some (unserved s)) (Some x.0) c (sym (ap (λ (us : List (Option (ClientValue S))). slice_get us c) e) ∙ x.1))
         where
           same : (u v : ClientValue S) → Some u ≡ Some v → u ≡ v
           same u v q = cc
 
-          by : (slice_get zs c ≡ Some (Some y)) ⊎ ((c ≡ length zs) × (Some y ≡ Some (unserved s)))
+          by : (x : ClientValue S) → y ≡ given_to c out x
+              → (slice_get xs c ≡ Some (Some x)) ⊎ ((c ≡ length xs) × (Some x ≡ Some (unserved s)))
               → IsServed holds takes written gave c (then past (once i out)) y
-          by (inl here) =
-              let b = each-from (Brings i out) xs zs c y (brings-none i out xs zs none g) here in
-              served-on holds takes written gave c past i out b.0 y (old c b.0 b.1) b.2.stream b.2.left b.2.unfed b.2.leaving
-          by (inr (last, is)) =
-              subst (IsServed holds takes written gave c (then past (once i out))) (sym (same y (unserved s) is))
-              (served-first holds takes written gave c past i out w s after (sym h.numbers ∙ (sym g.count ∙ sym last)) wrote read
-              (quiet-taken holds takes i out w v c opens t) (none c))
+          by x given (inl here) =
+              let b = brings-one i out c x y (none c) given in
+              served-on holds takes written gave c past i out x y (old c x here) b.stream b.left b.unfed b.leaving
+          by x given (inr (last, is)) =
+              let quiet = quiet-taken holds takes i out w v c opens t in
+              subst (IsServed holds takes written gave c (then past (once i out)))
+              (sym (given ∙ (given-quietly c out x quiet ∙ same x (unserved s) is)))
+              (served-first holds takes written gave c past i out w s after (sym h.numbers ∙ sym last) wrote read quiet (none c))
 
-  pub serving-carries : (i : Input) (out : List Emission) (w v : WorldValue) (xs us zs ys : List (Option (ClientValue S))) (m n : W)
-      (d : ℕ) (x : ClientValue S) (n0 n1 : NotesValue)
+  -- .. or a stream that was served before goes on as it.
+  pub serving-carries : (i : Input) (out : List Emission) (w v : WorldValue) (xs zs ys : List (Option (ClientValue S))) (m n : W)
+      (d : ℕ) (n0 n1 : NotesValue)
       → IsServing holds takes written gave sent heard w xs m n0 → Takes holds takes i w out v → i.happening ≡ H.Open
-      → v.core.state.opened ≡ w.core.state.opened + 1 → slice_get xs d ≡ Some (Some x) → IsEmptied d xs us
-      → AreGiven out us zs → ys ≡ zs ++ Some x ∷ []
+      → v.core.state.opened ≡ w.core.state.opened + 1 → IsCarried d xs zs → AreGiven out zs ys
       → Grown (sent m) (sent n) (goes_in out) → Grown (heard m) (heard n) (heard_at i) → Tells out n0 n1
       → IsServing holds takes written gave sent heard v ys n n1
-  serving-carries i out w v xs us zs ys m n d x n0 n1 h t opens more here e g is goes came told =
+  serving-carries i out w v xs zs ys m n d n0 n1 h t opens more e g goes came told =
       serving-on holds takes written gave sent heard i out w v xs ys m n n0 n1 h t
-      (ap length is ∙ (length-more zs ∙ (ap (λ (k : ℕ). k + 1) (g.count ∙ (e.count ∙ h.numbers)) ∙ sym more)))
+      (g.count ∙ (ap length e.next ∙ (length-more e.rest ∙ (ap (λ (k : ℕ). k + 1) (e.emptied.count ∙ h.numbers) ∙ sym more))))
       each goes came told
     where
       none : (c : ℕ) → brought_in c i ≡ []
       none c = subst (λ (x : Happening). brought_by c x ≡ []) (sym opens) refl
 
-      length-more : (all : List (Option (ClientValue S))) → length (all ++ Some x ∷ []) ≡ length all + 1
+      length-more : (all : List (Option (ClientValue S))) → length (all ++ Some e.here ∷ []) ≡ length all + 1
       length-more all = search (length-append, rules)
 
       each : (past : Past) → IsAfter holds takes past w
@@ -209,24 +219,26 @@ module _ (holds : Form → Form → List ℕ → List ℕ → Type 0) (takes : F
           → (c : ℕ) (y : ClientValue S) → slice_get ys c ≡ Some (Some y)
           → IsServed holds takes written gave c (then past (once i out)) y
       each past after old c y at =
-          by (get-push zs (Some x) (Some y) c (sym (ap (λ (all : List (Option (ClientValue S))). slice_get all c) is) ∙ at))
+          let x = all-from (IsGiven out) (IsLost out) zs ys c y g at in
+          by x.0 x.2 (get-push e.rest (Some e.here) (Some x.0) c (sym (ap (λ (all : List (Option (ClientValue S))). slice_get all c) e.next) ∙ x.1))
         where
           same : (u v : ClientValue S) → Some u ≡ Some v → u ≡ v
           same u v q = cc
 
           -- one of the others was there
-          was : (z : ClientValue S) → slice_get us c ≡ Some (Some z) → (c ≡ d) ⊎ (c ≢ d) → slice_get xs c ≡ Some (Some z)
-          was z there (inl q) = absurd (e.none z (sym (ap (slice_get us) q) ∙ there))
-          was z there (inr ne) = sym (e.others c ne) ∙ there
+          was : (z : ClientValue S) → slice_get e.rest c ≡ Some (Some z) → (c ≡ d) ⊎ (c ≢ d) → slice_get xs c ≡ Some (Some z)
+          was z there (inl q) = absurd (e.emptied.none z (sym (ap (slice_get e.rest) q) ∙ there))
+          was z there (inr ne) = sym (e.emptied.others c ne) ∙ there
 
-          by : (slice_get zs c ≡ Some (Some y)) ⊎ ((c ≡ length zs) × (Some y ≡ Some x))
+          by : (x : ClientValue S) → y ≡ given_to c out x
+              → (slice_get e.rest c ≡ Some (Some x)) ⊎ ((c ≡ length e.rest) × (Some x ≡ Some e.here))
               → IsServed holds takes written gave c (then past (once i out)) y
-          by (inl there) =
-              let b = each-from (Brings i out) us zs c y (brings-none i out us zs none g) there in
-              served-on holds takes written gave c past i out b.0 y (old c b.0 (was b.0 b.1 (same-or-not c d)))
-              b.2.stream b.2.left b.2.unfed b.2.leaving
-          by (inr (last, is_last)) =
-              subst (IsServed holds takes written gave c (then past (once i out))) (sym (same y x is_last))
-              (served-carried holds takes written gave d past i out w c x after
-              (sym h.numbers ∙ (sym e.count ∙ (sym g.count ∙ sym last))) (old d x here)
-              (quiet-taken holds takes i out w v c opens t) (none c))
+          by x given (inl there) =
+              let b = brings-one i out c x y (none c) given in
+              served-on holds takes written gave c past i out x y (old c x (was x there (same-or-not c d))) b.stream b.left b.unfed b.leaving
+          by x given (inr (last, is)) =
+              let quiet = quiet-taken holds takes i out w v c opens t in
+              subst (IsServed holds takes written gave c (then past (once i out)))
+              (sym (given ∙ (given-quietly c out x quiet ∙ same x e.here is)))
+              (served-carried holds takes written gave d past i out w c e.here after
+              (sym h.numbers ∙ (sym e.emptied.count ∙ sym last)) (old d e.here e.was) quiet (none c))

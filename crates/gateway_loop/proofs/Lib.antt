@@ -7,5 +7,6 @@ pub mod Moving
 pub mod Rotating
 pub mod Served
 pub mod Standing
+pub mod Stepping
 pub mod Taking
 pub mod Tellings

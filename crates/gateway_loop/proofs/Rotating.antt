@@ -1,6 +1,5 @@
 -- What is done so that the journal is turned over leaves the connections served.
 use Rattle.std.proofs.Common.{◌≡◌, ◌⊎◌, inl, inr, ℕ, suc, ◌+◌, List, [], ◌∷◌, ◌++◌, length, Option, Some, None, refl, sym, ap, subst, ◌∙◌, length-append, rules}
-use Rattle.std.proofs.lemmas.List.{append-nil}
 use Rattle.std.specs.Prelude.{slice_get, map}
 use Rattle.media_map.specs.declared.form.Form.{Form}
 use Rattle.exchange_core.specs.Values.{CoreValue, Outgoing}
@@ -18,15 +17,17 @@ use Rattle.gateway_world.specs.Inputs.{Takes}
 use Rattle.gateway_world.specs.Openings.{IsCounted}
 use Rattle.gateway_world.specs.Worlds.{WorldValue, served_in, when_in}
 use Rattle.gateway_loop.specs.Clients.{ClientValue}
-use Rattle.gateway_loop.specs.Delivery.{AreGiven, IsGiven, given_to}
+use Rattle.gateway_loop.specs.Delivery.{AreGiven, IsGiven, IsLost}
+use Rattle.gateway_loop.specs.Gateways.{IsBare}
 use Rattle.gateway_loop.specs.Serving.{IsAfter, IsServed, IsServing, Past, brought_in, heard_by, said, then}
 use Rattle.gateway_loop.specs.Sockets.{Grown}
 use Rattle.gateway_loop.specs.Telling.{NotesValue, Tells, tellings}
-use Rattle.gateway_loop.proofs.Bringing.{Brings, brings-none, counted-some, get-push}
-use Rattle.gateway_loop.proofs.Changing.{each-from, each-same}
+use Rattle.gateway_loop.proofs.Bringing.{brings-one, counted-some, get-push}
+use Rattle.gateway_loop.proofs.Changing.{all-from, all-same}
+use Rattle.gateway_loop.proofs.Giving.{given-quietly}
 use Rattle.gateway_loop.proofs.Growing.{grown-none}
 use Rattle.gateway_loop.proofs.Served.{once, served-on, serving-on}
-use Rattle.gateway_loop.proofs.Taking.{IsBare, serving-passes}
+use Rattle.gateway_loop.proofs.Taking.{serving-passes}
 use Rattle.gateway_loop.proofs.Tellings.{tells-quiet}
 
 -- what a rotation tells
@@ -57,15 +58,7 @@ one-told {R} t a b ys r = sym (long ys) ∙ one-rotates t a b (emissions ys) r
 -- Nothing is given out for a connection.
 given-quiet : {S : Type 0} (out : List Emission) (xs : List (Option (ClientValue S))) → ((c : ℕ) → said c out ≡ [])
     → AreGiven out xs xs
-given-quiet {S} out xs none = each-same (IsGiven out) xs (λ c x. sym (same c x))
-  where
-    same : (c : ℕ) (x : ClientValue S) → given_to c out x ≡ x
-    same c x = λ i. record {
-      stream = x.stream;
-      left = (ap (λ (t : List ℕ). x.left ++ t) (none c) ∙ append-nil x.left) i;
-      unfed = x.unfed;
-      leaving = x.leaving;
-    }
+given-quiet out xs none = all-same (IsGiven out) (IsLost out) xs (λ c x. sym (given-quietly c out x (none c)))
 
 module _ (holds : Form → Form → List ℕ → List ℕ → Type 0) (takes : Form → Form → List ℕ → Type 0) where
   -- That the journal is to be given out leads to no act.
@@ -95,13 +88,13 @@ module _ (holds : Form → Form → List ℕ → List ℕ → Type 0) (takes : F
     pub serving-pads : (i : Input) (o : Option ℕ) (k : ℕ) (out : List Emission) (w v : WorldValue)
         (xs zs ys : List (Option (ClientValue S))) (m n : W) (n0 n1 : NotesValue)
         → IsServing holds takes written gave sent heard w xs m n0 → Takes holds takes i w out v
-        → IsCounted i.happening o w.core v.core → i.happening ≡ H.Open → o ≡ Some k → AreGiven out xs zs
-        → ys ≡ zs ++ None ∷ [] → Grown (sent m) (sent n) (goes_in out) → Grown (heard m) (heard n) []
+        → IsCounted i.happening o w.core v.core → i.happening ≡ H.Open → o ≡ Some k
+        → zs ≡ xs ++ None ∷ [] → AreGiven out zs ys → Grown (sent m) (sent n) (goes_in out) → Grown (heard m) (heard n) []
         → Tells out n0 n1 → IsServing holds takes written gave sent heard v ys n n1
-    serving-pads i o k out w v xs zs ys m n n0 n1 h t count opens some g e goes quiet told =
+    serving-pads i o k out w v xs zs ys m n n0 n1 h t count opens some e g goes quiet told =
         serving-on holds takes written gave sent heard i out w v xs ys m n n0 n1 h t
-        (ap length e ∙ (length-more zs ∙ (ap (λ (j : ℕ). j + 1) (g.count ∙ h.numbers)
-        ∙ sym (counted-some i.happening o k w.core v.core some count))))
+        (g.count ∙ (ap length e ∙ (length-more xs ∙ (ap (λ (j : ℕ). j + 1) h.numbers
+        ∙ sym (counted-some i.happening o k w.core v.core some count)))))
         each goes (subst (Grown (heard m) (heard n)) (subst (λ (x : Happening). [] ≡ heard_by x) (sym opens) refl) quiet)
         told
       where
@@ -116,11 +109,12 @@ module _ (holds : Form → Form → List ℕ → List ℕ → Type 0) (takes : F
             → (c : ℕ) (y : ClientValue S) → slice_get ys c ≡ Some (Some y)
             → IsServed holds takes written gave c (then past (once i out)) y
         each past after old c y at =
-            by (get-push zs None (Some y) c (sym (ap (λ (us : List (Option (ClientValue S))). slice_get us c) e) ∙ at))
+            let x = all-from (IsGiven out) (IsLost out) zs ys c y g at in
+            by x.0 x.2 (get-push xs None (Some x.0) c (sym (ap (λ (us : List (Option (ClientValue S))). slice_get us c) e) ∙ x.1))
           where
-            by : (slice_get zs c ≡ Some (Some y)) ⊎ ((c ≡ length zs) × (Some y ≡ None))
+            by : (x : ClientValue S) → IsGiven out c x y → (slice_get xs c ≡ Some (Some x)) ⊎ ((c ≡ length xs) × (Some x ≡ None))
                 → IsServed holds takes written gave c (then past (once i out)) y
-            by (inl here) =
-                let b = each-from (Brings i out) xs zs c y (brings-none i out xs zs none g) here in
-                served-on holds takes written gave c past i out b.0 y (old c b.0 b.1) b.2.stream b.2.left b.2.unfed b.2.leaving
-            by (inr (last, is)) = absurd cc
+            by x given (inl here) =
+                let b = brings-one i out c x y (none c) given in
+                served-on holds takes written gave c past i out x y (old c x here) b.stream b.left b.unfed b.leaving
+            by x given (inr (last, is)) = absurd cc

@@ -18,9 +18,9 @@ use Rattle.gateway_loop.specs.Clients.{ClientValue, Leaves, Reads, Writes, kept,
 use Rattle.gateway_loop.specs.Places.{EachChanges, IsEmptied}
 use Rattle.gateway_loop.proofs.Changing.{each-from, same-or-not}
 use Rattle.gateway_loop.specs.Serving.{IsAfter, IsServed, IsServing, Past, brought, brought_in, brought_over, heard_at, heard_in, said, said_over, then}
-use Rattle.gateway_loop.specs.Sockets.{Are, Grown}
+use Rattle.gateway_loop.specs.Sockets.{Are, Grown, Hold}
 use Rattle.gateway_loop.specs.Telling.{NotesValue, Tells}
-use Rattle.gateway_loop.proofs.Growing.{are-more, are-same}
+use Rattle.gateway_loop.proofs.Growing.{among-same, are-more, are-same, hold-more}
 use Rattle.gateway_loop.proofs.Tellings.{last-on, last-same}
 
 concat-both : (xs ys : List (List ℕ)) → concat (xs ++ ys) ≡ concat xs ++ concat ys
@@ -233,8 +233,8 @@ module _ (holds : Form → Form → List ℕ → List ℕ → Type 0) (takes : F
       each = each h.past h.after h.each;
       goes = subst (Are (sent n)) (sym (flat_map-append goes_by h.past.given out))
           (are-more (sent m) (sent n) (goes_in h.past.given) (goes_in out) h.goes goes);
-      came = subst (Are (heard n)) (sym (heard-more h.past.inputs i))
-          (are-more (heard m) (heard n) (heard_in h.past.inputs) (heard_at i) h.came came);
+      came = subst (Hold (heard n)) (sym (heard-more h.past.inputs i))
+          (hold-more (heard m) (heard n) (heard_in h.past.inputs) (heard_at i) (heard_at i) h.came came (among-same (heard_at i)));
       last = last-on h.past.given out n0 n1 h.last told;
     }
 

@@ -12,6 +12,7 @@ use Rattle.gateway_loop.specs.Serving.{IsServed, IsServing, Past}
 use Rattle.gateway_loop.specs.Sockets.{Are}
 use Rattle.gateway_loop.specs.Telling.{NotesValue, Off, told_in}
 use Rattle.gateway_loop.proofs.Changing.{same-or-not}
+use Rattle.gateway_loop.proofs.Growing.{hold-none}
 use Rattle.gateway_loop.proofs.Served.{served-leaves, served-reads, served-writes, serving-emptied, serving-moves}
 use Rattle.gateway_loop.proofs.Tellings.{last-none}
 
@@ -62,7 +63,7 @@ module _ (holds : Form → Form → List ℕ → List ℕ → Type 0) (takes : F
         numbers = refl;
         each = λ c x at. absurd cc;
         goes = goes;
-        came = came;
+        came = hold-none (heard m);
         last = last-none [] Off refl;
       }))
 

@@ -1,6 +1,6 @@
 -- Each kind of input leaves the connections served.
 use Rattle.std.proofs.Common.{◌≡◌, ◌≢◌, ◌≤◌, ℕ, Bool, List, [], ◌∷◌, ◌++◌, length, drop, Option, Some, None, refl, sym, ap, subst, ◌∙◌, arith, length-append, eq-eqb}
-use Rattle.std.specs.Prelude.{⊤, slice_get, if◌then◌else◌}
+use Rattle.std.specs.Prelude.{slice_get, if◌then◌else◌}
 use Rattle.media_map.specs.declared.form.Form.{Form}
 use Rattle.exchange_core.specs.Values.{Outgoing}
 use Rattle.gateway_model.specs.declared.input.Happening.{Happening}
@@ -14,13 +14,14 @@ use Rattle.gateway_world.specs.Openings.{IsCounted}
 use Rattle.gateway_world.specs.Worlds.{WorldValue}
 use Rattle.gateway_loop.specs.Clients.{BeginsUnfed, ClientValue, Feeds, unserved}
 use Rattle.gateway_loop.specs.Delivery.{AreGiven}
-use Rattle.gateway_loop.specs.Places.{EachChanges, HasUnfed, IsEmptied, IsPiece, OnlyAt}
+use Rattle.gateway_loop.specs.Gateways.{IsBare}
+use Rattle.gateway_loop.specs.Places.{EachChanges, HasUnfed, IsCarried, IsPiece, OnlyAt}
 use Rattle.gateway_loop.specs.Serving.{IsServing, heard_by, heard_in}
 use Rattle.gateway_loop.specs.Sockets.{Are, Grown}
 use Rattle.gateway_loop.specs.Telling.{NotesValue, Tells}
 use Rattle.gateway_loop.proofs.Bringing.{brings-none, brings-piece, counted-none, counted-other, counted-some, serving-carries, serving-opens, serving-takes}
 use Rattle.gateway_loop.proofs.Changing.{not-same}
-use Rattle.gateway_loop.proofs.Growing.{are-same, grown-then}
+use Rattle.gateway_loop.proofs.Growing.{are-same, grown-then, hold-same}
 use Rattle.gateway_loop.proofs.Tellings.{last-same}
 
 -- a piece of what isn't an input yet
@@ -53,13 +54,6 @@ piece-first (Some None) p x h e = absurd cc
 piece-first None p x h e = absurd cc
 
 -- what an input brings
-
--- It brings nothing.
-abbrev pub IsBare : Happening → Type 0
-IsBare H.Tick = ⊤
-IsBare H.Rotate = ⊤
-IsBare (H.Close c) = ⊤
-IsBare _ = ⊥
 
 bare-other : (x : Happening) → IsBare x → x ≡ H.Open → ⊥
 bare-other H.Open h e = absurd h
@@ -183,26 +177,26 @@ module _ (holds : Form → Form → List ℕ → List ℕ → Type 0) (takes : F
   pub serving-admits : (i : Input) (o : Option ℕ) (k : ℕ) (out : List Emission) (w v : WorldValue)
       (xs zs ys : List (Option (ClientValue S))) (m n : W) (s : S) (n0 n1 : NotesValue)
       → IsServing holds takes written gave sent heard w xs m n0 → Takes holds takes i w out v
-      → IsCounted i.happening o w.core v.core → i.happening ≡ H.Open → o ≡ Some k → AreGiven out xs zs
-      → ys ≡ zs ++ Some (unserved s) ∷ [] → Are (written s) [] → Are (gave s) []
+      → IsCounted i.happening o w.core v.core → i.happening ≡ H.Open → o ≡ Some k
+      → zs ≡ xs ++ Some (unserved s) ∷ [] → AreGiven out zs ys → Are (written s) [] → Are (gave s) []
       → Grown (sent m) (sent n) (goes_in out) → Grown (heard m) (heard n) [] → Tells out n0 n1
       → IsServing holds takes written gave sent heard v ys n n1
-  serving-admits i o k out w v xs zs ys m n s n0 n1 h t count opens some g e wrote read goes quiet told =
+  serving-admits i o k out w v xs zs ys m n s n0 n1 h t count opens some e g wrote read goes quiet told =
       serving-opens holds takes written gave sent heard i out w v xs zs ys m n s n0 n1 h t opens
-      (counted-some i.happening o k w.core v.core some count) g e wrote read goes
+      (counted-some i.happening o k w.core v.core some count) e g wrote read goes
       (subst (Grown (heard m) (heard n)) (subst (λ (x : Happening). [] ≡ heard_by x) (sym opens) refl) quiet) told
 
   -- .. or a stream that was served before goes on as it
   pub serving-resumes : (i : Input) (o : Option ℕ) (k : ℕ) (out : List Emission) (w v : WorldValue)
-      (xs us zs ys : List (Option (ClientValue S))) (m n : W) (d : ℕ) (x : ClientValue S) (n0 n1 : NotesValue)
+      (xs zs ys : List (Option (ClientValue S))) (m n : W) (d : ℕ) (n0 n1 : NotesValue)
       → IsServing holds takes written gave sent heard w xs m n0 → Takes holds takes i w out v
       → IsCounted i.happening o w.core v.core → i.happening ≡ H.Open → o ≡ Some k
-      → slice_get xs d ≡ Some (Some x) → IsEmptied d xs us → AreGiven out us zs → ys ≡ zs ++ Some x ∷ []
+      → IsCarried d xs zs → AreGiven out zs ys
       → Grown (sent m) (sent n) (goes_in out) → Grown (heard m) (heard n) [] → Tells out n0 n1
       → IsServing holds takes written gave sent heard v ys n n1
-  serving-resumes i o k out w v xs us zs ys m n d x n0 n1 h t count opens some here e g is goes quiet told =
-      serving-carries holds takes written gave sent heard i out w v xs us zs ys m n d x n0 n1 h t opens
-      (counted-some i.happening o k w.core v.core some count) here e g is goes
+  serving-resumes i o k out w v xs zs ys m n d n0 n1 h t count opens some e g goes quiet told =
+      serving-carries holds takes written gave sent heard i out w v xs zs ys m n d n0 n1 h t opens
+      (counted-some i.happening o k w.core v.core some count) e g goes
       (subst (Grown (heard m) (heard n)) (subst (λ (x : Happening). [] ≡ heard_by x) (sym opens) refl) quiet) told
 
   -- no datagram came in
@@ -216,9 +210,25 @@ module _ (holds : Form → Form → List ℕ → List ℕ → Type 0) (takes : F
     numbers = h.numbers;
     each = h.each;
     goes = are-same (sent m) (sent n) (goes_in h.past.given) h.goes still;
-    came = are-same (heard m) (heard n) (heard_in h.past.inputs) h.came quiet;
+    came = hold-same (heard m) (heard n) (heard_in h.past.inputs) [] h.came quiet;
     last = last-same h.past.given n0 n1 same h.last;
   }
+
+  -- nothing happened, and what came in at the wire is lost
+  pub serving-stays : (w v : WorldValue) (xs : List (Option (ClientValue S))) (m n : W) (lost : List Outgoing) (n0 n1 : NotesValue)
+      → IsServing holds takes written gave sent heard w xs m n0 → v ≡ w
+      → Grown (sent m) (sent n) [] → Grown (heard m) (heard n) lost → n1 ≡ n0
+      → IsServing holds takes written gave sent heard v xs n n1
+  serving-stays w v xs m n lost n0 n1 h is still came same =
+      subst (λ (u : WorldValue). IsServing holds takes written gave sent heard u xs n n1) (sym is) (record {
+        past = h.past;
+        after = h.after;
+        numbers = h.numbers;
+        each = h.each;
+        goes = are-same (sent m) (sent n) (goes_in h.past.given) h.goes still;
+        came = hold-same (heard m) (heard n) (heard_in h.past.inputs) lost h.came came;
+        last = last-same h.past.given n0 n1 same h.last;
+      })
 
   -- a datagram came in
   pub serving-hears : (i : Input) (o : Option ℕ) (out : List Emission) (w v : WorldValue)

@@ -1,6 +1,7 @@
 -- What contracts see of a gateway.
-use Rattle.std.specs.Prelude.{ℕ, slice_get, option_to_list, Option, None}
+use Rattle.std.specs.Prelude.{◌≡◌, ⊤, ℕ, slice_get, option_to_list, Option, Some, None}
 use Rattle.exchange_model.specs.Resting.{HasConn}
+use Rattle.gateway_model.specs.declared.input.Happening.{Happening}
 use Rattle.gateway_model.specs.declared.input.Happening.TheVariants as H
 use Rattle.gateway_model.specs.declared.input.Input.{Input}
 use Rattle.gateway_model.specs.declared.input.Output.{Output}
@@ -27,6 +28,13 @@ pub record MayGoOn {S W : Type 0} (n : ℕ) (g : GatewayValue S W) : Type 0 wher
   pub may_ask : MayAsk n g
   pub asked : IsAllAsked n g.world
 
+-- It brings nothing, and no connection opens with it.
+abbrev pub IsBare : Happening → Type 0
+IsBare H.Tick = ⊤
+IsBare H.Rotate = ⊤
+IsBare (H.Close c) = ⊤
+IsBare _ = ⊥
+
 abbrev pub rotation_at : When → Input
 rotation_at when = record { moment = when.moment; word = when.word; happening = H.Rotate }
 
@@ -36,3 +44,9 @@ abbrev pub TurnsOver : {R : Type 0} → When → WorldValue → Option (Output R
 TurnsOver when old told new =
     Rotates (at (when_in old (rotation_at when)) (served_in old)) old.core
     (emissions (option_to_list told)) new.core
+
+-- .. or, where memory is refused, it tells nothing and is as it was.
+abbrev pub TurnsOrStays : {R : Type 0} → When → WorldValue → Option (Output R) → WorldValue
+    → Type 0
+TurnsOrStays when old (Some o) new = TurnsOver when old (Some o) new
+TurnsOrStays when old None new = new ≡ old

@@ -14,7 +14,7 @@ use Rattle.gateway_model.specs.Told.{said_to}
 use Rattle.gateway_world.specs.Inputs.{TakesAll}
 use Rattle.gateway_world.specs.Worlds.{WorldValue, new_world}
 use Rattle.gateway_loop.specs.Clients.{ClientValue}
-use Rattle.gateway_loop.specs.Sockets.{Are}
+use Rattle.gateway_loop.specs.Sockets.{Are, Hold}
 use Rattle.gateway_loop.specs.Telling.{AreLast, NotesValue}
 
 -- the bytes that are given out for a connection, in order
@@ -102,8 +102,8 @@ module _ (holds : Form → Form → List ℕ → List ℕ → Type 0)
       pub none : x.leaving ≡ false → dropped ≡ []
 
     -- So each connection is served, by its number; the datagrams that the wire was given to send are
-    -- those that were given out, and those that it gave were inputs; and what is told is the last of
-    -- what was given out.
+    -- those that were given out; those that it gave were inputs, in their order, but for those that
+    -- were lost since memory was refused; and what is told is the last of what was given out.
     module _ {W : Type 0} (sent heard : W → Option (List Outgoing)) where
       pub record IsServing (w : WorldValue) (clients : List (Option (ClientValue S))) (wire : W)
           (told : NotesValue) : Type 0 where
@@ -113,5 +113,5 @@ module _ (holds : Form → Form → List ℕ → List ℕ → Type 0)
         pub each :
             (c : ℕ) (x : ClientValue S) → slice_get clients c ≡ Some (Some x) → IsServed c past x
         pub goes : Are (sent wire) (goes_in past.given)
-        pub came : Are (heard wire) (heard_in past.inputs)
+        pub came : Hold (heard wire) (heard_in past.inputs)
         pub last : AreLast past.given told

@@ -33,6 +33,17 @@ abbrev pub Are : {A : Type 0} → Option (List A) → List A → Type 0
 Are None xs = ⊤
 Are (Some ys) xs = ys ≡ xs
 
+-- These are among those, in their order.
+abbrev pub AreAmong : {A : Type 0} → List A → List A → Type 0
+AreAmong [] all = ⊤
+AreAmong {A} (x ∷ xs) all =
+    (before : List A) × (after : List A) × (all ≡ before ++ x ∷ after) × AreAmong xs after
+
+-- They hold these in their order, where it is known which they are; the others were lost.
+abbrev pub Hold : {A : Type 0} → Option (List A) → List A → Type 0
+Hold None xs = ⊤
+Hold (Some ys) xs = AreAmong xs ys
+
 -- These came after those before, where it is known which there are.
 abbrev pub Grown : {A : Type 0} → Option (List A) → Option (List A) → List A → Type 0
 Grown None None more = ⊤

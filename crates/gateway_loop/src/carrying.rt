@@ -8,10 +8,11 @@ ghost use Rattle.transformers.specs.Suits.{Suits};
 use crate::delivery::deliver;
 use crate::gateway::Gateway;
 use crate::host::Host;
+use crate::inputs::Passed;
 use crate::sockets::{Stream, Wire};
 use crate::stage::Stage;
 use crate::turns::Loop;
-use gateway_world::{Advanced, Happening, Input, When};
+use gateway_world::{Advanced, Happening, Input, Step, When};
 use http_edge::Memory;
 use transformers::{Bank, Relation};
 
@@ -31,31 +32,21 @@ impl<R: Relation, S: Stream + Drop, W: Wire + Drop> Gateway<R, S, W> {
         requires idle { MayGoOn number self }
         ensures rules { IfOk result (λ g. g.world.rules ≡ self.world.rules) }
     {
-        let Gateway {
-            alloc,
-            world,
-            mut clients,
-            mut wire,
-        } = self;
-        clients.park(number);
-        let mut outputs = Vec::new(alloc);
-        let input = Input {
-            moment: when.moment,
-            word: when.word,
-            happening: Happening::Close(number),
-        };
-        let Advanced { world, opened: _ } = world.advance(bank, input, &mut outputs)?;
-        deliver(outputs, &mut clients, &mut wire)?;
-        Ok(Gateway {
-            alloc,
-            world,
-            clients,
-            wire,
-        })
+        let mut it = self;
+        it.stand_still(number);
+        let Passed { gateway, taken: _ } = it.pass(bank, when, Happening::Close(number))?;
+        Ok(gateway)
     }
 
-    /// Opens a connection for the stream of this one, which goes on as it. Where none opens, or there
-    /// will be no signs of it, the stream ends.
+    /// Nothing is read of the connection meanwhile.
+    fn stand_still(&mut self, number: u32)
+        ensures { self.new ≡ self.old }
+    {
+        self.clients.park(number);
+    }
+
+    /// Opens a connection for the stream of this one, which goes on as it. Where none opens, memory is
+    /// refused, or there will be no signs of it, the stream ends.
     pub fn resume<H: Host<S>>(
         self,
         bank: &Bank<R>,
@@ -68,51 +59,36 @@ impl<R: Relation, S: Stream + Drop, W: Wire + Drop> Gateway<R, S, W> {
     {
         let next = self.next_number();
         let Gateway {
-            alloc,
             world,
             mut clients,
+            mut outputs,
             mut wire,
         } = self;
-        let Some(mut client) = clients.take(number) else {
-            return Ok(Gateway {
-                alloc,
-                world,
-                clients,
-                wire,
-            });
-        };
-        if !client.resume(host, next) {
-            return Ok(Gateway {
-                alloc,
-                world,
-                clients,
-                wire,
-            });
+        if !clients.carry(number, host, next) {
+            return Ok(Gateway::of(world, clients, outputs, wire));
         }
-        let mut outputs = Vec::new(alloc);
         let input = Input {
             moment: when.moment,
             word: when.word,
             happening: Happening::Open,
         };
-        let Advanced { world, opened } = world.advance(bank, input, &mut outputs)?;
-        deliver(outputs, &mut clients, &mut wire)?;
-        let Some(opened) = opened else {
-            return Ok(Gateway {
-                alloc,
-                world,
-                clients,
-                wire,
-            });
-        };
-        clients.push_back(client)?;
-        clients.line_up(opened)?;
-        Ok(Gateway {
-            alloc,
-            world,
-            clients,
-            wire,
-        })
+        let Advanced { world, step } = world.advance(bank, input, &mut outputs)?;
+        match step {
+            Step::Taken(Some(opened)) => {
+                deliver(&mut outputs, &mut clients, &mut wire);
+                clients.line_up(opened);
+                Ok(Gateway::of(world, clients, outputs, wire))
+            }
+            Step::Taken(None) => {
+                clients.pop();
+                deliver(&mut outputs, &mut clients, &mut wire);
+                Ok(Gateway::of(world, clients, outputs, wire))
+            }
+            Step::Refused => {
+                clients.pop();
+                Ok(Gateway::of(world, clients, outputs, wire))
+            }
+        }
     }
 }
 

@@ -1,11 +1,13 @@
 //! The connections by their numbers, and the line of those that have something to do.
 
-ghost use Rattle.std.specs.Prelude.{◌≡◌, ◌≢◌, ◌⊎◌, ◌<◌, ◌≤◌, ◌+◌, ◌++◌, ◌∷◌, [], true, None, Some};
-ghost use Rattle.std.specs.Prelude.{length, map, take, slice_get, IfSome, OnOk};
+ghost use Rattle.std.specs.Prelude.{◌≡◌, ◌≢◌, ◌⊎◌, ◌<◌, ◌≤◌, ◌+◌, ◌-◌, ◌++◌, ◌∷◌, [], true, None};
+ghost use Rattle.std.specs.Prelude.{Some};
+ghost use Rattle.std.specs.Prelude.{length, map, take, slice_get, IfSome, OnErr, OnOk};
 ghost use Rattle.gateway_model.specs.Emissions.{Says};
 ghost use Rattle.gateway_loop.specs.Clients.{unserved, Feeds, Gets, Leaves, Reads, Writes};
 ghost use Rattle.gateway_loop.specs.Places.{empty_places, no_clients, EachChanges, HasUnfed};
-ghost use Rattle.gateway_loop.specs.Places.{IsEmptied, IsPiece, IsWritten, OnlyAt};
+ghost use Rattle.gateway_loop.specs.Places.{IsEmptied, IsGoneOr, IsNobody, IsPiece};
+ghost use Rattle.gateway_loop.specs.Places.{IsWritten, OnlyAt};
 ghost use Rattle.gateway_loop.specs.Telling.{forgotten, telling, told_in, Kept, Tells};
 
 use crate::client::{Client, Flow};
@@ -26,7 +28,9 @@ pub struct Clients<S> {
     pub(crate) past: u32,
     pub(crate) places: Vec<Option<Client<S>>>,
     /// Those that may have something to do. One may stand there twice.
-    line: VecDeque<u32>,
+    pub(crate) line: VecDeque<u32>,
+    /// All may have: memory was refused for the line.
+    pub(crate) everyone: bool,
     /// How many are open.
     pub(crate) open: usize,
     /// What was given out, for who notes it.
@@ -42,6 +46,7 @@ impl<S> Model for Clients<S> {
     ghost view = { λ c. record {
       places = empty_places c.past ++ c.places.items;
       line = c.line.items;
+      everyone = c.everyone;
       told = c.notes;
     } };
 }
@@ -56,6 +61,7 @@ impl<S: Stream + Drop> Clients<S> {
             past: 0,
             places: Vec::new(alloc),
             line: VecDeque::new(alloc),
+            everyone: false,
             open: 0,
             notes: Notes::new(alloc),
         }
@@ -82,6 +88,11 @@ impl<S: Stream + Drop> Clients<S> {
         self.notes.forget();
     }
 
+    /// Where memory is taken.
+    pub(crate) fn alloc(&self) -> Global {
+        self.alloc
+    }
+
     /// How many there were in all, and so the number of the next.
     pub fn count(&self) -> usize
         ensures { result ≡ length self.now.places }
@@ -96,8 +107,9 @@ impl<S: Stream + Drop> Clients<S> {
 
     /// Takes one of which nothing was read or written, under the next number.
     pub fn push(&mut self, stream: S) -> Result<(), AllocError>
-        ensures { OnOk result (self.new
+        ensures ok { OnOk result (self.new
             ≡ record self.old { places = self.old.places ++ Some (unserved stream) ∷ [] }) }
+        ensures unchanged { OnErr result (self.new ≡ self.old) }
     {
         let client = Client::new(self.alloc, stream);
         self.places.push(Some(client))?;
@@ -121,54 +133,24 @@ impl<S: Stream + Drop> Clients<S> {
 
     /// The next number is nobody's: its place is empty.
     pub fn push_nobody(&mut self) -> Result<(), AllocError>
-        ensures { OnOk result (self.new
+        ensures ok { OnOk result (self.new
             ≡ record self.old { places = self.old.places ++ None ∷ [] }) }
+        ensures unchanged { OnErr result (self.new ≡ self.old) }
     {
         self.places.push(None)?;
         Ok(())
     }
 
-    /// The connection has its turn after those before it.
-    pub fn line_up(&mut self, number: u32) -> Result<(), AllocError>
-        ensures places { self.new.places ≡ self.old.places }
-        ensures line { OnOk result (self.new.line ≡ self.old.line ++ number ∷ []) }
-        ensures told { self.new.told ≡ self.old.told }
+    /// Takes the last place away again: the next number is that of this one.
+    pub fn pop(&mut self)
+        ensures { self.new ≡ record self.old
+            { places = take (length self.old.places - 1) self.old.places } }
     {
-        self.line.push_back(number)?;
-        Ok(())
-    }
-
-    /// How many stand in the line.
-    pub fn in_line(&self) -> usize
-        ensures { result ≡ length self.now.line }
-    {
-        self.line.len()
-    }
-
-    /// Whose turn is next.
-    pub fn next(&mut self) -> Option<u32>
-        ensures places { self.new.places ≡ self.old.places }
-        ensures told { self.new.told ≡ self.old.told }
-    {
-        self.line.pop_front()
-    }
-
-    /// A sign tells that the connection may give or take bytes, or that its client sends no more.
-    pub fn wake(&mut self, number: u32, ended: bool) -> Result<(), AllocError>
-        ensures places { self.new.places ≡ self.old.places }
-        ensures line { OnOk result (number < length self.old.places
-            → self.new.line ≡ self.old.line ++ number ∷ []) }
-        ensures told { self.new.told ≡ self.old.told }
-    {
-        if number as usize >= self.count() {
-            return Ok(());
+        match self.places.pop() {
+            Some(Some(_)) => self.open = self.open.saturating_sub(1),
+            Some(None) => {}
+            None => self.past = self.past.saturating_sub(1),
         }
-        if let Some(place) = place_of(number, self.past, self.places.len()) {
-            if let Some(client) = &mut self.places[place] {
-                client.wake(ended);
-            }
-        }
-        self.line_up(number)
     }
 
     /// The proxy closes the connection.
@@ -185,19 +167,23 @@ impl<S: Stream + Drop> Clients<S> {
     }
 
     /// Bytes were given out for the connection. What tells of them is kept, where that is wanted.
-    pub fn give(&mut self, number: u32, bytes: Vec<u8>) -> Result<(), AllocError>
-        ensures gets { OnOk result
-            (EachChanges (OnlyAt number (Gets bytes.items)) self.old.places self.new.places) }
+    /// Where memory is refused to keep the bytes, the connection is gone.
+    pub fn give(&mut self, number: u32, bytes: Vec<u8>)
+        ensures gets { IsGoneOr number (Gets bytes.items) self.old.places self.new.places }
         ensures line { self.new.line ≡ self.old.line }
+        ensures everyone { self.new.everyone ≡ self.old.everyone }
         ensures told { Tells (Says number bytes.items ∷ []) self.old.told self.new.told }
     {
         self.notes.add(number, bytes.as_slice());
         let Some(place) = place_of(number, self.past, self.places.len()) else {
-            return Ok(());
+            return;
         };
-        match &mut self.places[place] {
+        let given = match &mut self.places[place] {
             Some(client) => client.give(bytes),
-            None => Ok(()),
+            None => return,
+        };
+        if given.is_err() {
+            self.remove(number);
         }
     }
 
@@ -207,6 +193,7 @@ impl<S: Stream + Drop> Clients<S> {
             self.old.places self.new.places }
         ensures done { result ≡ Flow.On → IsWritten (slice_get self.new.places number) }
         ensures line { self.new.line ≡ self.old.line }
+        ensures everyone { self.new.everyone ≡ self.old.everyone }
         ensures told { self.new.told ≡ self.old.told }
     {
         let Some(place) = place_of(number, self.past, self.places.len()) else {
@@ -226,6 +213,7 @@ impl<S: Stream + Drop> Clients<S> {
         ensures lost { result ≡ Flow.Lost
             → IsEmptied number self.old.places self.new.places }
         ensures line { self.new.line ≡ self.old.line }
+        ensures everyone { self.new.everyone ≡ self.old.everyone }
         ensures told { self.new.told ≡ self.old.told }
         ensures length { length buffer.new ≡ length buffer.old }
     {
@@ -250,6 +238,7 @@ impl<S: Stream + Drop> Clients<S> {
         ensures leaves { EachChanges (OnlyAt number (Leaves S.written S.gave))
             self.old.places self.new.places }
         ensures line { self.new.line ≡ self.old.line }
+        ensures everyone { self.new.everyone ≡ self.old.everyone }
         ensures told { self.new.told ≡ self.old.told }
     {
         self.count_out(number);
@@ -263,14 +252,17 @@ impl<S: Stream + Drop> Clients<S> {
 
     /// The connection with this number, if it is there.
     fn get(&self, number: u32) -> Option<&Client<S>>
-        ensures { IfSome result (λ c. slice_get self.now.places number ≡ Some (Some c.now)) }
+        ensures some { IfSome result (λ c. slice_get self.now.places number ≡ Some (Some c.now)) }
+        ensures none { result ≡ None → IsNobody (slice_get self.now.places number) }
     {
         let place = place_of(number, self.past, self.places.len())?;
         self.places[place].as_ref()
     }
 
     /// How far the connection is, if it is there.
-    pub fn stage(&self, number: u32) -> Option<Stage> {
+    pub fn stage(&self, number: u32) -> Option<Stage>
+        ensures { IsNobody (slice_get self.now.places number) → result ≡ None }
+    {
         Some(self.get(number)?.stage())
     }
 
@@ -328,6 +320,7 @@ impl<S: Stream + Drop> Clients<S> {
         ensures feeds { EachChanges (OnlyAt number (Feeds count))
             self.old.places self.new.places }
         ensures line { self.new.line ≡ self.old.line }
+        ensures everyone { self.new.everyone ≡ self.old.everyone }
         ensures told { self.new.told ≡ self.old.told }
     {
         let Some(place) = place_of(number, self.past, self.places.len()) else {
@@ -342,6 +335,7 @@ impl<S: Stream + Drop> Clients<S> {
     pub fn remove(&mut self, number: u32)
         ensures ends { IsEmptied number self.old.places self.new.places }
         ensures line { self.new.line ≡ self.old.line }
+        ensures everyone { self.new.everyone ≡ self.old.everyone }
         ensures told { self.new.told ≡ self.old.told }
     {
         self.count_out(number);

@@ -1,14 +1,14 @@
 //! What a gateway does on one connection.
 
-ghost use Rattle.std.specs.Prelude.{◌≡◌, ◌≢◌, ◌<◌, ◌++◌, ◌∷◌, [], length, slice_get, OnOk};
+ghost use Rattle.std.specs.Prelude.{◌≡◌, ◌≢◌, ◌<◌, ◌∷◌, [], None, length, slice_get};
 ghost use Rattle.gateway_loop.specs.Gateways.{MayAsk};
-ghost use Rattle.gateway_loop.specs.Places.{IsWritten};
+ghost use Rattle.exchange_model.specs.Resting.{HasConn};
+ghost use Rattle.gateway_loop.specs.Places.{HaveTurns, IsNobody, IsWritten};
 
 use crate::client::Flow;
 use crate::gateway::Gateway;
 use crate::sockets::{Stream, Wire};
 use crate::stage::Stage;
-use std::alloc::AllocError;
 use transformers::Relation;
 
 /// What is to be done next on a connection.
@@ -28,21 +28,28 @@ pub enum Due {
 
 impl<R: Relation, S: Stream + Drop, W: Wire + Drop> Gateway<R, S, W> {
     /// A sign tells that the connection may give or take bytes, or that its client sends no more.
-    pub fn wake(&mut self, number: u32, ended: bool) -> Result<(), AllocError>
+    pub fn wake(&mut self, number: u32, ended: bool)
         ensures world { self.new.world ≡ self.old.world }
-        ensures line { OnOk result (number < length self.old.clients.places
-            → self.new.clients.line ≡ self.old.clients.line ++ number ∷ []) }
+        ensures turns { number < length self.old.clients.places
+            → HaveTurns (number ∷ []) self.old.clients self.new.clients }
     {
-        self.clients.wake(number, ended)
+        self.clients.wake(number, ended);
     }
 
     /// The connection may have something to do: it has its turn after those before it.
-    pub fn line_up(&mut self, number: u32) -> Result<(), AllocError>
+    pub fn line_up(&mut self, number: u32)
         ensures world { self.new.world ≡ self.old.world }
-        ensures line { OnOk result
-            (self.new.clients.line ≡ self.old.clients.line ++ number ∷ []) }
+        ensures turns { HaveTurns (number ∷ []) self.old.clients self.new.clients }
     {
-        self.clients.line_up(number)
+        self.clients.line_up(number);
+    }
+
+    /// Whether all connections have their turns. That is told once.
+    pub fn take_everyone(&mut self) -> bool
+        ensures world { self.new.world ≡ self.old.world }
+        ensures is { result ≡ self.old.clients.everyone }
+    {
+        self.clients.take_everyone()
     }
 
     /// Whose turn is next.
@@ -64,13 +71,26 @@ impl<R: Relation, S: Stream + Drop, W: Wire + Drop> Gateway<R, S, W> {
         self.clients.leave(number);
     }
 
+    /// The connection is there no more, with what is left for it.
+    pub(crate) fn remove(&mut self, number: u32)
+        ensures { self.new.world ≡ self.old.world }
+    {
+        self.clients.remove(number);
+    }
+
     /// Writes and reads on the connection, and answers what is to be done next. Nothing is asked of
-    /// it and nothing read while something is left to be written for it, or an answer awaited.
+    /// it and nothing read while something is left to be written for it, or an answer awaited. One of
+    /// which nothing is there any more ends.
     pub fn serve(&mut self, number: u32, buffer: &mut [u8]) -> Due
         ensures world { self.new.world ≡ self.old.world }
         ensures hold { result ≡ Due.Piece → MayAsk number self.new }
+        ensures gone { IsNobody (slice_get self.old.clients.places number)
+            → HasConn self.old.world.core.state.conns number None → result ≡ Due.End }
         ensures length { length buffer.new ≡ length buffer.old }
     {
+        if self.clients.stage(number).is_none() {
+            return self.end_of_nobody(number);
+        }
         match self.clients.flush(number) {
             Flow::On => {}
             Flow::Later => return Due::Nothing,
@@ -82,6 +102,19 @@ impl<R: Relation, S: Stream + Drop, W: Wire + Drop> Gateway<R, S, W> {
             Some(Stage::Closing) => Due::Farewell,
             Some(Stage::Leaving) => self.drop_some(number, buffer),
             None => Due::Nothing,
+        }
+    }
+
+    /// Whether the world has a connection of which nothing is there any more, since memory was refused
+    /// to keep what was given out for it: it ends, once no answer is awaited.
+    fn end_of_nobody(&self, number: u32) -> Due
+        ensures ends { HasConn self.now.world.core.state.conns number None → result ≡ Due.End }
+        ensures asks { result ≢ Due.Piece }
+    {
+        if self.world.is_idle(number) {
+            Due::End
+        } else {
+            Due::Nothing
         }
     }
 

@@ -7,7 +7,7 @@ ghost use Rattle.transformers.specs.Suits.{Suits};
 use crate::delivery::deliver;
 use crate::gateway::Gateway;
 use crate::sockets::{Stream, Wire};
-use gateway_world::{Advanced, Happening, Input, When};
+use gateway_world::{Advanced, Happening, Input, Step, When};
 use http_edge::Memory;
 use transformers::{Bank, Relation};
 
@@ -21,9 +21,9 @@ impl<R: Relation, S: Stream + Drop, W: Wire + Drop> Gateway<R, S, W> {
         ensures rules { IfOk result (λ g. g.world.rules ≡ self.world.rules) }
     {
         let Gateway {
-            alloc,
             world,
             mut clients,
+            mut outputs,
             mut wire,
         } = self;
         let piece = clients.piece(number);
@@ -34,23 +34,18 @@ impl<R: Relation, S: Stream + Drop, W: Wire + Drop> Gateway<R, S, W> {
             happening: Happening::Bytes(number, piece),
         };
         if world.is_too_much(input.happening) {
-            let gateway = Gateway {
-                alloc,
-                world,
-                clients,
-                wire,
-            };
+            let gateway = Gateway::of(world, clients, outputs, wire);
             return gateway.end(bank, when, number);
         }
-        let mut outputs = Vec::new(alloc);
-        let Advanced { world, opened: _ } = world.advance(bank, input, &mut outputs)?;
-        clients.feed(number, count);
-        deliver(outputs, &mut clients, &mut wire)?;
-        Ok(Gateway {
-            alloc,
-            world,
-            clients,
-            wire,
-        })
+        let Advanced { world, step } = world.advance(bank, input, &mut outputs)?;
+        match step {
+            Step::Taken(_) => {
+                clients.feed(number, count);
+                deliver(&mut outputs, &mut clients, &mut wire);
+                Ok(Gateway::of(world, clients, outputs, wire))
+            }
+            // What a connection brings is never refused: where memory is, that is given up.
+            Step::Refused => unreachable!(),
+        }
     }
 }

@@ -9,18 +9,23 @@ ghost use Rattle.gateway_loop.specs.Sockets.{Are};
 use crate::clients::Clients;
 use crate::sockets::{Stream, Wire};
 use ask_model::Settings;
-use gateway_world::World;
+use gateway_world::{Output, World};
 use http_edge::Memory;
 use std::alloc::Global;
 use std::marker::Model;
 use transformers::Relation;
 
+/// For how many outputs of an input there is room from the first on. A tick gives out the most: a
+/// datagram to each of 512 endpoints, and to each of 256 connections two runs of bytes and its end.
+const MOST_OUTPUTS: usize = 2048;
+
 /// A world, the connections that it serves by their numbers, and the wire.
 #[derive(Drop)]
 pub struct Gateway<R: Relation, S: Stream, W: Wire> {
-    pub(crate) alloc: Global,
     pub(crate) world: World<R>,
     pub(crate) clients: Clients<S>,
+    /// What an input gives out, until it is delivered.
+    pub(crate) outputs: Vec<Output<R>>,
     pub(crate) wire: W,
 }
 
@@ -48,12 +53,38 @@ impl<R: Relation, S: Stream + Drop, W: Wire + Drop> Gateway<R, S, W> {
         requires heard { Are (W.heard wire) [] }
         ensures rules { IfOk result (λ g. g.world.rules ≡ rules_of settings) }
     {
+        let mut outputs = Vec::new(alloc);
+        outputs.try_reserve(MOST_OUTPUTS)?;
         Ok(Gateway {
-            alloc,
             world: World::new(alloc, settings)?,
             clients: Clients::new(alloc),
+            outputs,
             wire,
         })
+    }
+
+    /// The gateway of these.
+    pub(crate) fn of(
+        world: World<R>,
+        clients: Clients<S>,
+        outputs: Vec<Output<R>>,
+        wire: W,
+    ) -> Gateway<R, S, W>
+        requires { IsServing R.holds R.takes S.written S.gave W.sent W.heard
+            world clients.places wire clients.told }
+        ensures { result ≡ record { world = world; clients = clients; wire = wire } }
+    {
+        Gateway {
+            world,
+            clients,
+            outputs,
+            wire,
+        }
+    }
+
+    /// Where memory is taken.
+    pub(crate) fn alloc(&self) -> Global {
+        self.clients.alloc()
     }
 
     /// How many connections there were, and so the number of the next.
@@ -71,6 +102,11 @@ impl<R: Relation, S: Stream + Drop, W: Wire + Drop> Gateway<R, S, W> {
     /// The number of the next connection, or the last number that there is.
     pub fn next_number(&self) -> u32 {
         u32::try_from(self.clients.count()).unwrap_or(u32::MAX)
+    }
+
+    /// Whether connections have their turns.
+    pub fn have_turns(&self) -> bool {
+        self.clients.have_turns()
     }
 
     /// How many connections stand in the line of those that have their turns.

@@ -6,7 +6,7 @@ ghost use Rattle.transformers.specs.Suits.{Suits};
 use crate::delivery::deliver;
 use crate::gateway::Gateway;
 use crate::sockets::{Received, Stream, Wire};
-use gateway_world::{Advanced, Happening, Input, When};
+use gateway_world::{Advanced, Happening, Input, Step, When};
 use http_edge::Memory;
 use transformers::{Bank, Relation};
 
@@ -19,7 +19,8 @@ pub struct Listened<R: Relation, S: Stream, W: Wire> {
 }
 
 impl<R: Relation, S: Stream + Drop, W: Wire + Drop> Gateway<R, S, W> {
-    /// Hears the datagram that came in first, by way of the buffer, if one is there.
+    /// Hears the datagram that came in first, by way of the buffer, if one is there. Where memory is
+    /// refused for it, it is lost, and nothing else changes.
     pub fn hear(
         self,
         bank: &Bank<R>,
@@ -32,43 +33,43 @@ impl<R: Relation, S: Stream + Drop, W: Wire + Drop> Gateway<R, S, W> {
         ensures length { length buffer.new ≡ length buffer.old }
     {
         let Gateway {
-            alloc,
             world,
             mut clients,
+            mut outputs,
             mut wire,
         } = self;
         let (count, peer) = match wire.receive(buffer) {
             Received::From(count, peer) => (count, peer),
             Received::Later => {
-                let gateway = Gateway {
-                    alloc,
-                    world,
-                    clients,
-                    wire,
-                };
+                let gateway = Gateway::of(world, clients, outputs, wire);
                 return Ok(Listened {
                     gateway,
                     heard: false,
                 });
             }
         };
-        let mut outputs = Vec::new(alloc);
         let input = Input {
             moment: when.moment,
             word: when.word,
             happening: Happening::Datagram(peer, &buffer[..count]),
         };
-        let Advanced { world, opened: _ } = world.advance(bank, input, &mut outputs)?;
-        deliver(outputs, &mut clients, &mut wire)?;
-        let gateway = Gateway {
-            alloc,
-            world,
-            clients,
-            wire,
-        };
-        Ok(Listened {
-            gateway,
-            heard: true,
-        })
+        let Advanced { world, step } = world.advance(bank, input, &mut outputs)?;
+        match step {
+            Step::Taken(_) => {
+                deliver(&mut outputs, &mut clients, &mut wire);
+                let gateway = Gateway::of(world, clients, outputs, wire);
+                Ok(Listened {
+                    gateway,
+                    heard: true,
+                })
+            }
+            Step::Refused => {
+                let gateway = Gateway::of(world, clients, outputs, wire);
+                Ok(Listened {
+                    gateway,
+                    heard: true,
+                })
+            }
+        }
     }
 }

@@ -17,6 +17,7 @@ mod gateway;
 mod hearing;
 mod host;
 mod inputs;
+mod line;
 mod looking;
 mod parking;
 mod patience;

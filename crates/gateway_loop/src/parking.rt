@@ -1,18 +1,21 @@
 //! The connections whose streams go on as others.
 
-ghost use Rattle.std.specs.Prelude.{◌≡◌, ◌++◌, ◌∷◌, [], Some, slice_get, IfSome, OnOk};
-ghost use Rattle.gateway_loop.specs.Places.{IsEmptied};
+ghost use Rattle.std.specs.Prelude.{◌≡◌, ◌++◌, ◌∷◌, [], true, false, Some, slice_get};
+ghost use Rattle.std.specs.Prelude.{IfSome, OnErr, OnOk};
+ghost use Rattle.gateway_loop.specs.Places.{IsCarried, IsEmptied};
 
 use crate::client::Client;
 use crate::clients::{Clients, place_of};
+use crate::host::Host;
 use crate::sockets::Stream;
 use std::alloc::AllocError;
 
 impl<S: Stream + Drop> Clients<S> {
     /// Takes one that was served before, under the next number.
     pub fn push_back(&mut self, client: Client<S>) -> Result<(), AllocError>
-        ensures { OnOk result (self.new
+        ensures ok { OnOk result (self.new
             ≡ record self.old { places = self.old.places ++ Some client ∷ [] }) }
+        ensures unchanged { OnErr result (self.new ≡ self.old) }
     {
         self.places.push(Some(client))?;
         self.open = self.open.saturating_add(1);
@@ -32,11 +35,32 @@ impl<S: Stream + Drop> Clients<S> {
         }
     }
 
+    /// The stream of the connection is to go on under the next number. False where it doesn't: it ends.
+    pub fn carry<H: Host<S>>(&mut self, number: u32, host: &mut H, next: u32) -> bool
+        ensures carried { result ≡ true → IsCarried number self.old.places self.new.places }
+        ensures ended { result ≡ false → IsEmptied number self.old.places self.new.places }
+        ensures line { self.new.line ≡ self.old.line }
+        ensures everyone { self.new.everyone ≡ self.old.everyone }
+        ensures told { self.new.told ≡ self.old.told }
+    {
+        let Some(mut client) = self.take(number) else {
+            return false;
+        };
+        if !client.resume(host, next) {
+            return false;
+        }
+        match self.push_back(client) {
+            Ok(()) => true,
+            Err(_) => false,
+        }
+    }
+
     /// Takes the connection out, if it is there.
     pub fn take(&mut self, number: u32) -> Option<Client<S>>
         ensures was { IfSome result (λ c. slice_get self.old.places number ≡ Some (Some c)) }
         ensures ends { IsEmptied number self.old.places self.new.places }
         ensures line { self.new.line ≡ self.old.line }
+        ensures everyone { self.new.everyone ≡ self.old.everyone }
         ensures told { self.new.told ≡ self.old.told }
     {
         self.count_out(number);

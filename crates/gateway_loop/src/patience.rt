@@ -183,9 +183,7 @@ impl<R: Relation, S: Stream + Drop, W: Wire + Drop> Loop<R, S, W> {
         requires suits { Suits R.holds R.takes self.gateway.world.rules.routes bank.now }
         ensures rules { IfOk result (λ l. l.gateway.world.rules ≡ self.gateway.world.rules) }
     {
-        let mut it = self;
-        let when = it.when(host);
-        it.gateway = it.gateway.end(bank, when, number)?;
+        let mut it = self.end(bank, host, number)?;
         let _ = it.rest.given_up.push(GivenUp { number, why });
         Ok(it)
     }

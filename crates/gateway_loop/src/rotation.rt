@@ -2,13 +2,14 @@
 
 ghost use Rattle.std.specs.Prelude.{◌≡◌, true, length, option_to_list, IfOk};
 ghost use Rattle.exchange_model.specs.Rotating.{is_nearly_full};
-ghost use Rattle.gateway_loop.specs.Gateways.{MayAsk, TurnsOver};
+ghost use Rattle.gateway_loop.specs.Gateways.{MayAsk, TurnsOrStays};
 ghost use Rattle.transformers.specs.Suits.{Suits};
 
 use crate::delivery::deliver;
 use crate::gateway::Gateway;
+use crate::inputs::Passed;
 use crate::sockets::{Stream, Wire};
-use gateway_world::{Advanced, Happening, Input, Output, When};
+use gateway_world::{Advanced, Happening, Input, Output, Step, When};
 use http_edge::Memory;
 use limits::{NEARLY_ALL_ENTRIES, NEARLY_ALL_LEN};
 use transformers::{Bank, Relation};
@@ -63,111 +64,108 @@ impl<R: Relation, S: Stream + Drop, W: Wire + Drop> Gateway<R, S, W> {
         requires idle { MayAsk number self }
         ensures rules { IfOk result (λ g. g.world.rules ≡ self.world.rules) }
     {
-        let Gateway {
-            alloc,
-            world,
-            mut clients,
-            mut wire,
-        } = self;
-        clients.leave(number);
-        let mut outputs = Vec::new(alloc);
-        let input = Input {
-            moment: when.moment,
-            word: when.word,
-            happening: Happening::Close(number),
-        };
-        let Advanced { world, opened: _ } = world.advance(bank, input, &mut outputs)?;
-        deliver(outputs, &mut clients, &mut wire)?;
-        Ok(Gateway {
-            alloc,
-            world,
-            clients,
-            wire,
-        })
+        let mut it = self;
+        it.leave(number);
+        let Passed { gateway, taken: _ } = it.pass(bank, when, Happening::Close(number))?;
+        Ok(gateway)
     }
 
-    /// Opens a connection for nobody, which costs the journal an entry and nobody anything.
+    /// Opens a connection for nobody, which costs the journal an entry and nobody anything; or none,
+    /// where memory is refused too.
     pub fn pad(self, bank: &Bank<R>, when: When) -> Result<Padded<R, S, W>, Memory>
         requires suits { Suits R.holds R.takes self.world.rules.routes bank.now }
         ensures rules { IfOk result (λ x. x.gateway.world.rules ≡ self.world.rules) }
     {
         let Gateway {
-            alloc,
             world,
             mut clients,
+            mut outputs,
             mut wire,
         } = self;
-        let mut outputs = Vec::new(alloc);
+        match clients.push_nobody() {
+            Ok(()) => {}
+            Err(_) => {
+                let gateway = Gateway::of(world, clients, outputs, wire);
+                return Ok(Padded {
+                    gateway,
+                    number: None,
+                });
+            }
+        }
         let input = Input {
             moment: when.moment,
             word: when.word,
             happening: Happening::Open,
         };
-        let Advanced { world, opened } = world.advance(bank, input, &mut outputs)?;
-        deliver(outputs, &mut clients, &mut wire)?;
-        match opened {
-            None => {
-                let gateway = Gateway {
-                    alloc,
-                    world,
-                    clients,
-                    wire,
-                };
-                Ok(Padded {
-                    gateway,
-                    number: None,
-                })
-            }
-            Some(number) => {
-                clients.push_nobody()?;
-                let gateway = Gateway {
-                    alloc,
-                    world,
-                    clients,
-                    wire,
-                };
+        let Advanced { world, step } = world.advance(bank, input, &mut outputs)?;
+        match step {
+            Step::Taken(Some(number)) => {
+                deliver(&mut outputs, &mut clients, &mut wire);
+                let gateway = Gateway::of(world, clients, outputs, wire);
                 Ok(Padded {
                     gateway,
                     number: Some(number),
                 })
             }
+            Step::Taken(None) => {
+                clients.pop();
+                deliver(&mut outputs, &mut clients, &mut wire);
+                let gateway = Gateway::of(world, clients, outputs, wire);
+                Ok(Padded {
+                    gateway,
+                    number: None,
+                })
+            }
+            Step::Refused => {
+                clients.pop();
+                let gateway = Gateway::of(world, clients, outputs, wire);
+                Ok(Padded {
+                    gateway,
+                    number: None,
+                })
+            }
         }
     }
 
-    /// Gives the sealed journal out and goes on with a new one, or tells why not.
+    /// Gives the sealed journal out and goes on with a new one, or tells why not. Where memory is
+    /// refused nothing is told, and the gateway is as it was.
     pub fn rotate(self, bank: &Bank<R>, when: When) -> Result<Rotated<R, S, W>, Memory>
         requires suits { Suits R.holds R.takes self.world.rules.routes bank.now }
         ensures rules { IfOk result (λ x. x.gateway.world.rules ≡ self.world.rules) }
-        ensures turns { IfOk result (λ x. TurnsOver when self.world x.told x.gateway.world) }
+        ensures turns { IfOk result (λ x. TurnsOrStays when self.world x.told x.gateway.world) }
     {
         let Gateway {
-            alloc,
             world,
             clients,
+            mut outputs,
             wire,
         } = self;
-        let mut outputs = Vec::new(alloc);
         let input = Input {
             moment: when.moment,
             word: when.word,
             happening: Happening::Rotate,
         };
-        let Advanced { world, opened: _ } = world.advance(bank, input, &mut outputs)?;
-        let told = only(outputs);
-        let gateway = Gateway {
-            alloc,
-            world,
-            clients,
-            wire,
-        };
-        Ok(Rotated { gateway, told })
+        let Advanced { world, step } = world.advance(bank, input, &mut outputs)?;
+        match step {
+            Step::Taken(_) => {
+                let told = take_only(&mut outputs);
+                let gateway = Gateway::of(world, clients, outputs, wire);
+                Ok(Rotated { gateway, told })
+            }
+            Step::Refused => {
+                let gateway = Gateway::of(world, clients, outputs, wire);
+                Ok(Rotated {
+                    gateway,
+                    told: None,
+                })
+            }
+        }
     }
 }
 
-/// The only one of them.
-fn only<R: Relation>(outputs: Vec<Output<R>>) -> Option<Output<R>>
-    ensures { length outputs.items ≡ 1 → option_to_list result ≡ outputs.items }
+/// Takes the only one of them.
+fn take_only<R: Relation>(outputs: &mut Vec<Output<R>>) -> Option<Output<R>>
+    ensures { length outputs.old.items ≡ 1 → option_to_list result ≡ outputs.old.items }
 {
-    let mut outputs = outputs;
     outputs.pop()
 }

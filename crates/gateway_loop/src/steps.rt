@@ -14,12 +14,37 @@ use transformers::{Bank, Relation};
 const STEPS: usize = 8;
 
 impl<R: Relation, S: Stream + Drop, W: Wire + Drop> Loop<R, S, W> {
-    /// Lets those go on that are ready now. Who becomes so meanwhile has the next turn.
+    /// Lets those go on that are ready now: all, where all have their turns.
     pub(crate) fn go_on<H: Host<S>>(
         self,
         bank: &Bank<R>,
         host: &mut H,
     ) -> Result<Loop<R, S, W>, Memory>
+        requires suits { Suits R.holds R.takes self.gateway.world.rules.routes bank.now }
+        ensures rules { IfOk result (λ l. l.gateway.world.rules ≡ self.gateway.world.rules) }
+    {
+        let mut it = self;
+        if it.gateway.take_everyone() {
+            it = it.everyone_on(bank, host)?;
+        }
+        it.line_on(bank, host)
+    }
+
+    /// Lets each connection go on.
+    fn everyone_on<H: Host<S>>(self, bank: &Bank<R>, host: &mut H) -> Result<Loop<R, S, W>, Memory>
+        requires suits { Suits R.holds R.takes self.gateway.world.rules.routes bank.now }
+        ensures rules { IfOk result (λ l. l.gateway.world.rules ≡ self.gateway.world.rules) }
+    {
+        let mut it = self;
+        'each: for number in it.gateway.first_number()..it.gateway.next_number() {
+            it = it.step(bank, host, number)?;
+        }
+        Ok(it)
+    }
+
+    /// Lets those go on that stand in the line now. Who comes to stand there meanwhile has the next
+    /// turn.
+    fn line_on<H: Host<S>>(self, bank: &Bank<R>, host: &mut H) -> Result<Loop<R, S, W>, Memory>
         requires suits { Suits R.holds R.takes self.gateway.world.rules.routes bank.now }
         ensures rules { IfOk result (λ l. l.gateway.world.rules ≡ self.gateway.world.rules) }
     {
@@ -55,16 +80,30 @@ impl<R: Relation, S: Stream + Drop, W: Wire + Drop> Loop<R, S, W> {
                 Due::Farewell => {
                     it.gateway.leave(number);
                     let moment = it.rest.moment;
-                    it.rest.farewells.push(number, moment)?;
+                    if it.rest.farewells.push(number, moment).is_err() {
+                        return it.end(bank, host, number);
+                    }
                 }
-                Due::End => {
-                    let when = it.when(host);
-                    it.gateway = it.gateway.end(bank, when, number)?;
-                    return Ok(it);
-                }
+                Due::End => return it.end(bank, host, number),
             }
         }
-        it.gateway.line_up(number)?;
+        it.gateway.line_up(number);
+        Ok(it)
+    }
+
+    /// The connection ends.
+    pub(crate) fn end<H: Host<S>>(
+        self,
+        bank: &Bank<R>,
+        host: &mut H,
+        number: u32,
+    ) -> Result<Loop<R, S, W>, Memory>
+        requires suits { Suits R.holds R.takes self.gateway.world.rules.routes bank.now }
+        ensures rules { IfOk result (λ l. l.gateway.world.rules ≡ self.gateway.world.rules) }
+    {
+        let mut it = self;
+        let when = it.when(host);
+        it.gateway = it.gateway.end(bank, when, number)?;
         Ok(it)
     }
 
@@ -83,8 +122,7 @@ impl<R: Relation, S: Stream + Drop, W: Wire + Drop> Loop<R, S, W> {
             let Some(number) = it.rest.farewells.next_over(moment) else {
                 return Ok(it);
             };
-            let when = it.when(host);
-            it.gateway = it.gateway.end(bank, when, number)?;
+            it = it.end(bank, host, number)?;
         }
         Ok(it)
     }

@@ -3,6 +3,7 @@
 //! seal and given out. Then the clients' streams go on as other connections.
 
 ghost use Rattle.std.specs.Prelude.{◌≡◌, IfOk};
+ghost use Rattle.gateway_loop.specs.Gateways.{MayAsk};
 ghost use Rattle.transformers.specs.Suits.{Suits};
 
 use crate::host::Host;
@@ -69,8 +70,8 @@ impl<R: Relation, S: Stream + Drop, W: Wire + Drop> Loop<R, S, W> {
         let Some(turning) = it.begun_turning() else {
             return Ok(it);
         };
-        // one that was given bytes in this turn has its turn first
-        let late = turning.is_late(it.rest.moment) && it.gateway.in_line() == 0;
+        // Who was given bytes in this turn has its own first.
+        let late = turning.is_late(it.rest.moment) && !it.gateway.have_turns();
         it = it.dismiss_all(bank, host, late)?;
         if it.rest.moment < turning.again || it.gateway.next_due().is_some() || it.is_connected() {
             return Ok(it);
@@ -119,16 +120,33 @@ impl<R: Relation, S: Stream + Drop, W: Wire + Drop> Loop<R, S, W> {
                 it.gateway = it.gateway.park(bank, when, number)?;
                 it.rest.parked = true;
             } else if late && it.gateway.is_written(number) {
-                let when = it.when(host);
-                it.gateway = it.gateway.dismiss(bank, when, number)?;
-                let moment = it.rest.moment;
-                it.rest.farewells.push(number, moment)?;
+                it = it.dismiss(bank, host, number)?;
             } else if late && it.gateway.is_idle(number) {
-                let when = it.when(host);
-                it.gateway = it.gateway.end(bank, when, number)?;
+                it = it.end(bank, host, number)?;
             }
         }
         Ok(it)
+    }
+
+    /// Closes the connection, which takes leave, where what has to be remembered of that can be kept.
+    fn dismiss<H: Host<S>>(
+        self,
+        bank: &Bank<R>,
+        host: &mut H,
+        number: u32,
+    ) -> Result<Loop<R, S, W>, Memory>
+        requires suits { Suits R.holds R.takes self.gateway.world.rules.routes bank.now }
+        requires idle { MayAsk number self.gateway }
+        ensures rules { IfOk result (λ l. l.gateway.world.rules ≡ self.gateway.world.rules) }
+    {
+        let mut it = self;
+        let when = it.when(host);
+        it.gateway = it.gateway.dismiss(bank, when, number)?;
+        let moment = it.rest.moment;
+        match it.rest.farewells.push(number, moment) {
+            Ok(()) => Ok(it),
+            Err(_) => it.end(bank, host, number),
+        }
     }
 
     /// Brings the journal to its seal by connections that are opened and closed at once, for nobody.

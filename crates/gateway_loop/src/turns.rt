@@ -8,6 +8,7 @@ use crate::farewells::Farewells;
 use crate::gateway::Gateway;
 use crate::hearing::Listened;
 use crate::host::{Accepted, Host, Sign};
+use crate::inputs::Passed;
 use crate::patience::{GivenUp, SWEEP};
 use crate::sockets::{Stream, Wire};
 use crate::turning::{LOOK, Turning};
@@ -24,7 +25,8 @@ pub(crate) const AT_ONCE: usize = 64;
 /// How many signs are looked at in a turn.
 const SIGNS: usize = 1024;
 
-/// How long nobody is taken after the system gave no connection, in milliseconds.
+/// How long nobody is taken after the system gave no connection, and time doesn't go on after memory
+/// was refused for it, in milliseconds.
 const PAUSE: u64 = 50;
 
 /// How many bytes are read at once.
@@ -60,6 +62,8 @@ pub(crate) struct Rest<R: Relation> {
     pub(crate) buffer: Vec<u8>,
     /// The moment of the last turn.
     pub(crate) moment: u64,
+    /// Before which moment time doesn't go on, since memory was refused for it.
+    pub(crate) again: u64,
     /// Clients may want connections, and nobody is taken before that moment.
     clients: bool,
     resumes: u64,
@@ -96,11 +100,12 @@ impl<R: Relation, S: Stream + Drop, W: Wire + Drop> Loop<R, S, W> {
     pub fn new(gateway: Gateway<R, S, W>, idle: u64) -> Result<Loop<R, S, W>, AllocError>
         ensures { IfOk result (λ l. l.gateway ≡ gateway) }
     {
-        let alloc = gateway.alloc;
+        let alloc = gateway.alloc();
         let rest = Rest {
             farewells: Farewells::new(alloc),
             buffer: vec![in alloc; 0u8; ROOM]?,
             moment: 0,
+            again: 0,
             clients: true,
             resumes: 0,
             idle,
@@ -136,15 +141,15 @@ impl<R: Relation, S: Stream + Drop, W: Wire + Drop> Loop<R, S, W> {
         Ok(())
     }
 
-    /// One turn: looks at the signs, and lets all go on that may have something to do. Where memory is
-    /// refused, the loop is gone.
+    /// One turn: looks at the signs, and lets all go on that may have something to do. Only where
+    /// memory is refused for a place among more outputs than any input gives out, the loop is gone.
     pub fn turn<H: Host<S>>(self, bank: &Bank<R>, host: &mut H) -> Result<Loop<R, S, W>, Memory>
         requires suits { Suits R.holds R.takes self.gateway.world.rules.routes bank.now }
         ensures rules { IfOk result (λ l. l.gateway.world.rules ≡ self.gateway.world.rules) }
     {
         let mut it = self;
         it.rest.given_up.clear();
-        it.take_signs(host)?;
+        it.take_signs(host);
         if it.may_take() {
             return it.take_all(bank, host);
         }
@@ -187,7 +192,7 @@ impl<R: Relation, S: Stream + Drop, W: Wire + Drop> Loop<R, S, W> {
     /// Whether nothing else is due in this turn.
     fn is_over(&self) -> bool {
         let is_due = match self.gateway.next_due() {
-            Some(due) => due <= self.rest.moment,
+            Some(due) => due.max(self.rest.again) <= self.rest.moment,
             None => false,
         };
         let waits = self.rest.turning.is_some() || self.gateway.is_nearly_full();
@@ -212,7 +217,7 @@ impl<R: Relation, S: Stream + Drop, W: Wire + Drop> Loop<R, S, W> {
     /// a farewell is over, clients are taken again, or connections are looked at whose journal is
     /// turned over.
     fn longest_wait(&self) -> Option<u64> {
-        if self.wire || self.gateway.in_line() > 0 || self.may_resume() {
+        if self.wire || self.gateway.have_turns() || self.may_resume() {
             return Some(0);
         }
         let resumes = match self.rest.turning {
@@ -225,26 +230,26 @@ impl<R: Relation, S: Stream + Drop, W: Wire + Drop> Loop<R, S, W> {
         } else {
             None
         };
-        let until = sooner(self.gateway.next_due(), self.rest.farewells.next_due());
+        let due = self.gateway.next_due().map(|due| due.max(self.rest.again));
+        let until = sooner(due, self.rest.farewells.next_due());
         let until = sooner(until, sweeps);
         let until = sooner(until, resumes)?;
         Some(until.saturating_sub(self.rest.moment).min(LONGEST))
     }
 
     /// Looks at the signs that there are.
-    fn take_signs<H: Host<S>>(&mut self, host: &mut H) -> Result<(), AllocError>
+    fn take_signs<H: Host<S>>(&mut self, host: &mut H)
         ensures { self.new.gateway.world ≡ self.old.gateway.world }
     {
         'each: for _ in 0..SIGNS {
             match host.sign() {
                 Some(Sign::Clients) => self.rest.clients = true,
                 Some(Sign::Wire) => self.wire = true,
-                Some(Sign::Ready(number)) => self.gateway.wake(number, false)?,
-                Some(Sign::Ended(number)) => self.gateway.wake(number, true)?,
-                None => return Ok(()),
+                Some(Sign::Ready(number)) => self.gateway.wake(number, false),
+                Some(Sign::Ended(number)) => self.gateway.wake(number, true),
+                None => return,
             }
         }
-        Ok(())
     }
 
     /// Takes those who want connections, some of them.
@@ -294,7 +299,7 @@ impl<R: Relation, S: Stream + Drop, W: Wire + Drop> Loop<R, S, W> {
         }
         let when = it.when(host);
         it.gateway = it.gateway.admit(bank, when, stream)?;
-        it.gateway.line_up(number)?;
+        it.gateway.line_up(number);
         Ok(it)
     }
 
@@ -328,9 +333,13 @@ impl<R: Relation, S: Stream + Drop, W: Wire + Drop> Loop<R, S, W> {
     {
         let mut it = self;
         match it.gateway.next_due() {
-            Some(due) if due <= it.rest.moment => {
+            Some(due) if due.max(it.rest.again) <= it.rest.moment => {
                 let when = it.when(host);
-                it.gateway = it.gateway.tick(bank, when)?;
+                let Passed { gateway, taken } = it.gateway.tick(bank, when)?;
+                it.gateway = gateway;
+                if !taken {
+                    it.rest.again = it.rest.moment.saturating_add(PAUSE);
+                }
                 Ok(it)
             }
             _ => Ok(it),

@@ -1,6 +1,6 @@
 -- What a function of the engine does is acts.
 use Rattle.std.proofs.Common.{◌≡◌, ◌⊎◌, ℕ, suc, ◌<◌, Bool, true, false, length, map, arith, List, [], ◌∷◌, ◌++◌, Result, Ok, Err, Some, None, inl, inr, refl, sym, ap, subst, ◌∙◌}
-use Rattle.std.specs.Prelude.{OnOk}
+use Rattle.std.specs.Prelude.{IfOk, OnOk}
 use Rattle.std.proofs.lemmas.Grind.{flat_map-append}
 use Rattle.std.proofs.lemmas.List.{append-nil, append_assoc, map_push}
 use Rattle.gateway_model.specs.Rotating.{Rotates}
@@ -10,7 +10,7 @@ use Rattle.journal_book.specs.Entries.{Written}
 use Rattle.exchange_core.specs.declared.fault.OpenFault.TheVariants as Open
 use Rattle.exchange_core.specs.declared.fault.RotateFault.{RotateFault as Refusal}
 use Rattle.exchange_core.specs.declared.fault.RotateFault.TheVariants as F
-use Rattle.exchange_core.specs.Rotating.{IsTurned, IsRefused}
+use Rattle.exchange_core.specs.Rotating.{IsTurned, IsRefused as IsRefusedTurn}
 use Rattle.exchange_core.specs.Answering.{Given}
 use Rattle.exchange_core.specs.Calls.{IsOpened, IsClosed, IsUnknown, now}
 use Rattle.exchange_core.specs.Taking.{IsTaken, IsSent}
@@ -18,7 +18,11 @@ use Rattle.exchange_core.specs.Values.{CoreValue, Outgoing, stepped}
 use Rattle.gateway_connections.specs.Inlets.{Inlet, TableValue, fresh, appended}
 use Rattle.gateway_connections.specs.Reads.{Continues, ChangesAt}
 use Rattle.gateway_world.specs.declared.engine.Engine.{Engine}
+use Rattle.gateway_world.specs.declared.engine.Step.{Step}
+use Rattle.gateway_world.specs.declared.engine.Step.TheVariants as Went
+use Rattle.gateway_world.specs.Refusals.{IfTaken, IsRefused, MayBeRefused}
 use Rattle.gateway_model.specs.declared.input.When.{When}
+use Rattle.gateway_model.specs.declared.input.Happening.{Happening}
 use Rattle.gateway_model.specs.declared.input.Happening.TheVariants as H
 use Rattle.gateway_model.specs.declared.input.Output.{Output}
 use Rattle.gateway_model.specs.Acts.{IsAllTold, Act, Opens, TurnsAway, Takes, Sends, Tells, GoesOn, GivesUp, Forgoes, Rests, Leaves, Misses, Served, Terms, Does, IsClosing, Ends, RestsAt, IsNext, at, continue_text}
@@ -38,6 +42,18 @@ use Rattle.gateway_world.proofs.ReadingOn.{IsAmong, among-open, taken-none, unas
 pub then-ok : {A E : Type 0} (r : Result A E) (P Q : Type 0) → OnOk r P → (P → Q) → OnOk r Q
 then-ok (Ok x) P Q h f = f h
 then-ok (Err e) P Q h f = tt
+
+-- what follows where it was done
+pub then-taken : {E : Type 0} (r : Result Step E) (P Q : Type 0) → IfOk r (λ (s : Step). IfTaken s P) → (P → Q)
+    → IfOk r (λ (s : Step). IfTaken s Q)
+then-taken (Ok (Went.Taken n)) P Q h f = f h
+then-taken (Ok Went.Refused) P Q h f = tt
+then-taken (Err e) P Q h f = tt
+
+-- what may be refused, whatever comes of it
+pub may-so : {E : Type 0} (r : Result Step E) (x : Happening) → MayBeRefused x → IfOk r (λ (s : Step). IsRefused s → MayBeRefused x)
+may-so (Ok s) x h = λ refused. h
+may-so (Err e) x h = tt
 
 -- An act that begins what an input leads to, and gives nothing out.
 pub begins-lead : (M : Terms) (w : When) (a : Act) (P : List Act → Type 0) (old mid new : Served) (before after : List Emission)
@@ -311,7 +327,7 @@ module _ {R : Type 0} (w : When) where
       }
 
   pub refuses-so : (fault : Refusal) (old new : Engine R) (before after : List (Output R)) → new.core ≡ old.core
-      → IsRefused (at w (served_of old)) old.core.state fault → (fault ≡ F.Memory → ⊥) → new.table ≡ old.table
+      → IsRefusedTurn (at w (served_of old)) old.core.state fault → (fault ≡ F.Memory → ⊥) → new.table ≡ old.table
       → emissions after ≡ emissions before ++ Unrotated fault ∷ [] → RotatesBy w old before new after
   refuses-so fault old new before after core refused other table added =
       let r = refused-so (at w (served_of old)) old.core.state fault refused other in

@@ -1,14 +1,16 @@
 -- Steps of a core after which nothing more waits.
-use Rattle.std.proofs.Common.{◌≡◌, ◌⊎◌, ℕ, true, List, [], ◌∷◌, ◌++◌, length, drop, Err, inl, inr, refl, sym, ap, ◌∙◌, subst}
+use Rattle.std.proofs.Common.{◌≡◌, ◌⊎◌, ℕ, Bool, true, false, List, [], ◌∷◌, ◌++◌, length, drop, Err, inl, inr, refl, sym, ap, ◌∙◌, subst}
 use Rattle.std.proofs.Math.Seq.{drop-append_seam}
 use Rattle.std.proofs.lemmas.List.{append-nil}
 use Rattle.ask_model.specs.Views.{Ask}
-use Rattle.journal_book.specs.Entries.{Shuts, Seals, Written}
+use Rattle.std.specs.Prelude.{if◌then◌else◌}
+use Rattle.journal_book.specs.Entries.{Opens, Shuts, Seals, Written}
 use Rattle.exchange_model.specs.State.{State}
-use Rattle.exchange_model.specs.Steps.{shuts, seals}
+use Rattle.exchange_model.specs.Steps.{opens, shuts, seals}
+use Rattle.exchange_model.specs.Room.{fits}
 use Rattle.exchange_model.specs.Hearing.{Numbers}
 use Rattle.exchange_model.specs.Growing.{at_moment}
-use Rattle.exchange_model.specs.Sealing.{asks_in_room}
+use Rattle.exchange_model.specs.Sealing.{asks_in_room, opens_in_room}
 use Rattle.exchange_core.specs.declared.fault.AskFault.TheVariants as Fault
 use Rattle.exchange_core.specs.Calls.{IsAsked, IsClosed, AsksSo}
 use Rattle.exchange_core.specs.Values.{CoreValue, Untaken, Outgoing, answered_in, sent_in, stepped}
@@ -31,6 +33,17 @@ quiet-seal t S = record { more = at_moment t Seals ∷ []; entries = refl; answe
 quiet-shut : (t c : ℕ) (S : State) → IsQuiet S (shuts t c S)
 quiet-shut t c S = record { more = at_moment t (Shuts c) ∷ []; entries = refl; answers = λ n. refl; sends = refl }
 
+quiet-open : (t : ℕ) (S : State) → IsQuiet S (opens t S)
+quiet-open t S = record { more = at_moment t (Opens S.opened) ∷ []; entries = refl; answers = λ n. refl; sends = refl }
+
+quiet-opened : (t : ℕ) (S : State) → IsQuiet S (opens_in_room t S)
+quiet-opened t S = by S.sealed (fits (opens t S))
+  where
+    by : (sealed room : Bool) → IsQuiet S (if sealed then S else (if room then opens t S else seals t S))
+    by true room = quiet-none S
+    by false true = quiet-open t S
+    by false false = quiet-seal t S
+
 waits-quiet : (old new : CoreValue) (S : State) → new ≡ stepped S old → IsQuiet old.state S → KeepsWaiting old new
 waits-quiet old new S e q =
     let k : ℕ = length old.state.entries in
@@ -52,6 +65,9 @@ waits-same old new e = record {
 
 pub closed-waits : (t c : ℕ) (old new : CoreValue) → IsClosed t c old new → KeepsWaiting old new
 closed-waits t c old new h = waits-quiet old new (shuts t c old.state) h.1 (quiet-shut t c old.state)
+
+pub opened-waits : (t : ℕ) (old new : CoreValue) → new ≡ stepped (opens_in_room t old.state) old → KeepsWaiting old new
+opened-waits t old new e = waits-quiet old new (opens_in_room t old.state) e (quiet-opened t old.state)
 
 -- An ask that the journal doesn't take adds the seal at most.
 denied-quiet : (t c : ℕ) (a : Ask) (n : Numbers) (S : State) → (asks_in_room t c a n S).sealed ≡ true

@@ -8,6 +8,10 @@ use Rattle.exchange_core.specs.Snapshots.{Grows}
 use Rattle.exchange_core.specs.Values.{CoreValue, Untaken}
 use Rattle.gateway_world.specs.declared.engine.Context.{Context}
 use Rattle.gateway_world.specs.declared.engine.Engine.{Engine}
+use Rattle.gateway_world.specs.declared.engine.Step.{Step}
+use Rattle.gateway_world.specs.declared.engine.Step.TheVariants as S
+use Rattle.gateway_model.specs.declared.input.Happening.{Happening}
+use Rattle.gateway_world.specs.Openings.{IsOpening}
 use Rattle.gateway_model.specs.declared.input.When.{When}
 use Rattle.gateway_model.specs.declared.input.Output.{Output}
 use Rattle.gateway_model.specs.Acts.{Act, Terms, at}
@@ -108,3 +112,16 @@ pub record IsGivenUp {R : Type 0} (w : When) (c : ℕ) (old : Engine R) (before 
     (new : Engine R) (after : List (Output R)) : Type 0 where
   pub shuts : IsShutting w c old new
   pub told : emissions after ≡ emissions before ++ GivenUp c ∷ []
+
+-- What it serves and what was given out are as before.
+pub record IsUntouched {R : Type 0} (old : Engine R) (before : List (Output R))
+    (new : Engine R) (after : List (Output R)) : Type 0 where
+  pub core : new.core ≡ old.core
+  pub current : new.table.current ≡ old.table.current
+  pub marked : new.table.marked ≡ old.table.marked
+  pub outputs : after ≡ before
+
+-- Which connection opened, if it was done.
+abbrev pub OpensBy : Happening → Step → ℕ → List Emission → List Emission → Type 0
+OpensBy x (S.Taken n) next before after = IsOpening x n next before after
+OpensBy x S.Refused next before after = ⊤

@@ -6,4 +6,5 @@ pub mod Journals
 pub mod Keeping
 pub mod Leading
 pub mod Openings
+pub mod Refusals
 pub mod Worlds

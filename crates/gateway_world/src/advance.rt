@@ -1,13 +1,14 @@
 //! What one needs who drives a world for good: inputs that aren't taken back, and what there is to
 //! wait for.
 
-ghost use Rattle.std.specs.Prelude.{◌≡◌, ◌↔◌, true, None, IfOk, IsTrue, sum_by};
+ghost use Rattle.std.specs.Prelude.{◌≡◌, ◌≤◌, ◌↔◌, [], true, None, IfOk, IsTrue, OnErr, sum_by};
+ghost use Rattle.std.specs.Prelude.{vec_capacity, vec_len};
 ghost use Rattle.journal_book.specs.Entries.{entry_size};
 ghost use Rattle.exchange_core.specs.Due.{next_tick, IsNextTick};
 ghost use Rattle.exchange_model.specs.Resting.{HasConn};
 ghost use Rattle.gateway_model.specs.Emissions.{emissions};
 
-use crate::engine::{Context, Engine};
+use crate::engine::{Context, Engine, Step};
 use crate::state::World;
 use exchange_core::Core;
 use gateway_model::{Input, Output, When};
@@ -16,15 +17,16 @@ use http_edge::Memory;
 use limits::{LAST_MOMENT, MAX_UNREAD};
 use transformers::{Bank, Relation};
 
-/// A world after an input, and the number of the connection that opened with it.
+/// A world after an input, and what came of it.
 #[derive(Drop)]
 pub struct Advanced<R: Relation> {
     pub world: World<R>,
-    pub opened: Option<u32>,
+    pub step: Step,
 }
 
 impl<R: Relation> World<R> {
     ghost use Rattle.gateway_world.specs.Inputs.{Takes};
+    ghost use Rattle.gateway_world.specs.Refusals.{IfTaken, IsRefused, MayBeRefused, opened_in};
     ghost use Rattle.gateway_world.specs.Openings.{IsCounted};
     ghost use Rattle.gateway_world.specs.Worlds.{IsAllAsked, IsTooMuch, served_in};
     ghost use Rattle.transformers.specs.Suits.{Suits};
@@ -59,8 +61,8 @@ impl<R: Relation> World<R> {
         self.engine.core.is_idle(number)
     }
 
-    /// Whether the connection is open between two requests: it waits for no answer, and all that came
-    /// of it was asked.
+    /// Whether the connection is open between two requests: it waits for no answer, and all that
+    /// came of it was asked.
     pub fn is_between(&self, number: u32) -> bool
         ensures idle { result ≡ true → HasConn self.now.core.state.conns number None }
         ensures asked { result ≡ true → IsAllAsked number self.now }
@@ -73,8 +75,11 @@ impl<R: Relation> World<R> {
     }
 
     /// Takes an input for good, and puts what it leads to in place of what was in `outputs`.
-    /// Nothing is copied to go back to, so that it costs what its steps cost: where memory is
-    /// refused, the world is gone.
+    /// Nothing is copied to go back to, so that it costs what its steps cost. Where memory is
+    /// refused to the core, or for a connection that opens, the world is as it was, and the input
+    /// isn't taken; where it is for what a connection asks or is told, that connection is given up.
+    /// Only where it is for a place among the outputs is the world gone, and then there are as many
+    /// of them as there were places.
     pub fn advance(
         self,
         bank: &Bank<R>,
@@ -83,10 +88,16 @@ impl<R: Relation> World<R> {
     ) -> Result<Advanced<R>, Memory>
         requires suits { Suits R.holds R.takes self.rules.routes bank.now }
         requires room { IsTooMuch input.happening (served_in self) → ⊥ }
-        ensures takes { IfOk result (λ a. Takes R.holds R.takes input.entry self
-            (emissions outputs.new.items) a.world) }
-        ensures opened { IfOk result (λ a. IsCounted input.entry.happening a.opened
+        ensures takes { IfOk result (λ a. IfTaken a.step
+            (Takes R.holds R.takes input.entry self (emissions outputs.new.items) a.world)) }
+        ensures stays { IfOk result (λ a. IsRefused a.step
+            → (a.world ≡ self) × (outputs.new.items ≡ [])) }
+        ensures refused { IfOk result (λ a. IsRefused a.step
+            → MayBeRefused input.entry.happening) }
+        ensures opened { IfOk result (λ a. IsCounted input.entry.happening (opened_in a.step)
             self.core a.world.core) }
+        ensures places { vec_capacity outputs.old ≤ vec_capacity outputs.new }
+        ensures full { OnErr result (vec_capacity outputs.old ≤ vec_len outputs.new) }
     {
         // Its contract says in which order a journal that stands has messages go out.
         in_order();
@@ -100,7 +111,8 @@ impl<R: Relation> World<R> {
         // Its contract says that the core keeps to its history, before the input and after it.
         engine.core.journal();
         outputs.clear();
-        let moment = moment.max(input.moment.min(LAST_MOMENT));
+        let before = moment;
+        let moment = before.max(input.moment.min(LAST_MOMENT));
         let context = Context {
             when: When {
                 moment,
@@ -108,16 +120,27 @@ impl<R: Relation> World<R> {
             },
             settings: &settings,
         };
-        let opened = engine.step(context, bank, input.happening, outputs)?;
-        engine.core.journal();
-        engine.table.mark();
-        Ok(Advanced {
-            world: World {
-                settings,
-                engine: boxed,
-                moment,
-            },
-            opened,
-        })
+        match engine.step(context, bank, input.happening, outputs)? {
+            Step::Taken(opened) => {
+                engine.core.journal();
+                engine.table.mark();
+                Ok(Advanced {
+                    world: World {
+                        settings,
+                        engine: boxed,
+                        moment,
+                    },
+                    step: Step::Taken(opened),
+                })
+            }
+            Step::Refused => Ok(Advanced {
+                world: World {
+                    settings,
+                    engine: boxed,
+                    moment: before,
+                },
+                step: Step::Refused,
+            }),
+        }
     }
 }

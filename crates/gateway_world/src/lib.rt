@@ -11,11 +11,13 @@ mod advance;
 mod engine;
 mod fault;
 mod run;
+mod serving;
 mod state;
 mod telling;
 mod world;
 
 pub use advance::Advanced;
+pub use engine::Step;
 pub use fault::WorldFault;
 pub use gateway_model::{Datagram, Happening, Input, Output, RotateFault, When};
 pub use run::Run;

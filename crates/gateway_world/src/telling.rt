@@ -1,6 +1,7 @@
 //! What connections are told.
 
-ghost use Rattle.std.specs.Prelude.{[], ◌∷◌, ◌++◌, ◌≡◌, IfOk, OnOk};
+ghost use Rattle.std.specs.Prelude.{[], ◌∷◌, ◌++◌, ◌≡◌, ◌≤◌, IfOk, OnOk, OnErr};
+ghost use Rattle.std.specs.Prelude.{vec_capacity, vec_len};
 ghost use Rattle.std.specs.List.{list_any};
 ghost use Rattle.exchange_core.specs.Answering.{given_of};
 ghost use Rattle.gateway_model.specs.Acts.{continue_text};
@@ -52,8 +53,10 @@ pub fn tell_bytes<R: Relation>(
     bytes: Vec<u8>,
     outputs: &mut Vec<Output<R>>,
 ) -> Result<(), Memory>
-    ensures { OnOk result (emissions outputs.new.items
+    ensures told { OnOk result (emissions outputs.new.items
         ≡ emissions outputs.old.items ++ Says number bytes.items ∷ []) }
+    ensures places { vec_capacity outputs.old ≤ vec_capacity outputs.new }
+    ensures full { OnErr result (vec_capacity outputs.old ≤ vec_len outputs.new) }
 {
     outputs.push(Output::Bytes(number, bytes))?;
     Ok(())
@@ -61,8 +64,10 @@ pub fn tell_bytes<R: Relation>(
 
 /// Tells that the proxy closes the connection.
 pub fn tell_closed<R: Relation>(number: u32, outputs: &mut Vec<Output<R>>) -> Result<(), Memory>
-    ensures { OnOk result
+    ensures told { OnOk result
         (emissions outputs.new.items ≡ emissions outputs.old.items ++ Closed number ∷ []) }
+    ensures places { vec_capacity outputs.old ≤ vec_capacity outputs.new }
+    ensures full { OnErr result (vec_capacity outputs.old ≤ vec_len outputs.new) }
 {
     outputs.push(Output::Closed(number))?;
     Ok(())
@@ -70,8 +75,10 @@ pub fn tell_closed<R: Relation>(number: u32, outputs: &mut Vec<Output<R>>) -> Re
 
 /// Tells that the connection is given up.
 pub fn tell_given_up<R: Relation>(number: u32, outputs: &mut Vec<Output<R>>) -> Result<(), Memory>
-    ensures { OnOk result
+    ensures told { OnOk result
         (emissions outputs.new.items ≡ emissions outputs.old.items ++ GivenUp number ∷ []) }
+    ensures places { vec_capacity outputs.old ≤ vec_capacity outputs.new }
+    ensures full { OnErr result (vec_capacity outputs.old ≤ vec_len outputs.new) }
 {
     outputs.push(Output::GivenUp(number))?;
     Ok(())
@@ -93,8 +100,10 @@ pub fn gives_up<R: Relation>(outputs: &[Output<R>]) -> bool
 
 /// Tells that a client is turned away.
 pub fn tell_turned<R: Relation>(outputs: &mut Vec<Output<R>>) -> Result<(), Memory>
-    ensures { OnOk result
+    ensures told { OnOk result
         (emissions outputs.new.items ≡ emissions outputs.old.items ++ Turned ∷ []) }
+    ensures places { vec_capacity outputs.old ≤ vec_capacity outputs.new }
+    ensures full { OnErr result (vec_capacity outputs.old ≤ vec_len outputs.new) }
 {
     outputs.push(Output::Turned)?;
     Ok(())

@@ -5,7 +5,7 @@ ghost use Rattle.history_laws.specs.Justified.{Stands};
 ghost use Rattle.ask_model.specs.Views.{rules_of};
 ghost use Rattle.gateway_model.specs.Emissions.{emissions, IsWhole};
 
-use crate::engine::{Context, Engine};
+use crate::engine::{Context, Engine, Step};
 use crate::fault::WorldFault;
 use crate::state::World;
 use crate::telling::gives_up;
@@ -91,7 +91,7 @@ impl<R: Relation> World<R> {
         engine.core.journal();
         let mut outputs = Vec::new(engine.alloc);
         match engine.step(context, bank, input.happening, &mut outputs) {
-            Ok(_) => {
+            Ok(Step::Taken(_)) => {
                 if gives_up(outputs.as_slice()) {
                     engine.core.restore(before);
                     engine.table.back();
@@ -102,6 +102,7 @@ impl<R: Relation> World<R> {
                 self.moment = moment;
                 Ok(outputs)
             }
+            Ok(Step::Refused) => Err(WorldFault::Memory),
             Err(Memory) => {
                 engine.core.restore(before);
                 engine.table.back();

@@ -1,5 +1,5 @@
 -- Its number is above those of all rows.
-use Rattle.std.proofs.Common.{◌≡◌, ◌<◌, ◌++◌, ◌∷◌, [], ◌∙◌, List, ℕ, true, false, sym, ap, subst, refl}
+use Rattle.std.proofs.Common.{◌≡◌, ◌<◌, ◌∙◌, List, ℕ, true, false, sym, ap, subst, refl}
 use Rattle.std.specs.List.{All}
 use Rattle.std.proofs.lemmas.List.Elements.{All-push}
 use Rattle.gateway_connections.specs.declared.row.Row.{Row}
@@ -8,12 +8,12 @@ use Rattle.gateway_connections.specs.Rows.{AreInOrder, IsWhole, number_in}
 use Rattle.gateway_connections.proofs.Keeping.{order-push, above-rows}
 use Rattle.gateway_connections.proofs.table.Table.insert.Goals as goal
 
-pub invariant_of-self-2 : goal.invariant_of-self-2
-invariant_of-self-2 c =
+pub invariant_of-self : goal.invariant_of-self
+invariant_of-self c =
     let rows = c.self.inside.rows.items in
-    let y : Row = record { inbox = c.in_ok-inbox.inbox; fresh = true; closed = false } in
-    let is = c.in_ok-inbox.ensures in
-    let above = subst (λ t. IsAbove c.args.number t) (sym c.self.view_is) c.requires in
+    let y : Row = record { inbox = c.of.result; fresh = true; closed = false } in
+    let is = c.of.ensures in
+    let above = subst (λ t. IsAbove c.args.number t) (sym c.self.view_is) c.requires.above in
     let same : number_in y ≡ c.args.number = ap (λ (x : Inlet). x.number) is.current in
     let all = subst (λ (m : ℕ). All (λ (r : Row). number_in r < m) rows) (sym same) (above-rows c.args.number rows c.self.invariant.1 above.current above.marked) in
     let whole : IsWhole y = record {
@@ -22,5 +22,5 @@ invariant_of-self-2 c =
       number = ap (λ (x : Inlet). x.number) (is.marked ∙ sym is.current);
       stays = λ e. refl;
     } in
-    subst (λ (rs : List Row). AreInOrder rs × All IsWhole rs) (sym (c.push_reserved.ensures.items ∙ ap (λ (rs : List Row). rs ++ y ∷ []) c.try_reserve.ensures.items))
+    subst (λ (rs : List Row). AreInOrder rs × All IsWhole rs) (sym c.push_reserved.ensures.items)
     (order-push rows y c.self.invariant.0 all, All-push IsWhole rows y c.self.invariant.1 whole)

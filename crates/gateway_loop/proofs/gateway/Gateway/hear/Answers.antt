@@ -1,21 +1,52 @@
--- What came in at the wire is an input; or nothing came in.
-use Rattle.std.proofs.Common.{refl}
+-- What came in at the wire is an input, or is lost; or nothing came in.
+use Rattle.std.proofs.Common.{refl, ap, ◌∙◌}
 use Rattle.gateway_model.specs.Emissions.{emissions}
-use Rattle.gateway_loop.proofs.Taking.{serving-hears, serving-waits}
+use Rattle.gateway_world.proofs.Running.{takes-rules}
+use Rattle.gateway_loop.proofs.Stepping.{counted, refused, taken}
+use Rattle.gateway_loop.proofs.Taking.{serving-hears, serving-stays, serving-waits}
 use Rattle.gateway_loop.proofs.gateway.Gateway.hear.Goals as goal
 
-pub invariant_of-gateway : goal.invariant_of-gateway
-invariant_of-gateway g c =
-    serving-waits g.R.Relation.holds g.R.Relation.takes g.S.Stream.written g.S.Stream.gave g.W.Wire.sent g.W.Wire.heard
+pub of-gateway-requires : goal.of-gateway-requires
+of-gateway-requires g c =
+    serving-waits g.R.Relation.holds g.R.Relation.takes g.S.Stream.written g.S.Stream.gave g.W.Wire.sent
+    g.W.Wire.heard
     c.self.inside.world c.self.inside.clients.places c.self.inside.wire c.receive.new.self
-    c.self.inside.clients.told c.self.inside.clients.told c.self.invariant c.in-Later.ensures.quiet c.in-Later.ensures.came refl
+    c.self.inside.clients.told c.self.inside.clients.told c.self.invariant c.in-Later.ensures.quiet
+    c.in-Later.ensures.came refl
 
-pub invariant_of-gateway-2 : goal.invariant_of-gateway-2
-invariant_of-gateway-2 g c =
-    serving-hears g.R.Relation.holds g.R.Relation.takes g.S.Stream.written g.S.Stream.gave g.W.Wire.sent g.W.Wire.heard
-    _ c.in_ok-world.field-0.opened (emissions c.advance.new.outputs.items)
-    c.self.inside.world c.in_ok-world.field-0.world c.self.inside.clients.places c.deliver.new.clients.places
-    c.self.inside.wire c.receive.new.self c.deliver.new.wire _ c.self.inside.clients.told c.deliver.new.clients.told
-    c.self.invariant c.in_ok-world.ensures.takes c.in_ok-world.ensures.opened refl c.in_ok-deliver.ensures.given
-    c.in-From.ensures.quiet c.in_ok-deliver.ensures.wire c.in-From.ensures.came c.in_ok-deliver.ensures.quiet
-    c.in_ok-deliver.ensures.told
+pub of-gateway-requires-in-Taken : goal.of-gateway-requires-in-Taken
+of-gateway-requires-in-Taken g c =
+    serving-hears g.R.Relation.holds g.R.Relation.takes g.S.Stream.written g.S.Stream.gave g.W.Wire.sent
+    g.W.Wire.heard
+    _ c.in-Taken.field-0 (emissions c.advance.new.outputs.items)
+    c.self.inside.world c.in_ok-world.field-0.world c.self.inside.clients.places
+    c.deliver.new.clients.places
+    c.self.inside.wire c.receive.new.self c.deliver.new.wire _ c.self.inside.clients.told
+    c.deliver.new.clients.told
+    c.self.invariant (taken _ _ c.in-Taken.is c.in_ok-world.ensures.takes)
+    (counted _ _ _ _ _ c.in-Taken.is c.in_ok-world.ensures.opened) refl c.deliver.ensures.given
+    c.in-From.ensures.quiet c.deliver.ensures.wire c.in-From.ensures.came c.deliver.ensures.quiet
+    c.deliver.ensures.told
+
+pub of-gateway-requires-in-Refused : goal.of-gateway-requires-in-Refused
+of-gateway-requires-in-Refused g c =
+    serving-stays g.R.Relation.holds g.R.Relation.takes g.S.Stream.written g.S.Stream.gave g.W.Wire.sent
+    g.W.Wire.heard
+    c.self.inside.world c.in_ok-world.field-0.world c.self.inside.clients.places c.self.inside.wire
+    c.receive.new.self _ c.self.inside.clients.told c.self.inside.clients.told
+    c.self.invariant (refused _ c.in-Refused.is c.in_ok-world.ensures.stays).0 c.in-From.ensures.quiet
+    c.in-From.ensures.came refl
+
+pub advance-requires-clause-suits : goal.advance-requires-clause-suits
+advance-requires-clause-suits g c = let s = rw (← c.self.view_is) at c.requires.suits in s
+
+pub returns-in-Taken-clause-rules : goal.returns-in-Taken-clause-rules
+returns-in-Taken-clause-rules g c =
+    rw (← c.self.view_is)
+    (ap (λ v. v.world.rules) c.of-gateway-in-Taken.ensures ∙ takes-rules g.R.Relation.holds g.R.Relation.takes _
+    c.self.inside.world c.in_ok-world.field-0.world (emissions c.advance.new.outputs.items)
+    (taken _ _ c.in-Taken.is c.in_ok-world.ensures.takes))
+
+pub returns-in-Refused-clause-rules : goal.returns-in-Refused-clause-rules
+returns-in-Refused-clause-rules g c = rw (← c.self.view_is)
+    (ap (λ v. v.world.rules) c.of-gateway-in-Refused.ensures ∙ ap (λ w. w.rules) ((refused _ c.in-Refused.is c.in_ok-world.ensures.stays).0))

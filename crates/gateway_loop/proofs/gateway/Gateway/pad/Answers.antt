@@ -1,25 +1,90 @@
 -- A connection opens for nobody, or none opens.
-use Rattle.std.proofs.Common.{refl, rules}
+use Rattle.std.proofs.Common.{[], ◌∙◌, None, ap, refl, sym, subst}
 use Rattle.gateway_model.specs.declared.input.Happening.TheVariants as H
 use Rattle.gateway_model.specs.Emissions.{emissions}
+use Rattle.gateway_world.proofs.Running.{takes-rules}
+use Rattle.gateway_loop.specs.Delivery.{AreGiven}
+use Rattle.gateway_loop.specs.Places.{ClientsValue}
+use Rattle.gateway_loop.specs.Serving.{IsServing}
+use Rattle.gateway_loop.proofs.Growing.{grown-none}
+use Rattle.gateway_loop.proofs.Stepping.{counted, pop-last, refused, taken}
 use Rattle.gateway_loop.proofs.Rotating.{serving-pads}
-use Rattle.gateway_loop.proofs.Taking.{serving-turned}
-use Rattle.gateway_loop.proofs.Tellings.{tells-as}
+use Rattle.gateway_loop.proofs.Taking.{serving-stays, serving-turned}
+use Rattle.gateway_loop.proofs.Tellings.{tells-from}
 use Rattle.gateway_loop.proofs.gateway.Gateway.pad.Goals as goal
 
-pub invariant_of-gateway : goal.invariant_of-gateway
-invariant_of-gateway g c =
-    serving-turned g.R.Relation.holds g.R.Relation.takes g.S.Stream.written g.S.Stream.gave g.W.Wire.sent g.W.Wire.heard
-    (record { moment = c.args.when.moment; word = c.args.when.word; happening = H.Open }) c.in_ok-world.field-0.opened (emissions c.advance.new.outputs.items)
-    c.self.inside.world c.in_ok-world.field-0.world c.self.inside.clients.places c.deliver.new.clients.places c.self.inside.wire c.deliver.new.wire c.self.inside.clients.told c.deliver.new.clients.told
-    c.self.invariant c.in_ok-world.ensures.takes c.in_ok-world.ensures.opened refl (search rules)
-    c.in_ok-deliver.ensures.given c.in_ok-deliver.ensures.wire c.in_ok-deliver.ensures.quiet c.in_ok-deliver.ensures.told
+pub advance-requires-clause-suits : goal.advance-requires-clause-suits
+advance-requires-clause-suits g c = let s = rw (← c.self.view_is) at c.requires.suits in s
 
-pub invariant_of-gateway-in-Some : goal.invariant_of-gateway-in-Some
-invariant_of-gateway-in-Some g c =
-    serving-pads g.R.Relation.holds g.R.Relation.takes g.S.Stream.written g.S.Stream.gave g.W.Wire.sent g.W.Wire.heard
-    (record { moment = c.args.when.moment; word = c.args.when.word; happening = H.Open }) c.in_ok-world.field-0.opened c.in-Some.number (emissions c.advance.new.outputs.items)
-    c.self.inside.world c.in_ok-world.field-0.world c.self.inside.clients.places c.deliver.new.clients.places c.push_nobody.new.self.places
-    c.self.inside.wire c.deliver.new.wire c.self.inside.clients.told c.push_nobody.new.self.told
-    c.self.invariant c.in_ok-world.ensures.takes c.in_ok-world.ensures.opened refl (search rules)
-    c.in_ok-deliver.ensures.given (search rules) c.in_ok-deliver.ensures.wire c.in_ok-deliver.ensures.quiet (tells-as (emissions c.advance.new.outputs.items) c.self.inside.clients.told c.deliver.new.clients.told c.push_nobody.new.self.told (search rules) c.in_ok-deliver.ensures.told)
+pub of-gateway-requires : goal.of-gateway-requires
+of-gateway-requires g c =
+    subst (λ (v : ClientsValue _). IsServing g.R.Relation.holds g.R.Relation.takes g.S.Stream.written g.S.Stream.gave g.W.Wire.sent g.W.Wire.heard c.self.inside.world v.places c.self.inside.wire v.told) (sym c.in-Err.ensures.unchanged) c.self.invariant
+
+pub of-gateway-requires-in-Taken-Some : goal.of-gateway-requires-in-Taken-Some
+of-gateway-requires-in-Taken-Some g c =
+    serving-pads g.R.Relation.holds g.R.Relation.takes g.S.Stream.written g.S.Stream.gave g.W.Wire.sent
+    g.W.Wire.heard
+    (record { moment = c.args.when.moment; word = c.args.when.word; happening = H.Open })
+    c.in-Taken-Some.field-0 c.in-Taken-Some.number (emissions c.advance.new.outputs.items)
+    c.self.inside.world c.in_ok-world.field-0.world c.self.inside.clients.places
+    c.push_nobody.new.self.places c.deliver.new.clients.places c.self.inside.wire c.deliver.new.wire
+    c.self.inside.clients.told c.deliver.new.clients.told
+    c.self.invariant (taken _ _ c.in-Taken-Some.is c.in_ok-world.ensures.takes)
+    (counted _ _ _ _ _ c.in-Taken-Some.is c.in_ok-world.ensures.opened) refl
+    (rw (c.in-Taken-Some.is) at c.in-Taken-Some.field-0-is)
+    (ap (λ (v : ClientsValue _). v.places) c.in-Ok.ensures.ok) c.deliver.ensures.given
+    c.deliver.ensures.wire c.deliver.ensures.quiet
+    (tells-from (emissions c.advance.new.outputs.items) c.self.inside.clients.told c.push_nobody.new.self.told c.deliver.new.clients.told
+    (ap (λ (v : ClientsValue _). v.told) c.in-Ok.ensures.ok) c.deliver.ensures.told)
+
+pub of-gateway-requires-in-Taken-None : goal.of-gateway-requires-in-Taken-None
+of-gateway-requires-in-Taken-None g c =
+    let same = ap (λ (v : ClientsValue _). v.places) c.pop.ensures ∙ pop-last c.self.inside.clients.places c.push_nobody.new.self.places (None) (ap (λ (v : ClientsValue _). v.places) c.in-Ok.ensures.ok) in
+    serving-turned g.R.Relation.holds g.R.Relation.takes g.S.Stream.written g.S.Stream.gave
+    g.W.Wire.sent g.W.Wire.heard
+    (record { moment = c.args.when.moment; word = c.args.when.word; happening = H.Open })
+    c.in-Taken-None.field-0 (emissions c.advance.new.outputs.items)
+    c.self.inside.world c.in_ok-world.field-0.world c.self.inside.clients.places
+    c.deliver-in-Taken-None.new.clients.places c.self.inside.wire c.deliver-in-Taken-None.new.wire
+    c.self.inside.clients.told c.deliver-in-Taken-None.new.clients.told
+    c.self.invariant (taken _ _ c.in-Taken-None.is c.in_ok-world.ensures.takes)
+    (counted _ _ _ _ _ c.in-Taken-None.is c.in_ok-world.ensures.opened) refl
+    (rw (c.in-Taken-None.is) at c.in-Taken-None.field-0-is)
+    (subst (λ ps. AreGiven (emissions c.advance.new.outputs.items) ps c.deliver-in-Taken-None.new.clients.places) same c.deliver-in-Taken-None.ensures.given)
+    c.deliver-in-Taken-None.ensures.wire c.deliver-in-Taken-None.ensures.quiet
+    (tells-from (emissions c.advance.new.outputs.items) c.self.inside.clients.told c.pop.new.self.told c.deliver-in-Taken-None.new.clients.told
+    (ap (λ (v : ClientsValue _). v.told) c.pop.ensures ∙ ap (λ (v : ClientsValue _). v.told) c.in-Ok.ensures.ok) c.deliver-in-Taken-None.ensures.told)
+
+pub of-gateway-requires-in-Refused : goal.of-gateway-requires-in-Refused
+of-gateway-requires-in-Refused g c =
+    let same = ap (λ (v : ClientsValue _). v.places) c.pop-in-Refused.ensures ∙ pop-last c.self.inside.clients.places c.push_nobody.new.self.places (None) (ap (λ (v : ClientsValue _). v.places) c.in-Ok.ensures.ok) in
+    subst (λ ps. IsServing g.R.Relation.holds g.R.Relation.takes g.S.Stream.written g.S.Stream.gave g.W.Wire.sent g.W.Wire.heard c.in_ok-world.field-0.world ps c.self.inside.wire c.pop-in-Refused.new.self.told) (sym same)
+    (serving-stays g.R.Relation.holds g.R.Relation.takes g.S.Stream.written g.S.Stream.gave g.W.Wire.sent g.W.Wire.heard
+    c.self.inside.world c.in_ok-world.field-0.world c.self.inside.clients.places c.self.inside.wire
+    c.self.inside.wire [] c.self.inside.clients.told c.pop-in-Refused.new.self.told
+    c.self.invariant (refused _ c.in-Refused.is c.in_ok-world.ensures.stays).0 (grown-none _)
+    (grown-none _)
+    (ap (λ (v : ClientsValue _). v.told) c.pop-in-Refused.ensures ∙ ap (λ (v : ClientsValue _). v.told) c.in-Ok.ensures.ok))
+
+pub returns-in-Taken-Some : goal.returns-in-Taken-Some
+returns-in-Taken-Some g c = record {
+  rules = rw (← c.self.view_is) (ap (λ v. v.world.rules) c.of-gateway-in-Taken-Some.ensures
+      ∙ takes-rules g.R.Relation.holds g.R.Relation.takes
+      (record { moment = c.args.when.moment; word = c.args.when.word; happening = H.Open })
+      c.self.inside.world c.in_ok-world.field-0.world (emissions c.advance.new.outputs.items)
+      (taken _ _ c.in-Taken-Some.is c.in_ok-world.ensures.takes));
+}
+
+pub returns-in-Taken-None : goal.returns-in-Taken-None
+returns-in-Taken-None g c = record {
+  rules = rw (← c.self.view_is) (ap (λ v. v.world.rules) c.of-gateway-in-Taken-None.ensures
+      ∙ takes-rules g.R.Relation.holds g.R.Relation.takes
+      (record { moment = c.args.when.moment; word = c.args.when.word; happening = H.Open })
+      c.self.inside.world c.in_ok-world.field-0.world (emissions c.advance.new.outputs.items)
+      (taken _ _ c.in-Taken-None.is c.in_ok-world.ensures.takes));
+}
+
+pub returns-in-Refused : goal.returns-in-Refused
+returns-in-Refused g c = record {
+  rules = rw (← c.self.view_is) (ap (λ v. v.world.rules) c.of-gateway-in-Refused.ensures ∙ ap (λ w. w.rules) ((refused _ c.in-Refused.is c.in_ok-world.ensures.stays).0));
+}

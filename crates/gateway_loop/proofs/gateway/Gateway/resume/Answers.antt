@@ -1,59 +1,103 @@
 -- The stream goes on as the connection that opened; or it ends.
-use Rattle.std.proofs.Common.{List, [], ◌∷◌, ◌++◌, Option, Some, ap, refl, rules, ◌∙◌}
+use Rattle.std.proofs.Common.{[], ◌∙◌, Some, ap, refl, rules, sym, subst}
 use Rattle.gateway_model.specs.declared.input.Happening.TheVariants as H
 use Rattle.gateway_model.specs.Emissions.{emissions}
 use Rattle.gateway_world.proofs.Running.{takes-rules}
-use Rattle.gateway_loop.specs.Clients.{ClientValue}
+use Rattle.gateway_loop.specs.Delivery.{AreGiven}
 use Rattle.gateway_loop.specs.Places.{ClientsValue}
+use Rattle.gateway_loop.specs.Serving.{IsServing}
+use Rattle.gateway_loop.proofs.Growing.{grown-none}
+use Rattle.gateway_loop.proofs.Stepping.{counted, pop-last, refused, taken}
 use Rattle.gateway_loop.proofs.Served.{serving-emptied}
-use Rattle.gateway_loop.proofs.Taking.{serving-resumes, serving-turned}
+use Rattle.gateway_loop.proofs.Taking.{serving-resumes, serving-stays, serving-turned}
 use Rattle.gateway_loop.proofs.Tellings.{tells-as, tells-from}
 use Rattle.gateway_loop.proofs.gateway.Gateway.resume.Goals as goal
-
-pub invariant_of-result : goal.invariant_of-result
-invariant_of-result g c =
-    serving-emptied g.R.Relation.holds g.R.Relation.takes g.S.Stream.written g.S.Stream.gave g.W.Wire.sent g.W.Wire.heard
-    c.self.inside.world c.args.number c.self.inside.clients.places c.take.new.self.places c.self.inside.wire
-    c.self.inside.clients.told c.take.new.self.told c.self.invariant c.take.ensures.told c.take.ensures.ends
-
-pub invariant_of-result-then-not-resume : goal.invariant_of-result-then-not-resume
-invariant_of-result-then-not-resume g c =
-    serving-emptied g.R.Relation.holds g.R.Relation.takes g.S.Stream.written g.S.Stream.gave g.W.Wire.sent g.W.Wire.heard
-    c.self.inside.world c.args.number c.self.inside.clients.places c.take.new.self.places c.self.inside.wire
-    c.self.inside.clients.told c.take.new.self.told c.self.invariant c.take.ensures.told c.take.ensures.ends
 
 pub advance-requires-clause-suits : goal.advance-requires-clause-suits
 advance-requires-clause-suits g c = let s = rw (← c.self.view_is) at c.requires.suits in s
 
-pub invariant_of-result-in_default-opened : goal.invariant_of-result-in_default-opened
-invariant_of-result-in_default-opened g c =
-    serving-turned g.R.Relation.holds g.R.Relation.takes g.S.Stream.written g.S.Stream.gave g.W.Wire.sent g.W.Wire.heard
-    (record { moment = c.args.when.moment; word = c.args.when.word; happening = H.Open }) c.in_ok-world.field-0.opened (emissions c.advance.new.outputs.items)
-    c.self.inside.world c.in_ok-world.field-0.world c.take.new.self.places c.deliver.new.clients.places c.self.inside.wire c.deliver.new.wire c.take.new.self.told c.deliver.new.clients.told
+pub of-requires : goal.of-requires
+of-requires g c =
     (serving-emptied g.R.Relation.holds g.R.Relation.takes g.S.Stream.written g.S.Stream.gave g.W.Wire.sent g.W.Wire.heard
-    c.self.inside.world c.args.number c.self.inside.clients.places c.take.new.self.places c.self.inside.wire
-    c.self.inside.clients.told c.take.new.self.told c.self.invariant c.take.ensures.told c.take.ensures.ends)
-    c.in_ok-world.ensures.takes c.in_ok-world.ensures.opened refl (search rules)
-    c.in_ok-deliver.ensures.given c.in_ok-deliver.ensures.wire c.in_ok-deliver.ensures.quiet c.in_ok-deliver.ensures.told
+    c.self.inside.world c.args.number c.self.inside.clients.places c.carry.new.self.places
+    c.self.inside.wire
+    c.self.inside.clients.told c.carry.new.self.told c.self.invariant c.carry.ensures.told
+    (c.carry.ensures.ended (search rules)))
 
-pub invariant_of-result-2 : goal.invariant_of-result-2
-invariant_of-result-2 g c =
-    let out = emissions c.advance.new.outputs.items in
-    serving-resumes g.R.Relation.holds g.R.Relation.takes g.S.Stream.written g.S.Stream.gave g.W.Wire.sent g.W.Wire.heard
-    (record { moment = c.args.when.moment; word = c.args.when.word; happening = H.Open }) c.in_ok-world.field-0.opened c.in-Some-opened.opened out
-    c.self.inside.world c.in_ok-world.field-0.world c.self.inside.clients.places c.take.new.self.places c.deliver.new.clients.places c.line_up.new.self.places
-    c.self.inside.wire c.deliver.new.wire c.args.number c.in-Some.client c.self.inside.clients.told c.line_up.new.self.told
-    c.self.invariant c.in_ok-world.ensures.takes c.in_ok-world.ensures.opened refl (search rules)
-    c.in-Some.ensures.was c.take.ensures.ends c.in_ok-deliver.ensures.given
-    (c.line_up.ensures.places ∙ (ap (λ (v : ClientsValue _). v.places) c.in_ok-push_back.ensures
-    ∙ ap (λ (x : ClientValue _). c.deliver.new.clients.places ++ Some x ∷ []) c.resume.ensures))
-    c.in_ok-deliver.ensures.wire c.in_ok-deliver.ensures.quiet
-    (tells-from out c.self.inside.clients.told c.take.new.self.told c.line_up.new.self.told c.take.ensures.told
-    (tells-as out c.take.new.self.told c.deliver.new.clients.told c.line_up.new.self.told
-    (c.line_up.ensures.told ∙ ap (λ (v : ClientsValue _). v.told) c.in_ok-push_back.ensures) c.in_ok-deliver.ensures.told))
+pub of-requires-in-Taken-Some : goal.of-requires-in-Taken-Some
+of-requires-in-Taken-Some g c =
+    let carried = (c.carry.ensures.carried (search rules)) in
+    subst (λ ps. IsServing g.R.Relation.holds g.R.Relation.takes g.S.Stream.written g.S.Stream.gave g.W.Wire.sent g.W.Wire.heard c.in_ok-world.field-0.world ps c.deliver.new.wire c.line_up.new.self.told) (sym c.line_up.ensures.places)
+    (serving-resumes g.R.Relation.holds g.R.Relation.takes g.S.Stream.written g.S.Stream.gave g.W.Wire.sent g.W.Wire.heard
+    (record { moment = c.args.when.moment; word = c.args.when.word; happening = H.Open })
+    c.in-Taken-Some.field-0 c.in-Taken-Some.opened (emissions c.advance.new.outputs.items)
+    c.self.inside.world c.in_ok-world.field-0.world c.self.inside.clients.places c.carry.new.self.places
+    c.deliver.new.clients.places
+    c.self.inside.wire c.deliver.new.wire c.args.number c.self.inside.clients.told
+    c.line_up.new.self.told
+    c.self.invariant (taken _ _ c.in-Taken-Some.is c.in_ok-world.ensures.takes)
+    (counted _ _ _ _ _ c.in-Taken-Some.is c.in_ok-world.ensures.opened) refl
+    (rw (c.in-Taken-Some.is) at c.in-Taken-Some.field-0-is)
+    carried c.deliver.ensures.given c.deliver.ensures.wire c.deliver.ensures.quiet
+    (tells-from (emissions c.advance.new.outputs.items) c.self.inside.clients.told c.carry.new.self.told c.line_up.new.self.told c.carry.ensures.told
+    (tells-as (emissions c.advance.new.outputs.items) c.carry.new.self.told c.deliver.new.clients.told c.line_up.new.self.told c.line_up.ensures.told c.deliver.ensures.told)))
 
-pub returns : goal.returns
-returns g c = record {
-  rules = rw (← c.self.view_is) (takes-rules g.R.Relation.holds g.R.Relation.takes (record { moment = c.args.when.moment; word = c.args.when.word; happening = H.Open })
-      c.self.inside.world c.in_ok-world.field-0.world (emissions c.advance.new.outputs.items) c.in_ok-world.ensures.takes);
+pub of-requires-in-Taken-None : goal.of-requires-in-Taken-None
+of-requires-in-Taken-None g c =
+    let carried = (c.carry.ensures.carried (search rules)) in
+    let same = ap (λ (v : ClientsValue _). v.places) c.pop.ensures ∙ pop-last carried.rest c.carry.new.self.places (Some carried.here) carried.next in
+    let kept = (serving-emptied g.R.Relation.holds g.R.Relation.takes g.S.Stream.written g.S.Stream.gave g.W.Wire.sent g.W.Wire.heard
+    c.self.inside.world c.args.number c.self.inside.clients.places carried.rest c.self.inside.wire
+    c.self.inside.clients.told c.carry.new.self.told c.self.invariant c.carry.ensures.told carried.emptied) in
+    serving-turned g.R.Relation.holds g.R.Relation.takes g.S.Stream.written g.S.Stream.gave
+    g.W.Wire.sent g.W.Wire.heard
+    (record { moment = c.args.when.moment; word = c.args.when.word; happening = H.Open })
+    c.in-Taken-None.field-0 (emissions c.advance.new.outputs.items)
+    c.self.inside.world c.in_ok-world.field-0.world carried.rest
+    c.deliver-in-Taken-None.new.clients.places c.self.inside.wire c.deliver-in-Taken-None.new.wire
+    c.carry.new.self.told c.deliver-in-Taken-None.new.clients.told
+    kept (taken _ _ c.in-Taken-None.is c.in_ok-world.ensures.takes)
+    (counted _ _ _ _ _ c.in-Taken-None.is c.in_ok-world.ensures.opened) refl
+    (rw (c.in-Taken-None.is) at c.in-Taken-None.field-0-is)
+    (subst (λ ps. AreGiven (emissions c.advance.new.outputs.items) ps c.deliver-in-Taken-None.new.clients.places) same c.deliver-in-Taken-None.ensures.given)
+    c.deliver-in-Taken-None.ensures.wire c.deliver-in-Taken-None.ensures.quiet
+    (tells-from (emissions c.advance.new.outputs.items) c.carry.new.self.told c.pop.new.self.told c.deliver-in-Taken-None.new.clients.told
+    (ap (λ (v : ClientsValue _). v.told) c.pop.ensures) c.deliver-in-Taken-None.ensures.told)
+
+pub of-requires-in-Refused : goal.of-requires-in-Refused
+of-requires-in-Refused g c =
+    let carried = (c.carry.ensures.carried (search rules)) in
+    let same = ap (λ (v : ClientsValue _). v.places) c.pop-in-Refused.ensures
+    ∙ pop-last carried.rest c.carry.new.self.places (Some carried.here) carried.next in
+    let kept = (serving-emptied g.R.Relation.holds g.R.Relation.takes g.S.Stream.written g.S.Stream.gave g.W.Wire.sent g.W.Wire.heard
+    c.self.inside.world c.args.number c.self.inside.clients.places carried.rest c.self.inside.wire
+    c.self.inside.clients.told c.carry.new.self.told c.self.invariant c.carry.ensures.told carried.emptied) in
+    subst (λ ps. IsServing g.R.Relation.holds g.R.Relation.takes g.S.Stream.written g.S.Stream.gave g.W.Wire.sent g.W.Wire.heard c.in_ok-world.field-0.world ps c.self.inside.wire c.pop-in-Refused.new.self.told) (sym same)
+    (serving-stays g.R.Relation.holds g.R.Relation.takes g.S.Stream.written g.S.Stream.gave g.W.Wire.sent g.W.Wire.heard
+    c.self.inside.world c.in_ok-world.field-0.world carried.rest c.self.inside.wire c.self.inside.wire
+    [] c.carry.new.self.told c.pop-in-Refused.new.self.told
+    kept (refused _ c.in-Refused.is c.in_ok-world.ensures.stays).0 (grown-none _) (grown-none _)
+    (ap (λ (v : ClientsValue _). v.told) c.pop-in-Refused.ensures))
+
+pub returns-in-Taken-Some : goal.returns-in-Taken-Some
+returns-in-Taken-Some g c = record {
+  rules = rw (← c.self.view_is) (ap (λ v. v.world.rules) c.of-in-Taken-Some.ensures
+      ∙ takes-rules g.R.Relation.holds g.R.Relation.takes
+      (record { moment = c.args.when.moment; word = c.args.when.word; happening = H.Open })
+      c.self.inside.world c.in_ok-world.field-0.world (emissions c.advance.new.outputs.items)
+      (taken _ _ c.in-Taken-Some.is c.in_ok-world.ensures.takes));
+}
+
+pub returns-in-Taken-None : goal.returns-in-Taken-None
+returns-in-Taken-None g c = record {
+  rules = rw (← c.self.view_is) (ap (λ v. v.world.rules) c.of-in-Taken-None.ensures
+      ∙ takes-rules g.R.Relation.holds g.R.Relation.takes
+      (record { moment = c.args.when.moment; word = c.args.when.word; happening = H.Open })
+      c.self.inside.world c.in_ok-world.field-0.world (emissions c.advance.new.outputs.items)
+      (taken _ _ c.in-Taken-None.is c.in_ok-world.ensures.takes));
+}
+
+pub returns-in-Refused : goal.returns-in-Refused
+returns-in-Refused g c = record {
+  rules = rw (← c.self.view_is) (ap (λ v. v.world.rules) c.of-in-Refused.ensures ∙ ap (λ w. w.rules) ((refused _ c.in-Refused.is c.in_ok-world.ensures.stays).0));
 }

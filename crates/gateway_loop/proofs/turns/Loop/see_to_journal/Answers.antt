@@ -1,5 +1,5 @@
 -- The rules stay, step by step.
-use Rattle.std.proofs.Common.{◌≡◌, ap, ◌∙◌}
+use Rattle.std.proofs.Common.{ap, ◌∙◌}
 use Rattle.std.proofs.lemmas.Result.{IfOk-weaker}
 use Rattle.gateway_loop.specs.Gateways.{GatewayValue}
 use Rattle.gateway_loop.proofs.turns.Loop.see_to_journal.Goals as goal

@@ -18,7 +18,7 @@ serve-requires-clause-told g c = all-told c.args.number c.args.self.now.core c.r
 
 pub returns-then-close-clause-leads : goal.returns-then-close-clause-leads
 returns-then-close-clause-leads g c =
-    then-ok c.tell_given_up.result _ _ c.tell_given_up.ensures
+    then-ok c.tell_given_up.result _ _ c.tell_given_up.ensures.told
     (λ told. refused-lead _ _ c.args.number c.args.bytes.now c.args.self.now c.append.new.self c.close.new.self
     c.args.outputs.now.items c.tell_given_up.new.outputs.items c.in-Err.ensures.unchanged
     (all-told c.args.number c.args.self.now.core c.requires.drained.answers)
@@ -31,7 +31,7 @@ returns-else-close-clause-leads g c =
 
 pub returns-then-close-clause-drained : goal.returns-then-close-clause-drained
 returns-then-close-clause-drained g c =
-    then-ok c.tell_given_up.result _ _ c.tell_given_up.ensures
+    then-ok c.tell_given_up.result _ _ c.tell_given_up.ensures.told
     (λ told. still-drained c.args.self.now.core c.close.new.self.core
     (closed-waits _ c.args.number c.args.self.now.core c.close.new.self.core (c.close.ensures.closed c.if-close.true).closed)
     c.requires.drained)

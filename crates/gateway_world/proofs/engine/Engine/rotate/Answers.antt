@@ -8,7 +8,7 @@ use Rattle.gateway_world.proofs.engine.Engine.rotate.Goals as goal
 use Rattle.gateway_world.proofs.engine.Engine.rotate.Goals.{in-Ok, in-Err+in_default}
 
 pub returns-clause-rotates : goal.returns-clause-rotates
-returns-clause-rotates g c =
+returns-clause-rotates g c = λ taken.
     let added : c.push_reserved.new.self.items ≡ c.args.outputs.now.items ++ c.match-rotate.output ∷ [] =
     c.push_reserved.ensures.items ∙ ap (λ (xs : List (Output g.row.R.Denot)). xs ++ c.match-rotate.output ∷ []) c.in_ok-try_reserve.ensures.items in
     elim c.match-rotate.branch [

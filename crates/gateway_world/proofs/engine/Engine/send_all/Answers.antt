@@ -1,5 +1,5 @@
 -- Each datagram goes out after those before it.
-use Rattle.std.proofs.Common.{Option, None, refl, ap, subst, ◌∙◌}
+use Rattle.std.proofs.Common.{Option, None, refl, ap, subst, ◌∙◌, arith}
 use Rattle.std.specs.Prelude.{option_map}
 use Rattle.exchange_core.specs.declared.outgoing.Datagram.{Datagram}
 use Rattle.exchange_core.specs.Taking.{IsSent}
@@ -14,7 +14,7 @@ use Rattle.gateway_world.proofs.Acting.{sends-lead, leads-core, shorter}
 use Rattle.gateway_world.proofs.engine.Engine.send_all.Goals as goal
 
 pub each-init : goal.each-init
-each-init g c = record { leads = leads-none _ _ AreSends _ _ tt; state = refl; untaken = refl; table = refl }
+each-init g c = record { leads = leads-none _ _ AreSends _ _ tt; state = refl; untaken = refl; table = refl; places = omega arith }
 
 pub each-smaller : goal.each-smaller
 each-smaller g c = shorter (outgoing_of c.in-Some.datagram) _ _ c.in-Some.ensures.0
@@ -27,6 +27,7 @@ each-preserved g c = record {
   state = ap (λ (v : CoreValue). v.state) c.in-Some.ensures.1 ∙ c.each.invariant.state;
   untaken = ap (λ (v : CoreValue). v.untaken) c.in-Some.ensures.1 ∙ c.each.invariant.untaken;
   table = c.each.invariant.table;
+  places = (let a = c.each.invariant.places in let b = c.in_ok-push.ensures.capacity in omega (arith, a, b));
 }
 
 pub returns : goal.returns
@@ -43,4 +44,6 @@ returns g c =
         unsent = ap (λ (v : CoreValue). v.unsent) none.1 ∙ none.0;
       };
       table = c.each.invariant.table;
+      places = c.each.invariant.places;
+      full = tt;
     }

@@ -1,5 +1,6 @@
 -- So far datagrams went out, and nothing else changed.
-use Rattle.std.proofs.Common.{◌≡◌, length}
+use Rattle.std.proofs.Common.{◌≡◌, ◌≤◌, length}
+use Rattle.std.specs.Prelude.{vec_capacity}
 use Rattle.gateway_world.specs.Engines.{terms_in}
 use Rattle.gateway_world.specs.Leading.{LeadsBy}
 use Rattle.gateway_model.specs.Orders.{AreSends}
@@ -12,6 +13,7 @@ invariant-each g l = record {
   state : l.self.core.state ≡ l.initial.self.core.state;
   untaken : l.self.core.untaken ≡ l.initial.self.core.untaken;
   table : l.self.table ≡ l.initial.self.table;
+  places : vec_capacity l.initial.outputs ≤ vec_capacity l.outputs;
 }
 
 abbrev pub decreases-each : goal.decreases-each

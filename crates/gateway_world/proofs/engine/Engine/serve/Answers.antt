@@ -1,5 +1,5 @@
 -- What is next is asked after what was asked before.
-use Rattle.std.proofs.Common.{Bool, subst}
+use Rattle.std.proofs.Common.{Bool, subst, arith}
 use Rattle.gateway_world.specs.Engines.{terms_in, ServesNext}
 use Rattle.gateway_world.specs.Leading.{LeadsBy}
 use Rattle.gateway_model.specs.Orders.{AreFor}
@@ -19,6 +19,7 @@ each-preserved g c = record {
       c.each.self c.each.outputs.items c.serve_next.new.self c.serve_next.new.outputs.items) c.if-branch.true c.in_ok-serve_next.ensures.leads);
   back = back-then _ _ _ c.each.invariant.back c.in_ok-serve_next.ensures.back;
   waits = waits-then _ _ _ c.each.invariant.waits c.in_ok-serve_next.ensures.waits;
+  places = (let a = c.each.invariant.places in let b = c.in_ok-serve_next.ensures.places in omega (arith, a, b));
 }
 
 pub returns-clause-leads : goal.returns-clause-leads

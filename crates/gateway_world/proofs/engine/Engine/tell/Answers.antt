@@ -15,7 +15,7 @@ returns-then-closes-clause-leads g c = λ v taken.
     then-ok c.shut.result _ _ c.shut.ensures.shut
     (λ shut. tells-lead _ c.args.context.when (given_of c.args.answer) c.in-Ok.bytes.items v c.args.self.now c.shut.new.self
     c.args.outputs.now.items c.tell_bytes.new.outputs.items c.shut.new.outputs.items (Closed c.args.answer.conn ∷ []) taken
-    c.requires.sent c.in-Ok.ensures c.in_ok-tell_bytes-in-Ok.ensures
+    c.requires.sent c.in-Ok.ensures c.in_ok-tell_bytes-in-Ok.ensures.told
     (ends-after c.args.context.when c.args.answer.conn _ c.args.self.now c.shut.new.self c.tell_bytes.new.outputs.items c.shut.new.outputs.items
     (ap came_closes (sym (c.came.ensures.came ∙ ap (λ (m : Mapping). m.came) c.deref.ensures)) ∙ (sym c.closes.ensures ∙ c.if-closes.true)) shut)
     shut.told)
@@ -33,7 +33,7 @@ pub returns-in-Ok-clause-leads : goal.returns-in-Ok-clause-leads
 returns-in-Ok-clause-leads g c = λ v taken.
     tells-lead _ c.args.context.when (given_of c.args.answer) c.in-Ok.bytes.items v c.args.self.now c.args.self.now
     c.args.outputs.now.items c.tell_bytes.new.outputs.items c.tell_bytes.new.outputs.items [] taken c.requires.sent c.in-Ok.ensures
-    c.in_ok-tell_bytes-in-Ok.ensures
+    c.in_ok-tell_bytes-in-Ok.ensures.told
     (stays-after c.args.context.when c.args.answer.conn _ c.args.self.now (ap came_closes (sym (c.came.ensures.came ∙ ap (λ (m : Mapping). m.came) c.deref.ensures)) ∙ (sym c.closes.ensures ∙ c.if-closes.false)))
     (sym (append-nil (emissions c.tell_bytes.new.outputs.items)))
 

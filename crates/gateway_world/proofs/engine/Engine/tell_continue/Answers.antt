@@ -12,7 +12,7 @@ use Rattle.gateway_world.proofs.engine.Engine.tell_continue.Goals as goal
 pub returns-in-Ok-clause-leads : goal.returns-in-Ok-clause-leads
 returns-in-Ok-clause-leads g c = λ xs reads.
     let read = record c.args.self.now { table = record c.args.self.now.table { current = xs } } in
-    then-ok c.tell_bytes.result _ _ c.tell_bytes.ensures
+    then-ok c.tell_bytes.result _ _ c.tell_bytes.ensures.told
     (λ told.
     serves-lead _ _ c.args.number read c.args.self.now c.args.self.now c.args.outputs.now.items c.tell_bytes.new.outputs.items
     c.tell_bytes.new.outputs.items
@@ -24,7 +24,7 @@ returns-in-Ok-clause-leads g c = λ xs reads.
 
 pub returns-in-Ok-clause-waits : goal.returns-in-Ok-clause-waits
 returns-in-Ok-clause-waits g c =
-    then-ok c.tell_bytes.result _ _ c.tell_bytes.ensures (λ told. record { untaken = refl; unsent = λ e. e })
+    then-ok c.tell_bytes.result _ _ c.tell_bytes.ensures.told (λ told. record { untaken = refl; unsent = λ e. e })
 
 pub returns-in-Err-clause-leads : goal.returns-in-Err-clause-leads
 returns-in-Err-clause-leads g c = λ xs reads.
