@@ -91,7 +91,8 @@ fn seconds_of(word: &str) -> Option<u64> {
 }
 
 /// What the words after `serve` ask for: `[FILE] [--journals FOLDER] [--access] [--idle SECONDS]
-/// [--status ADDRESS:PORT [--status-bodies]] [--loop | --threads]`, in any order.
+/// [--status ADDRESS:PORT [--status-bodies]] [--loop | --threads]`, in any order. Where no form is
+/// named, it is the loop.
 pub fn serving_of(words: &[String]) -> Option<Serving<'_>> {
     let mut so_far = Words {
         settings: None,
@@ -116,6 +117,6 @@ pub fn serving_of(words: &[String]) -> Option<Serving<'_>> {
         idle: so_far.idle,
         status: so_far.status,
         bodies: so_far.bodies,
-        looped: so_far.form == Some(Form::Loop),
+        looped: so_far.form != Some(Form::Threads),
     })
 }

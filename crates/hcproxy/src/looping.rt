@@ -1,4 +1,4 @@
-//! `hcproxy serve --loop`: the gateway in one thread, by the settings of a file.
+//! `hcproxy serve`: the gateway as one loop, in one thread, by the settings of a file.
 
 use crate::files::serve_at;
 use crate::journals::Folder;

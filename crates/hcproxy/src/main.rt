@@ -55,8 +55,8 @@ A gateway from HTTP/1.1 to CoAP.
                           Prometheus, /health, /journal. Whoever reaches the address may look
   serve FILE --status ADDRESS:PORT --status-bodies
                           .. and its journal there with what datagrams carry, which is hidden without it
-  serve FILE --loop       .. by one loop for all connections, in place of a thread for each. It takes
-                          the same words; --threads says that it isn't to
+  serve FILE --threads    .. by a thread for each connection, in place of one loop for all. It takes
+                          the same words; --loop says that it isn't to
   replay                  runs the script on standard input through the gateway, and prints what goes out
   replay --journal        .. and then the entries of the journal
   replay --settings FILE  .. under the settings of FILE in place of those of a demonstration

@@ -1,4 +1,4 @@
-//! `hcproxy serve`: the gateway with a thread for each connection, by the settings of a file.
+//! `hcproxy serve --threads`: the gateway with a thread for each connection, by a file's settings.
 
 use crate::files::serve_at;
 use crate::journals::Folder;

@@ -139,23 +139,26 @@ static COMMANDS: [(&str, Option<Command<'static>>); 54] = [
     ("serve a.toml --journals", None),
     ("serve --journals", None),
     (
-        "serve --loop",
+        "serve --threads",
         Some(Command::Serve(Serving {
             settings: None,
-            looped: true,
+            looped: false,
             ..PLAIN
         })),
     ),
-    ("serve --idle 5 --loop a.toml --journals past", LOOPED),
-    ("serve --loop --idle 5 --journals past a.toml", LOOPED),
+    ("serve --idle 5 --threads a.toml --journals past", THREADED),
+    ("serve --threads --idle 5 --journals past a.toml", THREADED),
     (
-        "serve --loop --access --idle 5 a.toml --journals past",
-        LOOPED_WATCHED,
+        "serve --threads --access --idle 5 a.toml --journals past",
+        THREADED_WATCHED,
     ),
-    ("serve a.toml --loop --status 127.0.0.1:9090", LOOPED_SHOWN),
-    ("serve a.toml --loop --idle 0", None),
-    ("serve a.toml --threads", Some(Command::Serve(PLAIN))),
-    ("serve --threads a.toml", Some(Command::Serve(PLAIN))),
+    (
+        "serve a.toml --threads --status 127.0.0.1:9090",
+        THREADED_SHOWN,
+    ),
+    ("serve a.toml --threads --idle 0", None),
+    ("serve a.toml --loop", Some(Command::Serve(PLAIN))),
+    ("serve --loop a.toml", Some(Command::Serve(PLAIN))),
     ("serve --loop --loop", None),
     ("serve --loop --threads", None),
     ("serve --threads --threads", None),
@@ -196,7 +199,7 @@ const PLAIN: Serving<'static> = Serving {
     idle: None,
     status: None,
     bodies: false,
-    looped: false,
+    looped: true,
 };
 
 const KEPT: Option<Command<'static>> = Some(Command::Serve(Serving {
@@ -228,27 +231,27 @@ const BARED: Option<Command<'static>> = Some(Command::Serve(Serving {
     ..PLAIN
 }));
 
-const LOOPED: Option<Command<'static>> = Some(Command::Serve(Serving {
+const THREADED: Option<Command<'static>> = Some(Command::Serve(Serving {
     journals: Some("past"),
     idle: Some(5),
-    looped: true,
+    looped: false,
     ..PLAIN
 }));
 
-const LOOPED_WATCHED: Option<Command<'static>> = Some(Command::Serve(Serving {
+const THREADED_WATCHED: Option<Command<'static>> = Some(Command::Serve(Serving {
     journals: Some("past"),
     access: true,
     idle: Some(5),
-    looped: true,
+    looped: false,
     ..PLAIN
 }));
 
-const LOOPED_SHOWN: Option<Command<'static>> = Some(Command::Serve(Serving {
+const THREADED_SHOWN: Option<Command<'static>> = Some(Command::Serve(Serving {
     status: Some(Peer {
         address: IpAddr::V4(Ipv4Addr::LOCALHOST),
         port: 9090,
     }),
-    looped: true,
+    looped: false,
     ..PLAIN
 }));
 
