@@ -25,7 +25,7 @@ order-set (z ∷ zs) (suc i) n y order e same =
     let lt = above-first (number_in z) zs i n order.0 e in
     (All-set (λ (r : Row). number_in z < number_in r) zs i y (subst (λ (k : ℕ). number_in z < k) (sym same) lt) order.0, order-set zs i n y order.1 e same)
 
-all-remove : (P : Row → Type 0) (rows : List Row) (i : ℕ) → All P rows → All P (remove rows i)
+pub all-remove : (P : Row → Type 0) (rows : List Row) (i : ℕ) → All P rows → All P (remove rows i)
 all-remove P rows i all = All-append P (take i rows) (drop (suc i) rows) (All-take P i rows all) (All-drop P (suc i) rows all)
 
 pub order-remove : (rows : List Row) (i : ℕ) → i < length rows → AreInOrder rows → AreInOrder (remove rows i)

@@ -1,6 +1,8 @@
 -- The rows of a table: connections, and whether they opened or closed since the mark.
 use Rattle.std.specs.Prelude.{◌≡◌, ⊤, ℕ, ◌<◌, Bool, true, false, not, List, [], ◌∷◌}
-use Rattle.std.specs.Prelude.{map, filter, All, Some, option_map, slice_get}
+use Rattle.std.specs.Prelude.{map, filter, All, Some, option_map, slice_get, get_or, length}
+use Rattle.std.specs.Prelude.{◌≤◌, ◌+◌, ◌⊎◌, min, max}
+use Rattle.gateway_connections.specs.declared.changed.Changed.{Changed}
 use Rattle.gateway_connections.specs.declared.row.Row.{Row}
 use Rattle.gateway_connections.specs.Inlets.{Inlet, IsSound}
 
@@ -57,3 +59,13 @@ pub record IsWhole (r : Row) : Type 0 where
   pub marked : IsSound r.inbox.marked
   pub number : r.inbox.marked.number ≡ r.inbox.current.number
   pub stays : r.fresh ≡ true → r.closed ≡ false
+
+-- the places where that one is noted too
+abbrev pub noted : ℕ → Changed → Changed
+noted i c = record { first = min c.first i; end = max c.end (i + 1); closed = c.closed }
+
+-- Rows at other places than those are as they were marked, and none is closed unless it says so.
+pub record IsNoted (c : Changed) (rows : List Row) : Type 0 where
+  pub others : (i : ℕ) (d : Row) → i < length rows → (i < c.first) ⊎ (c.end ≤ i)
+      → settled (get_or rows i d) ≡ get_or rows i d
+  pub opened : c.closed ≡ false → All (λ (r : Row). r.closed ≡ false) rows

@@ -8,6 +8,7 @@
 //! It knows nothing of what a request means, nor who waits for an answer. Nobody stands on it yet.
 #![tactic(auto)]
 
+mod changed;
 mod inbox;
 mod reader;
 mod row;

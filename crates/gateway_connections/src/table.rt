@@ -1,10 +1,11 @@
 //! The open connections, by their numbers.
 
 ghost use Rattle.std.specs.Prelude.{◌≡◌, ◌≢◌, ◌<◌, ◌∷◌, ◌++◌, [], None, false, All, map, nat_lt};
-ghost use Rattle.std.specs.Prelude.{IfSome, OnOk, OnErr};
+ghost use Rattle.std.specs.Prelude.{IfSome, OnOk, OnErr, filter, not};
 ghost use Rattle.gateway_connections.specs.Rows.{AreInOrder, HasNumber, IsClosed, current_of};
-ghost use Rattle.gateway_connections.specs.Rows.{settled, put_back};
+ghost use Rattle.gateway_connections.specs.Rows.{IsNoted, settled, put_back};
 
+use crate::changed::Changed;
 use crate::inbox::{Inbox, Next, Spare};
 use crate::row::Row;
 use http_edge::Memory;
@@ -16,19 +17,25 @@ use std::marker::Model;
 pub struct Table {
     alloc: Global,
     rows: Vec<Row>,
+    changed: Changed,
 }
 
 /// As derived; but written here, how all that it has is dropped is proved in this crate alone.
 impl Drop for Table {
     fn drop(self) {
-        let Table { alloc: _, rows: _ } = self;
+        let Table {
+            alloc: _,
+            rows: _,
+            changed: _,
+        } = self;
     }
 }
 
 impl Model for Table {
     ghost use Rattle.std.specs.Prelude.{◌-◌, All, vec_capacity, vec_len};
     ghost use Rattle.gateway_connections.specs.Inlets.{TableValue};
-    ghost use Rattle.gateway_connections.specs.Rows.{AreInOrder, IsWhole, current_of, marked_of};
+    ghost use Rattle.gateway_connections.specs.Rows.{AreInOrder, IsNoted, IsWhole};
+    ghost use Rattle.gateway_connections.specs.Rows.{current_of, marked_of};
 
     ghost Value = { TableValue };
 
@@ -38,7 +45,9 @@ impl Model for Table {
       room = vec_capacity t.rows - vec_len t.rows;
     } };
 
-    ghost invariant = { λ t. AreInOrder t.rows.items × All IsWhole t.rows.items };
+    ghost invariant = { λ t. AreInOrder t.rows.items
+        × All IsWhole t.rows.items
+        × IsNoted t.changed t.rows.items };
 }
 
 impl Table {
@@ -54,6 +63,7 @@ impl Table {
         Table {
             alloc,
             rows: Vec::new(alloc),
+            changed: Changed::none(),
         }
     }
 
@@ -82,6 +92,7 @@ impl Table {
         ensures opened { self.new.current ≡ self.old.current ++ fresh number ∷ [] }
         ensures marked { self.new.marked ≡ self.old.marked }
     {
+        self.changed.note(self.rows.len());
         self.rows.push_reserved(Row {
             inbox: Inbox::of(spare, number),
             fresh: true,
@@ -99,6 +110,7 @@ impl Table {
                 let _row = self.rows.remove(place);
             } else {
                 self.rows[place].closed = true;
+                self.changed.closed = true;
             }
         }
     }
@@ -123,7 +135,10 @@ impl Table {
         ensures marked { self.new.marked ≡ self.old.marked }
     {
         match place_of(&self.rows, number) {
-            Some(place) => self.rows[place].inbox.append(bytes),
+            Some(place) => {
+                self.changed.note(place);
+                self.rows[place].inbox.append(bytes)
+            }
             None => Ok(()),
         }
     }
@@ -134,18 +149,23 @@ impl Table {
         ensures marked { self.new.marked ≡ self.old.marked }
     {
         match place_of(&self.rows, number) {
-            Some(place) => self.rows[place].inbox.next(),
+            Some(place) => {
+                self.changed.note(place);
+                self.rows[place].inbox.next()
+            }
             None => Ok(Next::Nothing),
         }
     }
 
-    /// Marks the connections as they are, and lets the bytes go that were asked.
+    /// Marks the connections as they are, and lets the bytes go that were asked. It goes through
+    /// those alone that may have changed, and through all only where one closed.
     pub fn mark(&mut self)
         ensures current { self.new.current ≡ self.old.current }
         ensures marked { self.new.marked ≡ self.old.current }
     {
-        self.rows.retain(|row| !row.closed);
-        mark_all(&mut self.rows);
+        mark_changed(&mut self.rows, self.changed);
+        drop_closed(&mut self.rows, self.changed.closed);
+        self.changed = Changed::none();
     }
 
     /// Goes back to the connections at the mark. It takes no memory.
@@ -155,6 +175,7 @@ impl Table {
     {
         self.rows.retain(|row| !row.fresh);
         back_all(&mut self.rows);
+        self.changed = Changed::none();
     }
 }
 
@@ -178,12 +199,24 @@ fn place_of(rows: &[Row], number: u32) -> Option<usize>
     }
 }
 
-/// Marks each.
-fn mark_all(rows: &mut Vec<Row>)
+/// Marks each, where all at other places are as they were marked.
+fn mark_changed(rows: &mut Vec<Row>, changed: Changed)
+    requires { IsNoted changed rows.old.items }
     ensures { rows.new.items ≡ map settled rows.old.items }
 {
-    'each: for place in 0..rows.len() {
+    let end = changed.end.min(rows.len());
+    'each: for place in changed.first..end {
         rows[place].mark();
+    }
+}
+
+/// Lets those go that closed, where any did.
+fn drop_closed(rows: &mut Vec<Row>, closed: bool)
+    requires { closed ≡ false → All (λ (r : Row). r.closed ≡ false) rows.old.items }
+    ensures { rows.new.items ≡ filter (λ (r : Row). not r.closed) rows.old.items }
+{
+    if closed {
+        rows.retain(|row| !row.closed);
     }
 }
 

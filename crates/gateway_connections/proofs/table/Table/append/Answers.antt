@@ -1,9 +1,11 @@
 -- The one row changes, or none has the number.
-use Rattle.std.proofs.Common.{◌≢◌, List, refl, subst}
+use Rattle.std.proofs.Common.{◌≢◌, List, refl, sym, subst}
 use Rattle.std.specs.List.{All}
+use Rattle.std.proofs.Math.ListN.{set}
 use Rattle.gateway_connections.specs.declared.row.Row.{Row}
 use Rattle.gateway_connections.specs.Inlets.{Inlet}
-use Rattle.gateway_connections.specs.Rows.{current_of}
+use Rattle.gateway_connections.specs.Rows.{IsNoted, current_of}
+use Rattle.gateway_connections.proofs.Noting.{noted-set}
 use Rattle.gateway_connections.proofs.Placing.{put-marked}
 use Rattle.gateway_connections.proofs.Reading.{at-place, append-number, put-more, put-same, put-kept, none-more}
 use Rattle.gateway_connections.proofs.table.Table.append.Goals as goal
@@ -13,8 +15,14 @@ invariant_of-self c =
     let rows = c.self.inside.rows.items in
     let x = c.index_mut.result.now in
     let a = at-place rows c.deref.result.now c.in-Some.place c.args.number c.deref.ensures.value c.self.invariant.0 c.in-Some.ensures.number c.in-Some.ensures.stays in
+    let kept =
     put-kept rows c.in-Some.place c.args.number x (record x { inbox = c.append.new.self }) a c.index_mut.ensures.value refl c.self.invariant.1 c.append.ensures.sound c.append.ensures.marked
-    (append-number c.append.result c.args.bytes.now x.inbox.current c.append.new.self.current c.append.ensures.more c.append.ensures.kept) refl
+    (append-number c.append.result c.args.bytes.now x.inbox.current c.append.new.self.current c.append.ensures.more c.append.ensures.kept) refl in (
+      kept.0,
+      kept.1,
+      subst (λ m. IsNoted m (set rows c.in-Some.place (record x { inbox = c.append.new.self }))) (sym c.note.ensures)
+          (noted-set c.self.inside.changed rows c.in-Some.place x (record x { inbox = c.append.new.self }) c.self.invariant.2 a.below c.index_mut.ensures.value refl),
+    )
 
 pub returns-in-Some-clause-more : goal.returns-in-Some-clause-more
 returns-in-Some-clause-more c =

@@ -4,11 +4,12 @@ use Rattle.std.specs.List.{All}
 use Rattle.std.proofs.lemmas.List.{get_or_default}
 use Rattle.gateway_connections.specs.declared.row.Row.{Row}
 use Rattle.gateway_connections.specs.Inlets.{Inlet}
-use Rattle.gateway_connections.specs.Rows.{AreInOrder, IsWhole, current_of, marked_of}
+use Rattle.gateway_connections.specs.Rows.{AreInOrder, IsNoted, IsWhole, current_of, marked_of}
 use Rattle.gateway_connections.proofs.Listing.{without-none}
 use Rattle.gateway_connections.proofs.Placing.{flag-at, put-marked, shut-current, out-current, out-marked}
 use Rattle.gateway_connections.proofs.Keeping.{order-set, order-remove, whole-set, whole-remove}
 use Rattle.gateway_connections.proofs.Reading.{at-place, number-here}
+use Rattle.gateway_connections.proofs.Noting.{noted-remove, noted-shut}
 use Rattle.gateway_connections.proofs.table.Table.remove.Goals as goal
 
 true-false : true ≡ false → ⊥
@@ -18,8 +19,11 @@ pub invariant_of-self : goal.invariant_of-self
 invariant_of-self c =
     let rows = c.self.inside.rows.items in
     let a = at-place rows c.deref.result.now c.in-Some.place c.args.number c.deref.ensures.value c.self.invariant.0 c.in-Some.ensures.number c.in-Some.ensures.stays in
-    subst (λ (rs : List Row). AreInOrder rs × All IsWhole rs) (sym c.remove-row.ensures.items)
-    (order-remove rows c.in-Some.place a.below a.order, whole-remove rows c.in-Some.place c.self.invariant.1)
+    subst (λ (rs : List Row). AreInOrder rs × All IsWhole rs × IsNoted c.self.inside.changed rs) (sym c.remove-row.ensures.items) (
+      order-remove rows c.in-Some.place a.below a.order,
+      whole-remove rows c.in-Some.place c.self.invariant.1,
+      noted-remove c.self.inside.changed rows c.in-Some.place c.index.result.now c.self.invariant.2 a.below c.index.ensures c.if-index.true,
+    )
 
 pub index_mut-requires : goal.index_mut-requires
 index_mut-requires c =
@@ -40,6 +44,7 @@ invariant_of-self-else-index c =
       order-set rows c.in-Some.place c.args.number y a.order a.number (number-here rows c.in-Some.place c.args.number x a.number c.index_mut.ensures.value),
       whole-set rows c.in-Some.place x y a.below c.index_mut.ensures.value c.self.invariant.1
           (λ w. record { current = w.current; marked = w.marked; number = w.number; stays = λ new. absurd (true-false (sym new ∙ old)) }),
+      noted-shut c.self.inside.changed rows c.in-Some.place x c.self.invariant.2 a.below c.index_mut.ensures.value,
     )
 
 pub returns-then-index-clause-current : goal.returns-then-index-clause-current

@@ -1,7 +1,7 @@
 -- So far it is done to those that were passed.
 use Rattle.std.proofs.Common.{◌≡◌, ◌++◌, map, take, drop, vec_len}
 use Rattle.gateway_connections.specs.Rows.{settled}
-use Rattle.gateway_connections.proofs.table.mark_all.Given as goal
+use Rattle.gateway_connections.proofs.table.mark_changed.Given as goal
 
 abbrev pub invariant-each : goal.invariant-each
 invariant-each l =
