@@ -1,5 +1,5 @@
 -- Those of one number together: where they stand, and that they stay together.
-use Rattle.std.proofs.Common.{◌≡◌, ◌≢◌, ℕ, zero, suc, ◌+◌, ◌<◌, ◌≤◌, Bool, true, false, not, cond, List, [], ◌∷◌, ◌++◌, length, take, drop, get_or, Option, Some, None, inl, inr, refl, sym, ap, subst, ◌∙◌, ltb-true, ltb-false, arith}
+use Rattle.std.proofs.Common.{◌≡◌, ◌≢◌, ℕ, zero, suc, ◌+◌, ◌-◌, ◌<◌, ◌≤◌, Bool, true, false, not, cond, List, [], ◌∷◌, ◌++◌, length, take, drop, get_or, Option, Some, None, inl, inr, refl, sym, ap, subst, ◌∙◌, ltb-true, ltb-false, arith}
 use Rattle.std.specs.Prelude.{filter, insert}
 use Rattle.std.specs.List.{AllByRecursion}
 use Rattle.std.specs.List.Sorted.{IsNonDecreasingBy}
@@ -72,6 +72,11 @@ greater zero (suc b) le d = omega arith
 greater (suc a) zero le d = absurd (omega (arith, le))
 greater (suc a) (suc b) le d = let rest = greater a b (omega (arith, le)) (λ e. d (ap suc e)) in omega (arith, rest)
 
+pub default : {X : Type 0} (xs : List X) (i : ℕ) (d e : X) → i < length xs → get_or xs i d ≡ get_or xs i e
+default [] i d e lt = absurd (omega (arith, lt))
+default (x ∷ xs) zero d e lt = refl
+default (x ∷ xs) (suc i) d e lt = default xs i d e (omega (arith, lt))
+
 -- where those of one number stand, by a search
 
 module _ {X : Type 0} (num : X → ℕ) where
@@ -80,6 +85,17 @@ module _ {X : Type 0} (num : X → ℕ) where
     within = within;
     before = all-front (λ (r : X). num r < o) rs i (λ k d less lt. ltb-true (num (get_or rs k d)) o (split.0 k d (omega arith) less));
     from = all-back (λ (r : X). o ≤ num r) rs i (λ k d le lt. ltb-false (num (get_or rs k d)) o (split.1 k d le lt));
+  }
+
+  -- where the last one has this number, or a lower one
+  pub after-last : (o : ℕ) (rs : List X) (x : X) → Ascend num rs → x ≡ get_or rs (length rs - 1) x → 0 < length rs → num x ≤ o → IsFirstFrom num (o + 1) rs (length rs)
+  after-last o rs x order last some le = record {
+    within = omega arith;
+    before = all-front (λ (r : X). num r < o + 1) rs (length rs) (λ k d less lt.
+        let up = ascends num rs order k (length rs - 1) d (omega (arith, lt)) (omega (arith, some)) in
+        let same : num (get_or rs (length rs - 1) d) ≡ num x = ap num (default rs (length rs - 1) d x (omega (arith, some)) ∙ sym last) in
+        omega (arith, up, same, le));
+    from = all-back (λ (r : X). o + 1 ≤ num r) rs (length rs) (λ k d past lt. absurd (omega (arith, past, lt)));
   }
 
   -- those of another number

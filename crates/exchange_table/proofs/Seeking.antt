@@ -8,7 +8,7 @@ use Rattle.std.proofs.lemmas.List.{length-drop}
 use Rattle.history_laws.proofs.CallerLemmas.{all-more}
 use Rattle.exchange_table.specs.Places.{RiseBy, IsNowhere, IsOnlyAt}
 use Rattle.exchange_table.specs.Groups.{Ascend, IsFirstFrom, is_before, is_beside, is_by}
-use Rattle.exchange_table.proofs.Grouping.{above-none, greater, reads-other, so-many}
+use Rattle.exchange_table.proofs.Grouping.{above-none, default, greater, reads-other, so-many}
 use Rattle.exchange_table.proofs.Searching.{none-some, or-first, or-second, same-as, some-is}
 use Rattle.exchange_table.proofs.Standing.{Tells, all-at, at-all, three}
 
@@ -35,11 +35,6 @@ rise-kept {X = X} n q x xs r = by (q x) r
 
 rise-above : {X : Type 0} (n : X → ℕ) (q : X → Bool) (x : X) (xs : List X) → q x ≡ true → RiseBy n (filter q (x ∷ xs)) → AllByRecursion (λ y. n x < n y) (filter q xs)
 rise-above {X = X} n q x xs is r = (subst (λ (b : Bool). RiseBy n (cond b (x ∷ filter q xs) (filter q xs))) is r).0
-
-default : {X : Type 0} (xs : List X) (i : ℕ) (d e : X) → i < length xs → get_or xs i d ≡ get_or xs i e
-default [] i d e lt = absurd (omega (arith, lt))
-default (x ∷ xs) zero d e lt = refl
-default (x ∷ xs) (suc i) d e lt = default xs i d e (omega (arith, lt))
 
 -- one that passes a test in a place, and no other
 only-of : {X : Type 0} (q : X → Bool) (xs : List X) (i : ℕ) → i < length xs → ((d : X) → q (get_or xs i d) ≡ true)

@@ -1,7 +1,7 @@
 //! Readers, those of each exchange together: so who waits for an exchange is found without going
 //! through all.
 
-ghost use Rattle.std.specs.Prelude.{◌≡◌, ◌≤◌, ◌<◌, ◌∷◌, ◌++◌, [], List, None, true, IfSome, filter, length, nat_lt, not, vec_capacity, vec_len};
+ghost use Rattle.std.specs.Prelude.{◌≡◌, ◌≤◌, ◌<◌, ◌+◌, ◌∷◌, ◌++◌, [], List, None, true, IfSome, filter, length, nat_lt, not, vec_capacity, vec_len};
 ghost use Rattle.std.specs.List.{AllByRecursion, position};
 ghost use Rattle.exchange_model.specs.declared.kept.Reader.{Reader as Row};
 ghost use Rattle.exchange_table.specs.Places.{RiseBy, IsOnlyAt, IsNowhere};
@@ -66,6 +66,20 @@ pub fn group_of(groups: &[Reader], opening: u32) -> &[Reader]
     run_of(&groups[first..], opening)
 }
 
+/// The place after those who read what the entry with this number opened, or an earlier one. Who
+/// reads the latest stands last.
+fn place_after(groups: &[Reader], opening: u32) -> usize
+    requires { Ascend opening_read groups.now }
+    ensures { IsFirstFrom opening_read (opening + 1) groups.now result }
+{
+    if let Some(last) = groups.last() {
+        if last.opening <= opening {
+            return groups.len();
+        }
+    }
+    first_from(groups, u64::from(opening) + 1)
+}
+
 /// Puts the reader after those who wait for the same exchange, for which there is a place.
 pub fn put_last(groups: &mut Vec<Reader>, reader: Reader)
     requires order { Ascend opening_read groups.old.items }
@@ -73,7 +87,7 @@ pub fn put_last(groups: &mut Vec<Reader>, reader: Reader)
     ensures { (rs : List Row) → AreGrouped opening_read rs groups.old.items
         → AreGrouped opening_read (rs ++ reader ∷ []) groups.new.items }
 {
-    let place = first_from(groups.as_slice(), u64::from(reader.opening) + 1);
+    let place = place_after(groups.as_slice(), reader.opening);
     if groups.insert(place, reader).is_err() {
         unreachable!()
     }
@@ -106,8 +120,28 @@ fn group_place(groups: &[Reader], opening: u32, ask: u32) -> Option<usize>
     if reader.ask == ask { Some(place) } else { None }
 }
 
-/// Takes out the reader of this ask, who waits for the exchange with this opening.
-pub fn take_out(groups: &mut Vec<Reader>, opening: u32, ask: u32)
+/// The same, looked for in this place first: where each exchange has one reader, groups stand as
+/// readers do.
+fn group_place_from(groups: &[Reader], opening: u32, ask: u32, first: usize) -> Option<usize>
+    requires order { Ascend opening_read groups.now }
+    requires asks { RiseBy ask_in (filter (reads opening) groups.now) }
+    requires there { AllByRecursion (λ (r : Row). has_ask ask r ≡ true → r.opening ≡ opening)
+        groups.now }
+    ensures below { IfSome result (λ i. i < length groups.now) }
+    ensures some { IfSome result (IsOnlyAt (has_ask ask) groups.now) }
+    ensures none { result ≡ None → IsNowhere (has_ask ask) groups.now }
+{
+    if let Some(reader) = groups.get(first) {
+        if reader.ask == ask {
+            return Some(first);
+        }
+    }
+    group_place(groups, opening, ask)
+}
+
+/// Takes out the reader of this ask, who waits for the exchange with this opening, looked for in
+/// this place first.
+pub fn take_out(groups: &mut Vec<Reader>, opening: u32, ask: u32, first: usize)
     requires order { Ascend opening_read groups.old.items }
     requires asks { RiseBy ask_in (filter (reads opening) groups.old.items) }
     requires there { AllByRecursion (λ (r : Row). has_ask ask r ≡ true → r.opening ≡ opening)
@@ -116,7 +150,7 @@ pub fn take_out(groups: &mut Vec<Reader>, opening: u32, ask: u32)
     ensures fewer { vec_len groups.new ≤ vec_len groups.old }
     ensures capacity { vec_capacity groups.new ≡ vec_capacity groups.old }
 {
-    if let Some(place) = group_place(groups.as_slice(), opening, ask) {
+    if let Some(place) = group_place_from(groups.as_slice(), opening, ask, first) {
         groups.remove(place);
     }
 }

@@ -1,6 +1,6 @@
 //! The index of the tokens of latest messages.
 
-ghost use Rattle.std.specs.Prelude.{◌≡◌, ◌<◌, None, IfSome, filter, length, nat_lt, not, vec_capacity, vec_len};
+ghost use Rattle.std.specs.Prelude.{◌≡◌, ◌<◌, None, IfSome, length, nat_lt, vec_capacity, vec_len};
 ghost use Rattle.history_laws.specs.Numbering.{token_number};
 ghost use Rattle.exchange_table.specs.Places.{RiseBy, IsOnlyAt, IsNowhere};
 ghost use Rattle.exchange_table.specs.Tables.{has_number, named_anew, number_in, opening_under};
@@ -27,7 +27,7 @@ pub fn number_of(token: &Token) -> u32
 }
 
 /// The place of the name with this number.
-fn name_place(names: &[Named], number: u32) -> Option<usize>
+pub fn name_place(names: &[Named], number: u32) -> Option<usize>
     requires { RiseBy number_in names.now }
     ensures below { IfSome result (λ i. i < length names.now) }
     ensures some { IfSome result (IsOnlyAt (has_number number) names.now) }
@@ -43,25 +43,6 @@ fn name_place(names: &[Named], number: u32) -> Option<usize>
         Some(place)
     } else {
         None
-    }
-}
-
-/// The number of the entry that opened the exchange whose token has this number.
-pub fn named_opening(names: &[Named], number: u32) -> Option<u32>
-    requires { RiseBy number_in names.now }
-    ensures { result ≡ opening_under number names.now }
-{
-    let place = name_place(names, number)?;
-    Some(names[place].opening)
-}
-
-/// Takes out the name with this number.
-pub fn drop_name(names: &mut Vec<Named>, number: u32)
-    requires { RiseBy number_in names.old.items }
-    ensures { names.new.items ≡ filter (λ x. not (has_number number x)) names.old.items }
-{
-    if let Some(place) = name_place(names.as_slice(), number) {
-        names.remove(place);
     }
 }
 

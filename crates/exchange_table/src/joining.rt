@@ -1,10 +1,11 @@
 //! Exchanges that an ask joins, found by the digest of what it reads.
 
-ghost use Rattle.std.specs.Prelude.{◌≡◌, find};
+ghost use Rattle.std.specs.Prelude.{◌≡◌, IsSome, find, is_some, option_and_then};
 ghost use Rattle.std.specs.List.{AllByRecursion};
 ghost use Rattle.std.specs.Option.{option_copied};
 ghost use Rattle.cache_key.specs.Digests.{digests_of};
 ghost use Rattle.exchange_model.specs.Matters.{IsDigested};
+ghost use Rattle.exchange_table.specs.declared.marks.Mark.{Mark as Row};
 ghost use Rattle.exchange_table.specs.Joining.{is_joined_at, is_joined_by, is_joined_marked};
 ghost use Rattle.exchange_table.specs.Marks.{AreMarked, key_in};
 ghost use Rattle.exchange_table.specs.Places.{RiseBy};
@@ -41,38 +42,45 @@ pub fn row_at(rows: &[Exchange], opening: u32) -> Option<&Exchange>
     Some(&rows[place])
 }
 
-/// Whether the request joins the row that the entry with this number opened.
-fn is_joined_at<R: Relation>(
-    rows: &[Exchange],
+/// The row that the entry with this number opened, where the request joins it.
+fn joined_at<'a, R: Relation>(
+    rows: &'a [Exchange],
     opening: u32,
     journal: &Journal<R>,
     mapped: &Mapped<R>,
-) -> bool
+) -> Option<&'a Exchange>
     requires { RiseBy opening_of rows.now }
-    ensures { result
+    ensures row { IsSome result
+        → option_copied result ≡ find (is_opened_at opening) rows.now }
+    ensures joined { is_some result
         ≡ is_joined_at journal.now.entries mapped.now.sense rows.now opening }
 {
-    match row_at(rows, opening) {
-        Some(row) => is_joined(row, journal, mapped),
-        None => false,
+    let row = row_at(rows, opening)?;
+    if is_joined(row, journal, mapped) {
+        Some(row)
+    } else {
+        None
     }
 }
 
-/// The first of these marks whose row the request joins.
-fn find_marked<R: Relation>(
+/// The row of the first of these marks whose row the request joins.
+fn find_marked<'a, R: Relation>(
     marks: &[Mark],
-    rows: &[Exchange],
+    rows: &'a [Exchange],
     journal: &Journal<R>,
     mapped: &Mapped<R>,
-) -> Option<Mark>
+) -> Option<&'a Exchange>
     requires { RiseBy opening_of rows.now }
-    ensures { result
-        ≡ find (is_joined_marked journal.now.entries mapped.now.sense rows.now) marks.now }
+    ensures { option_copied result ≡ option_and_then
+        (λ (m : Row). find (is_opened_at m.opening) rows.now)
+        (find (is_joined_marked journal.now.entries mapped.now.sense rows.now) marks.now) }
 {
-    marks
-        .iter()
-        .find(|mark| is_joined_at(rows, mark.opening, journal, mapped))
-        .copied()
+    'each: for mark in marks {
+        if let Some(row) = joined_at(rows, mark.opening, journal, mapped) {
+            return Some(row);
+        }
+    }
+    None
 }
 
 /// The digest of the key that is looked for.
@@ -99,8 +107,5 @@ pub fn joined<'a, R: Relation>(
         return None;
     };
     let alike = marked(keys, digest_of(&sought));
-    match find_marked(alike, rows, journal, mapped) {
-        Some(mark) => row_at(rows, mark.opening),
-        None => None,
-    }
+    find_marked(alike, rows, journal, mapped)
 }

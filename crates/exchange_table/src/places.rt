@@ -4,10 +4,11 @@ ghost use Rattle.std.specs.Prelude.{◌≡◌, ◌<◌, None, IfSome, length, na
 ghost use Rattle.std.specs.List.{list_any};
 ghost use Rattle.std.specs.Str.{bytes_eq};
 ghost use Rattle.exchange_model.specs.Steps.{is_under};
+ghost use Rattle.history_laws.specs.Numbering.{token_number};
 ghost use Rattle.exchange_table.specs.Places.{RiseBy, IsOnlyAt, IsNowhere};
-ghost use Rattle.exchange_table.specs.Tables.{IsIndexed, is_opened_at, opening_of};
+ghost use Rattle.exchange_table.specs.Tables.{IsIndexed, has_number, is_opened_at, opening_of};
 
-use crate::index::{Named, named_opening, number_of};
+use crate::index::{Named, name_place, number_of};
 use coap_codec::Token;
 use exchange_model::Exchange;
 
@@ -31,6 +32,22 @@ pub fn opening_place(rows: &[Exchange], opening: u32) -> Option<usize>
     }
 }
 
+/// The place of the exchange that the entry with this number opened, which is looked for in this one
+/// first.
+fn opening_place_from(rows: &[Exchange], opening: u32, first: usize) -> Option<usize>
+    requires { RiseBy opening_of rows.now }
+    ensures below { IfSome result (λ i. i < length rows.now) }
+    ensures some { IfSome result (IsOnlyAt (is_opened_at opening) rows.now) }
+    ensures none { result ≡ None → IsNowhere (is_opened_at opening) rows.now }
+{
+    if let Some(exchange) = rows.get(first) {
+        if exchange.opening == opening {
+            return Some(first);
+        }
+    }
+    opening_place(rows, opening)
+}
+
 /// Whether an exchange is open that the entry with this number opened.
 pub fn is_opened(rows: &[Exchange], opening: u32) -> bool
     requires { RiseBy opening_of rows.now }
@@ -46,6 +63,25 @@ fn is_under(exchange: &Exchange, token: &Token) -> bool
     exchange.token.as_slice() == token.as_slice()
 }
 
+/// The place of the exchange whose latest message goes under the token, whose number has its name
+/// in this place. Rows stand as names do but for exchanges that went on.
+pub fn place_named(rows: &[Exchange], names: &[Named], name: usize, token: &Token) -> Option<usize>
+    requires indexed { IsIndexed rows.now names.now }
+    requires inside { name < length names.now }
+    requires named { IsOnlyAt (has_number (token_number token.now)) names.now name }
+    ensures below { IfSome result (λ i. i < length rows.now) }
+    ensures some { IfSome result (IsOnlyAt (is_under token.now) rows.now) }
+    ensures none { result ≡ None → IsNowhere (is_under token.now) rows.now }
+{
+    let opening = names[name].opening;
+    let place = opening_place_from(rows, opening, name)?;
+    if is_under(&rows[place], token) {
+        Some(place)
+    } else {
+        None
+    }
+}
+
 /// The place of the exchange whose latest message goes under the token.
 pub fn place_under(rows: &[Exchange], names: &[Named], token: &Token) -> Option<usize>
     requires { IsIndexed rows.now names.now }
@@ -53,11 +89,6 @@ pub fn place_under(rows: &[Exchange], names: &[Named], token: &Token) -> Option<
     ensures some { IfSome result (IsOnlyAt (is_under token.now) rows.now) }
     ensures none { result ≡ None → IsNowhere (is_under token.now) rows.now }
 {
-    let opening = named_opening(names, number_of(token))?;
-    let place = opening_place(rows, opening)?;
-    if is_under(&rows[place], token) {
-        Some(place)
-    } else {
-        None
-    }
+    let name = name_place(names, number_of(token))?;
+    place_named(rows, names, name, token)
 }

@@ -1,10 +1,10 @@
 //! Who waits for the open exchanges.
 
-ghost use Rattle.std.specs.Prelude.{◌≡◌, ◌≢◌, ◌≤◌, ◌∷◌, ◌++◌, [], true, false, filter, not, vec_capacity, vec_len, IfOk, IsFalse, IsTrue, OnErr, OnOk, Some};
+ghost use Rattle.std.specs.Prelude.{◌≡◌, ◌≤◌, ◌<◌, ◌∷◌, ◌++◌, [], true, false, filter, not, vec_capacity, vec_len, IfOk, OnErr, OnOk, Some};
 ghost use Rattle.std.specs.List.{AllByRecursion};
 ghost use Rattle.exchange_model.specs.declared.kept.Reader.{Reader as Row};
 ghost use Rattle.exchange_table.specs.Groups.{AreGrouped};
-ghost use Rattle.exchange_table.specs.Places.{RiseBy};
+ghost use Rattle.exchange_table.specs.Places.{IsOnlyAt, RiseBy};
 ghost use Rattle.exchange_table.specs.Readers.{ask_in, has_ask, is_on, opening_read, reads};
 
 use crate::groups::{group_of, put_last, reader_place, take_out};
@@ -113,6 +113,23 @@ impl Readers {
     }
 }
 
+/// Takes out the reader of this ask, who stands in this place.
+fn remove_at(rows: &mut Vec<Reader>, groups: &mut Vec<Reader>, ask: u32, place: usize)
+    requires grouped { AreGrouped opening_read rows.old.items groups.old.items }
+    requires ordered { RiseBy ask_in rows.old.items }
+    requires inside { place < vec_len rows.old }
+    requires there { IsOnlyAt (has_ask ask) rows.old.items place }
+    ensures rows { rows.new.items ≡ filter (λ r. not (has_ask ask r)) rows.old.items }
+    ensures groups { AreGrouped opening_read rows.new.items groups.new.items }
+    ensures fewer { (vec_len rows.new ≤ vec_len rows.old)
+        × (vec_len groups.new ≤ vec_len groups.old) }
+    ensures capacity { (vec_capacity rows.new ≡ vec_capacity rows.old)
+        × (vec_capacity groups.new ≡ vec_capacity groups.old) }
+{
+    let reader = rows.remove(place);
+    take_out(groups, reader.opening, ask, place);
+}
+
 /// Takes out the reader of this ask.
 fn remove(rows: &mut Vec<Reader>, groups: &mut Vec<Reader>, ask: u32)
     requires grouped { AreGrouped opening_read rows.old.items groups.old.items }
@@ -125,22 +142,7 @@ fn remove(rows: &mut Vec<Reader>, groups: &mut Vec<Reader>, ask: u32)
         × (vec_capacity groups.new ≡ vec_capacity groups.old) }
 {
     if let Some(place) = reader_place(rows.as_slice(), ask) {
-        let reader = rows.remove(place);
-        take_out(groups, reader.opening, ask);
-    }
-}
-
-/// Whether the reader of this ask waits on this connection.
-fn waits_on(rows: &[Reader], ask: u32, conn: u32) -> bool
-    requires { RiseBy ask_in rows.now }
-    ensures yes { IsTrue result
-        → AllByRecursion (λ (r : Row). has_ask ask r ≡ true → r.conn ≡ conn) rows.now }
-    ensures no { IsFalse result
-        → AllByRecursion (λ (r : Row). has_ask ask r ≡ true → r.conn ≢ conn) rows.now }
-{
-    match reader_place(rows, ask) {
-        Some(place) => rows[place].conn == conn,
-        None => false,
+        remove_at(rows, groups, ask, place);
     }
 }
 
@@ -156,7 +158,10 @@ fn remove_on(rows: &mut Vec<Reader>, groups: &mut Vec<Reader>, conn: u32, pendin
     let Some(ask) = pending else {
         return;
     };
-    if waits_on(rows.as_slice(), ask, conn) {
-        remove(rows, groups, ask);
+    let Some(place) = reader_place(rows.as_slice(), ask) else {
+        return;
+    };
+    if rows[place].conn == conn {
+        remove_at(rows, groups, ask, place);
     }
 }

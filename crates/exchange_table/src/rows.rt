@@ -9,9 +9,9 @@ ghost use Rattle.exchange_table.specs.Marks.{IsTable};
 ghost use Rattle.exchange_table.specs.Places.{RiseBy};
 ghost use Rattle.exchange_table.specs.Tables.{IsIndexed, IsNewest, carried_on, is_under_none, opening_of, went_on};
 
-use crate::index::{Named, drop_name, name_anew, number_of};
+use crate::index::{Named, name_anew, name_place, number_of};
 use crate::marks::{Mark, half_of, take_mark};
-use crate::places::{opening_place, place_under};
+use crate::places::{opening_place, place_named, place_under};
 use coap_codec::Token;
 use exchange_model::{Exchange, Reader, Work};
 
@@ -114,9 +114,12 @@ pub fn remove(
     ensures rows { rows.new.items ≡ filter (is_other token.now) rows.old.items }
     ensures table { IsTable rows.new.items names.new.items keys.new.items places.new.items }
 {
-    if let Some(place) = place_under(rows.as_slice(), names.as_slice(), token) {
+    let Some(name) = name_place(names.as_slice(), number_of(token)) else {
+        return;
+    };
+    if let Some(place) = place_named(rows.as_slice(), names.as_slice(), name, token) {
         let gone = rows.remove(place);
-        drop_name(names, number_of(token));
+        names.remove(name);
         take_mark(keys, half_of(gone.digests.key), gone.opening);
         take_mark(places, half_of(gone.digests.place), gone.opening);
     }

@@ -9,6 +9,6 @@ pub returns : goal.returns
 returns c = λ rs grouped.
     let groups = c.args.groups.now.items in
     let r = c.args.reader in
-    let place : IsFirstFrom opening_read (r.opening + 1) groups c.first_from-place.result = rw (c.from.ensures, c.as_slice.ensures.value) at c.first_from-place.ensures in
-    let items : c.insert.new.self.items ≡ insert groups c.first_from-place.result r = search rules in
-    subst (AreGrouped opening_read (rs ++ r ∷ [])) (sym items) (grouped-push opening_read rs groups c.first_from-place.result r place grouped)
+    let place : IsFirstFrom opening_read (r.opening + 1) groups c.place_after-place.result = rw (c.as_slice.ensures.value) at c.place_after-place.ensures in
+    let items : c.insert.new.self.items ≡ insert groups c.place_after-place.result r = search rules in
+    subst (AreGrouped opening_read (rs ++ r ∷ [])) (sym items) (grouped-push opening_read rs groups c.place_after-place.result r place grouped)
