@@ -3,6 +3,7 @@ pub mod Changing
 pub mod Forgetting
 pub mod Giving
 pub mod Growing
+pub mod Lines
 pub mod Moving
 pub mod Rotating
 pub mod Served

@@ -1,6 +1,7 @@
 //! The connection of a client.
 
-ghost use Rattle.std.specs.Prelude.{◌≡◌, ◌≢◌, ◌≤◌, ◌<◌, ◌++◌, [], true, false, length, drop, OnOk};
+ghost use Rattle.std.specs.Prelude.{◌≡◌, ◌≢◌, ◌≤◌, ◌<◌, ◌+◌, ◌-◌, ◌++◌, [], true, false, OnOk};
+ghost use Rattle.std.specs.Prelude.{drop, length, slice_index};
 ghost use Rattle.gateway_loop.specs.Clients.{kept, unserved, BeginsUnfed, Leaves, Reads, Writes};
 ghost use Rattle.gateway_loop.specs.Telling.{head_len};
 
@@ -8,6 +9,7 @@ use crate::host::Host;
 use crate::sockets::{Moved, Stream};
 use crate::stage::Stage;
 use crate::waits::{On, Times, Waits};
+use memchr::memchr;
 use std::alloc::{AllocError, Global};
 use std::marker::Model;
 
@@ -289,16 +291,28 @@ pub(crate) fn piece_len(bytes: &[u8]) -> usize
     ensures some { 0 < length bytes.now → 0 < result }
     ensures head { result ≡ head_len false bytes.now }
 {
-    let mut blank = false;
-    'each: for (i, byte) in bytes.iter().enumerate() {
-        if *byte == b'\n' {
-            if blank {
-                return i + 1;
-            }
-            blank = true;
-        } else if *byte != b'\r' {
-            blank = false;
+    let mut at = 0;
+    'lines: while let Some(line) = memchr(b'\n', &bytes[at..]) {
+        at = behind_crs(bytes, at + line + 1);
+        if at < bytes.len() && bytes[at] == b'\n' {
+            return at + 1;
         }
     }
     bytes.len()
+}
+
+/// Where what isn't CR begins, from the begin of a line on (RFC 9112 section 2.2).
+fn behind_crs(bytes: &[u8], from: usize) -> usize
+    requires { from ≤ length bytes.now }
+    ensures from { from ≤ result }
+    ensures fits { result ≤ length bytes.now }
+    ensures empty { head_len true (drop from bytes.now)
+        ≡ (result - from) + head_len true (drop result bytes.now) }
+    ensures behind { result < length bytes.now → slice_index bytes.now result ≢ 13 }
+{
+    let mut at = from;
+    'crs: while at < bytes.len() && bytes[at] == b'\r' {
+        at += 1;
+    }
+    at
 }

@@ -1,7 +1,11 @@
--- The end of the head is among the bytes that weren't looked at yet.
-use Rattle.std.proofs.Common.{◌≡◌, ◌+◌, false, drop}
+-- No line ended yet that is empty.
+use Rattle.std.proofs.Common.{◌≡◌, ◌≤◌, ◌+◌, ◌-◌, false, length, drop}
 use Rattle.gateway_loop.specs.Telling.{head_len}
 use Rattle.gateway_loop.proofs.client.piece_len.Given as goal
 
-abbrev pub invariant-each : goal.invariant-each
-invariant-each l = head_len false l.bytes ≡ l.i + head_len l.blank (drop l.i l.bytes)
+abbrev pub invariant-lines : goal.invariant-lines
+invariant-lines l = (l.at ≤ length l.bytes)
+    × (head_len false l.bytes ≡ l.at + head_len false (drop l.at l.bytes))
+
+abbrev pub decreases-lines : goal.decreases-lines
+decreases-lines l = length l.bytes - l.at
