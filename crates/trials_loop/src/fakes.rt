@@ -1,5 +1,5 @@
-//! Sockets in memory that give any signs in any order: connections, a wire to devices, and who gives
-//! the signs.
+//! Sockets in memory that give any signs in any order: connections, a wire to devices, and who
+//! gives the signs.
 
 use crate::chance::Dice;
 use gateway_loop::{Accepted, Host, Moved, Received, Sign, Stream, Told, Wire};
@@ -131,8 +131,8 @@ struct Letter {
     bytes: Vec<u8>,
 }
 
-/// Devices that answer a GET with the last letter of its path, some time later and in any order. Their
-/// replies aren't stored, so that each says the same of its age.
+/// Devices that answer a GET with the last letter of its path, some time later and in any order.
+/// Their replies aren't stored, so that each says the same of its age.
 #[derive(Drop)]
 pub struct Devices<'a> {
     alloc: Global,

@@ -1,15 +1,17 @@
 //! Trials of the loop, by its public calls alone: over sockets in memory that give any signs in any
 //! order.
 //!
-//! Tried is what no contract says: that each client gets all that it asked for. Nothing stands on
-//! this crate.
+//! Tried is what no contract says: that each client gets all that it asked for, also where a
+//! journal is turned over meanwhile. Nothing stands on this crate.
 #![tactic(auto)]
 
+#[cfg(test)]
+mod callers;
 #[cfg(test)]
 mod chance;
 #[cfg(test)]
 mod fakes;
 #[cfg(test)]
-mod sample;
-#[cfg(test)]
 mod signs;
+#[cfg(test)]
+mod turning;

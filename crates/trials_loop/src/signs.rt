@@ -4,10 +4,10 @@ ghost use Rattle.transformers.specs.Suits.{Suits};
 
 use crate::chance::Dice;
 use crate::fakes::{Chance, Devices, Hears, Talk};
-use crate::sample::{Nothing, settings};
 use gateway_loop::{Gateway, Host, Loop, Stream, Wire};
 use std::alloc::Global;
 use transformers::{Bank, Relation};
+use trials_clients::{Nothing, settings};
 
 /// How long a client may stand still, in milliseconds: as many turns.
 const IDLE: u64 = 3000;
@@ -109,8 +109,8 @@ fn any_signs_in_any_order(rt: HostRuntime) {
     }
 }
 
-/// Whether a client that stops within a request is let go, and one that was answered isn't, in a run
-/// by chance.
+/// Whether a client that stops within a request is let go, and one that was answered isn't, in a
+/// run by chance.
 fn is_let_go(alloc: Global, seed: u64) -> bool {
     let talks = [Talk::new(HALF, b"", true), Talk::new(ASKS_G, GETS_G, true)];
     is_run(alloc, seed, &talks, LONG)

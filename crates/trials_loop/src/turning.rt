@@ -1,0 +1,121 @@
+//! A journal is turned over while clients ask on, and none of them sees it.
+
+ghost use Rattle.std.specs.Prelude.{◌≡◌, IfSome};
+ghost use Rattle.transformers.specs.Suits.{Suits};
+
+use crate::callers::{Board, Caller, Turns};
+use crate::chance::Dice;
+use crate::fakes::Devices;
+use gateway_loop::{Gateway, Host, Loop, Stream, Wire};
+use std::alloc::Global;
+use transformers::{Bank, Relation};
+use trials_clients::{Nothing, settings};
+
+/// How long a client may stand still, in milliseconds: as many turns.
+const IDLE: u64 = 3000;
+
+/// How many turns a run has at most.
+const MOST: u32 = 300_000;
+
+/// How often a client asks on once the journal was turned over.
+const AFTER: usize = 20;
+
+/// Two requests at a time, so that one of them may have been read when the journal is nearly full.
+const ASKS_A: &[u8] =
+    b"GET /hc/coap://192.0.2.1/a HTTP/1.1\r\nHost: p\r\n\r\nGET /hc/coap://192.0.2.2/b HTTP/1.1\r\nHost: p\r\n\r\n";
+
+const ASKS_C: &[u8] =
+    b"GET /hc/coap://192.0.2.3/c HTTP/1.1\r\nHost: p\r\n\r\nGET /hc/coap://192.0.2.4/d HTTP/1.1\r\nHost: p\r\n\r\n";
+
+const ASKS_E: &[u8] =
+    b"GET /hc/coap://192.0.2.5/e HTTP/1.1\r\nHost: p\r\n\r\nGET /hc/coap://192.0.2.6/f HTTP/1.1\r\nHost: p\r\n\r\n";
+
+const GETS_A: &[u8] =
+    b"HTTP/1.1 200 OK\r\nContent-Type: text/plain;charset=utf-8\r\nCache-Control: max-age=0\r\nContent-Length: 1\r\n\r\naHTTP/1.1 200 OK\r\nContent-Type: text/plain;charset=utf-8\r\nCache-Control: max-age=0\r\nContent-Length: 1\r\n\r\nb";
+
+const GETS_C: &[u8] =
+    b"HTTP/1.1 200 OK\r\nContent-Type: text/plain;charset=utf-8\r\nCache-Control: max-age=0\r\nContent-Length: 1\r\n\r\ncHTTP/1.1 200 OK\r\nContent-Type: text/plain;charset=utf-8\r\nCache-Control: max-age=0\r\nContent-Length: 1\r\n\r\nd";
+
+const GETS_E: &[u8] =
+    b"HTTP/1.1 200 OK\r\nContent-Type: text/plain;charset=utf-8\r\nCache-Control: max-age=0\r\nContent-Length: 1\r\n\r\neHTTP/1.1 200 OK\r\nContent-Type: text/plain;charset=utf-8\r\nCache-Control: max-age=0\r\nContent-Length: 1\r\n\r\nf";
+
+/// The loop waits, and turns once. None where it stopped.
+fn turned<R: Relation, S: Stream + Drop, W: Wire + Drop, H: Host<S>>(
+    bank: &Bank<R>,
+    it: Loop<R, S, W>,
+    host: &mut H,
+) -> Option<Loop<R, S, W>>
+    requires { Suits R.holds R.takes it.gateway.world.rules.routes bank.now }
+    ensures { IfSome result (λ l. l.gateway.world.rules ≡ it.gateway.world.rules) }
+{
+    let mut it = it;
+    if it.wait(host).is_err() {
+        return None;
+    }
+    it.turn(bank, host).ok()
+}
+
+/// Whether its journal was turned over, which the callers are told.
+fn is_turned_over<R: Relation, S: Stream + Drop, W: Wire + Drop, H: Turns>(
+    it: &mut Loop<R, S, W>,
+    host: &H,
+) -> bool
+    ensures { it.new.gateway ≡ it.old.gateway }
+{
+    let turned = it.take_journal().is_some();
+    if turned {
+        host.tell_turned(AFTER);
+    }
+    turned
+}
+
+/// Lets the loop turn until each client has ended. False where it stopped, or where no journal was
+/// turned over.
+fn goes<R: Relation, S: Stream + Drop, W: Wire + Drop, H: Host<S> + Turns>(
+    bank: &Bank<R>,
+    it: Loop<R, S, W>,
+    host: &mut H,
+) -> bool
+    requires { Suits R.holds R.takes it.gateway.world.rules.routes bank.now }
+{
+    let mut it = it;
+    let mut over = false;
+    'each: for _ in 0..MOST {
+        it = match turned(bank, it, host) {
+            Some(it) => it,
+            None => return false,
+        };
+        over = is_turned_over(&mut it, host) || over;
+        if host.is_left() {
+            return over;
+        }
+    }
+    false
+}
+
+/// Whether each client is served on over the turn of a journal, in a run by chance.
+fn is_unseen(alloc: Global, seed: u64) -> bool {
+    let dice = Dice::new(seed);
+    let callers = [
+        Caller::new(ASKS_A, GETS_A),
+        Caller::new(ASKS_C, GETS_C),
+        Caller::new(ASKS_E, GETS_E),
+    ];
+    let mut host = Board::new(&dice, &callers);
+    let Ok(settings) = settings(alloc) else {
+        return false;
+    };
+    let bank: Bank<Nothing> = Bank::new(Vec::new(alloc));
+    let Ok(gateway) = Gateway::new(alloc, settings, Devices::new(alloc, &dice)) else {
+        return false;
+    };
+    match Loop::new(gateway, IDLE) {
+        Ok(it) => goes(&bank, it, &mut host) && callers.iter().all(Caller::is_served),
+        Err(_) => false,
+    }
+}
+
+#[test]
+fn no_client_sees_a_journal_turned_over(rt: HostRuntime) {
+    assert!(rt; is_unseen(rt.alloc(), 0x9e37_79b9));
+}
