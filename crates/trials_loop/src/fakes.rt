@@ -43,6 +43,11 @@ impl Talk {
         }
     }
 
+    /// The loop goes on no more.
+    pub fn stop(&self) {
+        self.over.set(true);
+    }
+
     /// It got all, and nothing else; was told so where the proxy closes; and is gone.
     pub fn is_served(&self) -> bool {
         !self.wrong.get()
@@ -254,7 +259,7 @@ impl<'a> Hears for Chance<'a> {
 
     fn stop(&self) {
         for talk in self.talks {
-            talk.over.set(true);
+            talk.stop();
         }
     }
 }

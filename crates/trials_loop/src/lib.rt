@@ -12,6 +12,8 @@ mod chance;
 #[cfg(test)]
 mod fakes;
 #[cfg(test)]
+mod refused;
+#[cfg(test)]
 mod signs;
 #[cfg(test)]
 mod turning;

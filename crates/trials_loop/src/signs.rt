@@ -63,7 +63,7 @@ fn is_run(alloc: Global, seed: u64, talks: &[Talk], turns: u32) -> bool {
 }
 
 /// Lets the loop turn, and hears what it tells of. False where it stopped.
-fn goes<R: Relation, S: Stream + Drop, W: Wire + Drop, H: Host<S> + Hears>(
+pub fn goes<R: Relation, S: Stream + Drop, W: Wire + Drop, H: Host<S> + Hears>(
     bank: &Bank<R>,
     it: Loop<R, S, W>,
     host: &mut H,
