@@ -9,6 +9,9 @@ use std::cell::Cell;
 pub struct Caller {
     asks: &'static [u8],
     gets: &'static [u8],
+    /// It asks no more while a journal is being turned over, and takes each answer at once, of which
+    /// it knows how it begins.
+    patient: bool,
     /// Under which number it is watched, and how often that changed.
     number: Cell<u32>,
     renamed: Cell<usize>,
@@ -27,10 +30,11 @@ pub struct Caller {
 }
 
 impl Caller {
-    pub fn new(asks: &'static [u8], gets: &'static [u8]) -> Caller {
+    pub fn new(asks: &'static [u8], gets: &'static [u8], patient: bool) -> Caller {
         Caller {
             asks,
             gets,
+            patient,
             number: Cell::new(0),
             renamed: Cell::new(0),
             asked: Cell::new(0),
@@ -49,11 +53,29 @@ impl Caller {
         self.gone.get()
     }
 
+    /// It asks so often besides.
+    fn ask_on(&self, more: usize) {
+        self.most.set(self.asked.get().saturating_add(more));
+    }
+
+    /// It was answered as often as it asked.
+    fn is_answered(&self) -> bool {
+        self.answered.get() == self.asked.get()
+    }
+
+    /// It takes an answer at once.
+    fn take(&self, bytes: &[u8]) {
+        if !bytes.starts_with(self.gets) || !bytes.ends_with(b"\r\n\r\n") {
+            self.wrong.set(true);
+        }
+        self.answered.set(self.answered.get().saturating_add(1));
+    }
+
     /// It was answered as often as it asked, and got nothing else; its connection was carried on
     /// once, and is gone since it ended.
     pub fn is_served(&self) -> bool {
         !self.wrong.get()
-            && self.answered.get() == self.asked.get()
+            && self.is_answered()
             && self.got.get() == 0
             && self.renamed.get() == 1
             && self.ended.get()
@@ -86,7 +108,7 @@ impl Stream for Line<'_> {
     fn read(&mut self, buffer: &mut [u8]) -> Moved {
         let caller = self.caller;
         if caller.sent.get() == 0 && caller.asked.get() >= caller.most.get() {
-            let done = caller.answered.get() == caller.asked.get();
+            let done = caller.is_answered() && caller.renamed.get() > 0;
             caller.ended.set(done);
             return if done { Moved::End } else { Moved::Later };
         }
@@ -107,6 +129,10 @@ impl Stream for Line<'_> {
 
     fn write(&mut self, bytes: &[u8]) -> Moved {
         let caller = self.caller;
+        if caller.patient {
+            caller.take(bytes);
+            return Moved::Bytes(bytes.len());
+        }
         let rest = caller.gets.get(caller.got.get()..).unwrap_or(&[]);
         let count = self.dice.below(bytes.len() + 1).min(rest.len());
         if count == 0 || count > bytes.len() {
@@ -137,6 +163,8 @@ pub struct Board<'a> {
     taken: usize,
     signs: usize,
     moment: u64,
+    /// For how many milliseconds a patient one waited while a journal was being turned over.
+    waited: u64,
 }
 
 impl<'a> Board<'a> {
@@ -147,13 +175,22 @@ impl<'a> Board<'a> {
             taken: 0,
             signs: 0,
             moment: 0,
+            waited: 0,
         }
+    }
+
+    /// For how many milliseconds a patient one waited while a journal was being turned over.
+    pub fn waited(&self) -> u64 {
+        self.waited
     }
 }
 
-/// Who is told that a journal was turned over.
+/// Who is told how a journal is turned over.
 pub trait Turns {
-    /// The journal was turned over: each caller asks so often besides.
+    /// It is being turned over at this moment.
+    fn tell_turning(&mut self);
+
+    /// It was turned over: who isn't patient asks so often besides.
     fn tell_turned(&self, more: usize);
 
     /// Whether the connections of all callers are gone.
@@ -161,9 +198,21 @@ pub trait Turns {
 }
 
 impl<'a> Turns for Board<'a> {
+    fn tell_turning(&mut self) {
+        'each: for caller in self.callers {
+            if caller.patient {
+                caller.ask_on(0);
+                let waits = !caller.is_answered();
+                self.waited = self.waited.saturating_add(u64::from(waits));
+            }
+        }
+    }
+
     fn tell_turned(&self, more: usize) {
         'each: for caller in self.callers {
-            caller.most.set(caller.asked.get().saturating_add(more));
+            if !caller.patient {
+                caller.ask_on(more);
+            }
         }
     }
 

@@ -136,8 +136,9 @@ struct Letter {
     bytes: Vec<u8>,
 }
 
-/// Devices that answer a GET with the last letter of its path, some time later and in any order.
-/// Their replies aren't stored, so that each says the same of its age.
+/// Devices that answer a GET with the last letter of its path, some time later and in any order; of
+/// what ends in `z` they say nothing. Their replies aren't stored, so that each says the same of its
+/// age.
 #[derive(Drop)]
 pub struct Devices<'a> {
     alloc: Global,
@@ -161,6 +162,9 @@ impl<'a> Devices<'a> {
             return None;
         };
         let last = *request.last()?;
+        if last == b'z' {
+            return None;
+        }
         let mut bytes = Vec::new(self.alloc);
         bytes.extend_from_slice(&[0x68, 0x45]).ok()?;
         bytes.extend_from_slice(front.get(..10)?).ok()?;

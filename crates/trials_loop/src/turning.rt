@@ -1,4 +1,5 @@
-//! A journal is turned over while clients ask on, and none of them sees it.
+//! A journal is turned over while clients ask on, and none of them sees it; nor does one whose device
+//! says nothing for longer than others are waited for.
 
 ghost use Rattle.std.specs.Prelude.{◌≡◌, IfSome};
 ghost use Rattle.transformers.specs.Suits.{Suits};
@@ -20,6 +21,10 @@ const MOST: u32 = 300_000;
 /// How often a client asks on once the journal was turned over.
 const AFTER: usize = 20;
 
+/// For how long a client is waited for that stands still while a journal is turned over, in
+/// milliseconds.
+const PATIENCE: u64 = 10_000;
+
 /// Two requests at a time, so that one of them may have been read when the journal is nearly full.
 const ASKS_A: &[u8] =
     b"GET /hc/coap://192.0.2.1/a HTTP/1.1\r\nHost: p\r\n\r\nGET /hc/coap://192.0.2.2/b HTTP/1.1\r\nHost: p\r\n\r\n";
@@ -39,6 +44,12 @@ const GETS_C: &[u8] =
 const GETS_E: &[u8] =
     b"HTTP/1.1 200 OK\r\nContent-Type: text/plain;charset=utf-8\r\nCache-Control: max-age=0\r\nContent-Length: 1\r\n\r\neHTTP/1.1 200 OK\r\nContent-Type: text/plain;charset=utf-8\r\nCache-Control: max-age=0\r\nContent-Length: 1\r\n\r\nf";
 
+/// A request of a device that says nothing.
+const ASKS_Z: &[u8] = b"GET /hc/coap://192.0.2.7/z HTTP/1.1\r\nHost: p\r\n\r\n";
+
+/// How the answer to it begins.
+const GETS_Z: &[u8] = b"HTTP/1.1 504 Gateway Timeout\r\nHC-Cause: timeout ";
+
 /// The loop waits, and turns once. None where it stopped.
 fn turned<R: Relation, S: Stream + Drop, W: Wire + Drop, H: Host<S>>(
     bank: &Bank<R>,
@@ -55,13 +66,16 @@ fn turned<R: Relation, S: Stream + Drop, W: Wire + Drop, H: Host<S>>(
     it.turn(bank, host).ok()
 }
 
-/// Whether its journal was turned over, which the callers are told.
-fn is_turned_over<R: Relation, S: Stream + Drop, W: Wire + Drop, H: Turns>(
+/// Tells of it where the journal is being turned over, or was. Answers whether it was.
+fn tell<R: Relation, S: Stream + Drop, W: Wire + Drop, H: Turns>(
     it: &mut Loop<R, S, W>,
-    host: &H,
+    host: &mut H,
 ) -> bool
     ensures { it.new.gateway ≡ it.old.gateway }
 {
+    if it.is_turning() {
+        host.tell_turning();
+    }
     let turned = it.take_journal().is_some();
     if turned {
         host.tell_turned(AFTER);
@@ -85,7 +99,7 @@ fn goes<R: Relation, S: Stream + Drop, W: Wire + Drop, H: Host<S> + Turns>(
             Some(it) => it,
             None => return false,
         };
-        over = is_turned_over(&mut it, host) || over;
+        over = tell(&mut it, host) || over;
         if host.is_left() {
             return over;
         }
@@ -93,29 +107,55 @@ fn goes<R: Relation, S: Stream + Drop, W: Wire + Drop, H: Host<S> + Turns>(
     false
 }
 
-/// Whether each client is served on over the turn of a journal, in a run by chance.
-fn is_unseen(alloc: Global, seed: u64) -> bool {
-    let dice = Dice::new(seed);
-    let callers = [
-        Caller::new(ASKS_A, GETS_A),
-        Caller::new(ASKS_C, GETS_C),
-        Caller::new(ASKS_E, GETS_E),
-    ];
-    let mut host = Board::new(&dice, &callers);
+/// Lets a loop serve them until each has ended, in a run by chance. False where it stopped, or where
+/// no journal was turned over.
+fn is_run<'a>(alloc: Global, dice: &'a Dice, host: &mut Board<'a>) -> bool {
     let Ok(settings) = settings(alloc) else {
         return false;
     };
     let bank: Bank<Nothing> = Bank::new(Vec::new(alloc));
-    let Ok(gateway) = Gateway::new(alloc, settings, Devices::new(alloc, &dice)) else {
+    let Ok(gateway) = Gateway::new(alloc, settings, Devices::new(alloc, dice)) else {
         return false;
     };
     match Loop::new(gateway, IDLE) {
-        Ok(it) => goes(&bank, it, &mut host) && callers.iter().all(Caller::is_served),
+        Ok(it) => goes(&bank, it, host),
         Err(_) => false,
     }
 }
 
+/// Whether each client is served on over the turn of a journal.
+fn is_unseen(alloc: Global) -> bool {
+    let dice = Dice::new(0x9e37_79b9);
+    let callers = [
+        Caller::new(ASKS_A, GETS_A, false),
+        Caller::new(ASKS_C, GETS_C, false),
+        Caller::new(ASKS_E, GETS_E, false),
+    ];
+    let mut host = Board::new(&dice, &callers);
+    is_run(alloc, &dice, &mut host) && callers.iter().all(Caller::is_served)
+}
+
 #[test]
 fn no_client_sees_a_journal_turned_over(rt: HostRuntime) {
-    assert!(rt; is_unseen(rt.alloc(), 0x9e37_79b9));
+    assert!(rt; is_unseen(rt.alloc()));
+}
+
+/// Whether one whose device says nothing is told so while a journal is being turned over, later than
+/// those are waited for that stand still, and is served on.
+fn is_waited_for(alloc: Global) -> bool {
+    let dice = Dice::new(0x9e37_79b9);
+    let callers = [
+        Caller::new(ASKS_Z, GETS_Z, true),
+        Caller::new(ASKS_A, GETS_A, false),
+        Caller::new(ASKS_C, GETS_C, false),
+    ];
+    let mut host = Board::new(&dice, &callers);
+    is_run(alloc, &dice, &mut host)
+        && host.waited() > PATIENCE
+        && callers.iter().all(Caller::is_served)
+}
+
+#[test]
+fn who_waits_while_a_journal_is_turned_over_is_told(rt: HostRuntime) {
+    assert!(rt; is_waited_for(rt.alloc()));
 }
