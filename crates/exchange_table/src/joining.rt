@@ -13,7 +13,7 @@ ghost use Rattle.exchange_table.specs.Tables.{is_opened_at, opening_of};
 
 use crate::marks::{Mark, half_of, marked};
 use crate::outrunning::asked;
-use crate::places::opening_place;
+use crate::places::opening_place_late;
 use ask_model::Mapped;
 use cache_key::Lookup;
 use exchange_model::Exchange;
@@ -38,7 +38,7 @@ pub fn row_at(rows: &[Exchange], opening: u32) -> Option<&Exchange>
     requires { RiseBy opening_of rows.now }
     ensures { option_copied result ≡ find (is_opened_at opening) rows.now }
 {
-    let place = opening_place(rows, opening)?;
+    let place = opening_place_late(rows, opening)?;
     Some(&rows[place])
 }
 

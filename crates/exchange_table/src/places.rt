@@ -48,6 +48,17 @@ fn opening_place_from(rows: &[Exchange], opening: u32, first: usize) -> Option<u
     opening_place(rows, opening)
 }
 
+/// The same, looked for in the last place first: equal GETs come close together, so what one joins
+/// was most often opened last.
+pub fn opening_place_late(rows: &[Exchange], opening: u32) -> Option<usize>
+    requires { RiseBy opening_of rows.now }
+    ensures below { IfSome result (λ i. i < length rows.now) }
+    ensures some { IfSome result (IsOnlyAt (is_opened_at opening) rows.now) }
+    ensures none { result ≡ None → IsNowhere (is_opened_at opening) rows.now }
+{
+    opening_place_from(rows, opening, rows.len().saturating_sub(1))
+}
+
 /// Whether an exchange is open that the entry with this number opened.
 pub fn is_opened(rows: &[Exchange], opening: u32) -> bool
     requires { RiseBy opening_of rows.now }

@@ -11,7 +11,7 @@ ghost use Rattle.exchange_table.specs.Tables.{IsIndexed, IsNewest, carried_on, i
 
 use crate::index::{Named, name_anew, name_place, number_of};
 use crate::marks::{Mark, half_of, take_mark};
-use crate::places::{opening_place, place_named, place_under};
+use crate::places::{opening_place, opening_place_late, place_named, place_under};
 use coap_codec::Token;
 use exchange_model::{Exchange, Reader, Work};
 
@@ -97,7 +97,7 @@ pub fn read(rows: &mut [Exchange], opening: u32, moment: u64)
     requires { RiseBy opening_of rows.old }
     ensures { rows.new ≡ map (read_at moment opening) rows.old }
 {
-    if let Some(place) = opening_place(rows, opening) {
+    if let Some(place) = opening_place_late(rows, opening) {
         read_row(&mut rows[place], moment);
     }
 }
