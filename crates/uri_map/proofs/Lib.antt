@@ -17,4 +17,5 @@ mod Placed
 mod HostedPlace
 mod Numbered
 mod Shorts
+mod PlainTexts
 mod Hosted

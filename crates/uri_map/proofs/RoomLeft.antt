@@ -26,6 +26,19 @@ pub walk_part : (n : ℕ) (ps : List (List ℕ)) (room : Room) → rooms_behind 
 walk_part n [] room = refl
 walk_part n (p ∷ ps) room = same_step (room_behind n (length (percent_decode p)) room) _ _ (λ next. walk_part n ps next)
 
+-- The room after one piece, and then after the others.
+piece_first : (n : ℕ) (piece : List ℕ) (others : List (List ℕ)) (room : Result Room UriFault) → (room >>= rooms_behind n (piece ∷ others)) ≡ ((room >>= room_behind n (length (percent_decode piece))) >>= rooms_behind n others)
+piece_first n piece others (Ok x) = refl
+piece_first n piece others (Err e) = refl
+
+pub room_goes_on : (n len : ℕ) (piece : List ℕ) (others pieces : List (List ℕ)) (room after all : Result Room UriFault) → pieces ≡ piece ∷ others → len ≡ length (percent_decode piece) → after ≡ (room >>= room_behind n len) → (room >>= rooms_behind n pieces) ≡ all → (after >>= rooms_behind n others) ≡ all
+room_goes_on n len piece others pieces room after all split size step same =
+    rw (step, size) (sym (piece_first n piece others room) ∙ (rw split at same))
+
+pub room_ends : (n : ℕ) (pieces : List (List ℕ)) (room all : Result Room UriFault) → pieces ≡ [] → (room >>= rooms_behind n pieces) ≡ all → room ≡ all
+room_ends n pieces (Ok x) all none same = rw none at same
+room_ends n pieces (Err e) all none same = same
+
 walk_step : (r : Result Room UriFault) (os others : List Entry) → ((x : Room) → walk (os ++ others) x ≡ (walk os x >>= walk others)) → (r >>= walk (os ++ others)) ≡ ((r >>= walk os) >>= walk others)
 walk_step (Ok x) os others same = same x
 walk_step (Err e) os others same = refl
@@ -109,6 +122,19 @@ room_walk host path query =
     ∙ ap (λ r. (r >>= walk segments) >>= walk arguments) (walk_host host all_room)
     ∙ sym (ap (λ r. r >>= walk arguments) (walk-append (host_options host) segments all_room))
     ∙ sym (walk-append (host_options host ++ segments) arguments all_room)
+
+steps_in_turn : (r : Result Room UriFault) (f g : Room → Result Room UriFault) → ((r >>= f) >>= g) ≡ (r >>= λ x. f x >>= g)
+steps_in_turn (Ok x) f g = refl
+steps_in_turn (Err e) f g = refl
+
+-- The room after the host, then after the path, then after the query.
+room_in_turn : (host : Host) (path query : List (List ℕ)) → ((host_room host all_room >>= rooms_behind 11 path) >>= rooms_behind 15 query) ≡ room_for host path query
+unfolding room_for
+room_in_turn host path query = steps_in_turn (host_room host all_room) (rooms_behind 11 path) (rooms_behind 15 query)
+
+pub room_after : (host : Host) (path query : List (List ℕ)) (first second third : Result Room UriFault) → first ≡ host_room host all_room → second ≡ (first >>= rooms_behind 11 path) → third ≡ (second >>= rooms_behind 15 query) → room_for host path query ≡ third
+room_after host path query first second third hosted routed asked =
+    sym (asked ∙ ap (λ r. r >>= rooms_behind 15 query) (routed ∙ ap (λ r. r >>= rooms_behind 11 path) hosted) ∙ room_in_turn host path query)
 
 ok_test : {A : Type 0} (r : Result A UriFault) (x : A) → r ≡ Ok x → is_ok r ≡ true
 ok_test (Ok y) x e = refl

@@ -31,6 +31,11 @@ same_goes_on part piece text others pieces all e read (front, same) =
     let step : texts_at part pieces ≡ (texts_at part others >>= λ texts. Ok (text ∷ texts)) = rw (e, read) refl in
     (front ++ text ∷ [], same ∙ ap (with_front front) step ∙ with_more front text (texts_at part others))
 
+pub same_ends : (part : Part) (pieces : List (List ℕ)) (all : Result (List (List ℕ)) UriFault) → pieces ≡ [] → SameFault (texts_at part pieces) all → (texts : List (List ℕ)) × (all ≡ Ok texts)
+same_ends part pieces all none (front, same) =
+    let read : texts_at part pieces ≡ Ok [] = rw none refl in
+    (front ++ [], same ∙ ap (with_front front) read)
+
 chosen_ok : (x y z : Bool) (text : List ℕ) (f : UriFault) → IsOk (if x && y && z then Ok text else failed f) → y ≡ true
 chosen_ok true true z text f ok = refl
 chosen_ok true false z text f ok = ok

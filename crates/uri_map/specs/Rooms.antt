@@ -21,6 +21,10 @@ room_behind number len room =
     if nat_lt 255 len || nat_lt room.left (taken room.number number len) then Err TooLong
     else Ok (record { number = number; left = room.left - taken room.number number len })
 
+-- and after a further one, where any room was left
+abbrev pub further_room : ℕ → ℕ → Result Room UriFault → Result Room UriFault
+further_room number len room = room >>= room_behind number len
+
 -- and after one for each piece
 abbrev pub rooms_behind : ℕ → List (List ℕ) → Room → Result Room UriFault
 rooms_behind number [] room = Ok room

@@ -1,15 +1,21 @@
 -- What the functions say that only look at a text.
-use Rattle.std.specs.Prelude.{◌≡◌, ◌<◌, ℕ, suc, Bool, true, false, List, length, Option, Some, None, Result, Ok, Err}
+use Rattle.std.specs.Prelude.{◌≡◌, ◌≢◌, ◌<◌, All, ℕ, suc, Bool, true, false, List, length, Option, Some, None, Result, Ok, Err}
 use Rattle.std.specs.Borrow.{Bor}
+use Rattle.percent_encoding.specs.Percent.{percent_decode}
 use Rattle.uri_map.specs.declared.fault.UriFault.{UriFault}
 use Rattle.uri_map.specs.declared.fault.UriFault.TheVariants.{Escape}
 use Rattle.uri_map.specs.declared.authority.Named.{Named}
 use Rattle.uri_map.specs.declared.target.Host.{Host}
 use Rattle.uri_map.specs.declared.target.Target.{Target}
 use Rattle.uri_map.specs.declared.reading.Written.{Written}
+use Rattle.uri_map.specs.declared.escapes.Part.{Part}
 use Rattle.uri_map.specs.declared.escapes.Part.TheVariants.{Path, Query}
-use Rattle.uri_map.specs.Steps.{option_view}
-use Rattle.uri_map.specs.Escapes.{well_escaped, part_at}
+use Rattle.uri_map.specs.declared.room.Room.{Room}
+use Rattle.uri_map.specs.Steps.{◌>>=◌, option_view}
+use Rattle.uri_map.specs.Splitting.{pieces}
+use Rattle.uri_map.specs.Escapes.{well_escaped, text_at, part_at, separator}
+use Rattle.uri_map.specs.Limits.{number}
+use Rattle.uri_map.specs.Rooms.{rooms_behind}
 use Rattle.uri_map.specs.Authority.{is_name}
 
 -- one more than the bytes that are left, where any text is
@@ -35,10 +41,22 @@ abbrev pub Tells : UriFault → Result (Unit {0}) UriFault → Bool → Type 0
 Tells fault (Ok x) test = test ≡ true
 Tells fault (Err e) test = (e ≡ fault) × (test ≡ false)
 
--- The result is Ok where reading gives a value, and else its fault.
-abbrev pub Checks : {X : Type 0} → Result (Unit {0}) UriFault → Result X UriFault → Type 0
-Checks {X} (Ok x) read = (y : X) × (read ≡ Ok y)
-Checks (Err e) read = read ≡ Err e
+-- ASCII with no `%`
+abbrev pub IsPlain : List ℕ → Type 0
+IsPlain text = All (λ b. (b < 128) × (b ≢ 37)) text
+
+-- The result is the length of the text that a piece stands for, or its fault.
+abbrev pub Measures : Result ℕ UriFault → Part → List ℕ → Type 0
+Measures (Ok n) part piece = (text_at part piece ≡ Ok (percent_decode piece))
+    × (n ≡ length (percent_decode piece))
+Measures (Err e) part piece = text_at part piece ≡ Err e
+
+-- The result is the room that the options of a part leave, or the fault of the part.
+abbrev pub Leaves : Result (Result Room UriFault) UriFault → Part → Option (List ℕ)
+    → Result Room UriFault → Type 0
+Leaves (Ok after) part text before = (texts : List (List ℕ)) × (part_at part text ≡ Ok texts)
+    × (after ≡ (before >>= rooms_behind (number part) (pieces (separator part) text)))
+Leaves (Err e) part text before = part_at part text ≡ Err e
 
 -- the host that stands for a host before memory is taken
 abbrev pub host_view : Named → Host

@@ -11,6 +11,7 @@ ghost use Rattle.uri_map.specs.declared.fault.UriFault.TheVariants.{Escape};
 
 use crate::fault::UriFault;
 use crate::marks::{Mark, index_of};
+use crate::plain::is_plain;
 use crate::utf8::is_utf8;
 use percent_encoding::percent_decode;
 
@@ -96,9 +97,12 @@ fn is_dots(text: &[u8]) -> bool
     ensures { result ≡ spec.is_dots (decoded text.now) }
 {
     let mut bytes = percent_decode(text);
-    match (bytes.next(), bytes.next(), bytes.next()) {
-        (Some(b'.'), None, _) => true,
-        (Some(b'.'), Some(b'.'), None) => true,
+    if bytes.next() != Some(b'.') {
+        return false;
+    }
+    match (bytes.next(), bytes.next()) {
+        (None, _) => true,
+        (Some(b'.'), None) => true,
         _ => false,
     }
 }
@@ -111,6 +115,7 @@ pub(crate) fn decoded_len(text: &[u8]) -> usize
 }
 
 /// Whether the text stands for bytes that the part refuses.
+#[inline]
 fn is_refused(part: Part, text: &[u8]) -> bool
     ensures { result ≡ spec.is_refused part (decoded text.now) }
 {
@@ -120,26 +125,25 @@ fn is_refused(part: Part, text: &[u8]) -> bool
     }
 }
 
-/// Nothing where the text stands for a value of the part.
+/// How many bytes the value of the part has that the text stands for, if it stands for one.
+#[inline(never)]
 #[tactic(auto, unfolding(crate::specs::Escapes::text_at))]
-fn check_piece(part: Part, text: &[u8]) -> Result<(), UriFault>
-    ensures { scan.Checks result (spec.text_at part text.now) }
+fn escaped_len(part: Part, text: &[u8]) -> Result<usize, UriFault>
+    ensures { scan.Measures result part text.now }
 {
     check_escapes(text)?;
     if !is_utf8(text) || is_refused(part, text) {
         return Err(UriFault::Escape);
     }
-    Ok(())
+    Ok(decoded_len(text))
 }
 
-/// Nothing where each piece of the part stands for a value of it.
-pub(crate) fn check_pieces(part: Part, text: Option<&[u8]>) -> Result<(), UriFault>
-    ensures { scan.Checks result (spec.part_at part (option_view text.entry)) }
+/// The same. Most texts are plain, and then it is how many bytes they have themselves.
+pub(crate) fn value_len(part: Part, text: &[u8]) -> Result<usize, UriFault>
+    ensures { scan.Measures result part text.now }
 {
-    let mut left = text;
-    'each: while let Some((piece, next)) = next_piece(part, left) {
-        check_piece(part, piece)?;
-        left = next;
+    if is_plain(text) && !is_refused(part, text) {
+        return Ok(text.len());
     }
-    Ok(())
+    escaped_len(part, text)
 }

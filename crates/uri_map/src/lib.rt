@@ -18,6 +18,7 @@ mod marks;
 mod options;
 mod parts;
 mod peer;
+mod plain;
 mod reading;
 mod room;
 mod short;

@@ -1,6 +1,6 @@
 //! A request target taken apart, with nothing decoded.
 
-ghost use Rattle.std.specs.Prelude.{◌≡◌};
+ghost use Rattle.std.specs.Prelude.{◌≡◌, nat_lt, length, drop, Some, None, if◌then◌else◌};
 ghost use Rattle.uri_map.specs.Steps.{Reads, option_view};
 ghost use Rattle.uri_map.specs.Splitting as split;
 
@@ -40,11 +40,11 @@ pub(crate) fn behind_scheme(text: &[u8]) -> Result<&[u8], UriFault>
     }
 }
 
-/// What follows the first `/` of a path; none where the path is empty or `/` alone.
-pub(crate) fn path_of(text: &[u8]) -> Option<&[u8]>
-    ensures { option_view result ≡ split.written_path text.now }
+/// What follows the first byte of a path; none where the path is empty or `/` alone.
+fn behind_slash(path: &[u8]) -> Option<&[u8]>
+    ensures { option_view result ≡ (if nat_lt 1 (length path.now) then Some (drop 1 path.now)
+        else None) }
 {
-    let (path, _) = cut_at(Mark::Byte(b'?'), text);
     if path.len() > 1 {
         Some(&path[1..])
     } else {
@@ -52,15 +52,17 @@ pub(crate) fn path_of(text: &[u8]) -> Option<&[u8]>
     }
 }
 
-/// What follows the first `?`.
-pub(crate) fn query_of(text: &[u8]) -> Option<&[u8]>
-    ensures { option_view result ≡ split.written_query text.now }
+/// The path after its first `/`, and what follows the first `?`, of what follows an authority.
+pub(crate) fn path_and_query_of(text: &[u8]) -> (Option<&[u8]>, Option<&[u8]>)
+    ensures path { option_view result.0 ≡ split.written_path text.now }
+    ensures query { option_view result.1 ≡ split.written_query text.now }
 {
     let end = index_of(Mark::Byte(b'?'), text);
+    let path = behind_slash(&text[..end]);
     if end < text.len() {
-        Some(&text[end + 1..])
+        (path, Some(&text[end + 1..]))
     } else {
-        None
+        (path, None)
     }
 }
 

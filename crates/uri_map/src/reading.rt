@@ -9,20 +9,21 @@ ghost use Rattle.uri_map.specs.declared.escapes.Part.TheVariants.{Path, Query};
 ghost use Rattle.uri_map.specs.declared.target.Target.{Target};
 
 use crate::authority::{Named, authority_of};
-use crate::escapes::{Part, check_pieces, next_piece};
+use crate::escapes::{Part, next_piece};
 use crate::fault::UriFault;
 use crate::marks::{Mark, cut_at};
-use crate::parts::{behind_base, behind_scheme, path_of, query_of};
-use crate::room::room_for;
+use crate::parts::{behind_base, behind_scheme, path_and_query_of};
+use crate::plain::is_plain;
+use crate::room::{behind_host, behind_part};
 use crate::target::{Host, Target};
 use crate::text::{Text, Texts};
-use percent_encoding::{DecodeError, percent_decode};
+use percent_encoding::{DecodeError, ascii_str, percent_decode};
 use std::alloc::{AllocError, Global};
-use std::str::from_utf8;
 
-/// The text that a good piece stands for.
+/// The text that a good piece stands for, decoded.
+#[inline(never)]
 #[tactic(auto, unfolding(crate::specs::Escapes::text_at))]
-fn text_of(alloc: Global, part: Part, piece: &[u8]) -> Result<Text, UriFault>
+fn decoded_of(alloc: Global, part: Part, piece: &[u8]) -> Result<Text, UriFault>
     requires { IsOk (text_at part piece.now) }
     ensures { Gives result (text_at part piece.now) }
 {
@@ -33,6 +34,17 @@ fn text_of(alloc: Global, part: Part, piece: &[u8]) -> Result<Text, UriFault>
             DecodeError::Utf8(_) => Err(UriFault::Escape),
         },
     }
+}
+
+/// The text that a good piece stands for.
+fn text_of(alloc: Global, part: Part, piece: &[u8]) -> Result<Text, UriFault>
+    requires { IsOk (text_at part piece.now) }
+    ensures { Gives result (text_at part piece.now) }
+{
+    if is_plain(piece) {
+        return Ok(Text::copy_of(alloc, ascii_str(piece))?);
+    }
+    decoded_of(alloc, part, piece)
 }
 
 /// The texts that the pieces of a part stand for.
@@ -51,14 +63,11 @@ fn texts_of(alloc: Global, part: Part, text: Option<&[u8]>) -> Result<Texts, Uri
 }
 
 /// The host, in memory of its own.
-fn host_of(alloc: Global, host: &Named) -> Result<Host, AllocError>
+fn host_of(alloc: Global, host: &Named<'_>) -> Result<Host, AllocError>
     ensures { IfOk result (λ h. h ≡ host_view host.now) }
 {
     match host {
-        Named::Name(name) => match from_utf8(name.as_slice()) {
-            Ok(text) => Ok(Host::Name(Text::copy_of(alloc, text)?)),
-            Err(_) => unreachable!(),
-        },
+        Named::Name(name) => Ok(Host::Name(name.lowered(alloc)?)),
         Named::V4(address) => Ok(Host::V4(*address)),
         Named::V6(address) => Ok(Host::V6(*address)),
     }
@@ -67,7 +76,7 @@ fn host_of(alloc: Global, host: &Named) -> Result<Host, AllocError>
 /// A target before any memory is taken for it: the parts are good, and within the limits.
 #[derive(Drop)]
 pub(crate) struct Written<'a> {
-    host: Named,
+    host: Named<'a>,
     port: u16,
     path: Option<&'a [u8]>,
     query: Option<&'a [u8]>,
@@ -83,11 +92,11 @@ fn written_of<'a>(base: &[u8], text: &'a [u8]) -> Result<Written<'a>, UriFault>
     let rest = behind_scheme(below)?;
     let (authority, tail) = cut_at(Mark::Authority, rest);
     let (host, port) = authority_of(authority)?;
-    let path = path_of(tail);
-    let query = query_of(tail);
-    check_pieces(Part::Path, path)?;
-    check_pieces(Part::Query, query)?;
-    let _room = room_for(&host, path, query)?;
+    let (path, query) = path_and_query_of(tail);
+    let room = behind_host(&host);
+    let after_path = behind_part(Part::Path, path, room)?;
+    let after_query = behind_part(Part::Query, query, after_path)?;
+    let _left = after_query?;
     Ok(Written {
         host,
         port,
