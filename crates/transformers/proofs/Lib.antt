@@ -2,11 +2,13 @@ pub mod First
 pub mod Passed
 pub mod Items
 pub mod Passing
-pub mod Members
 pub mod Texts
 pub mod Within
 pub mod Writing
 pub mod Heads
 pub mod Back
 pub mod Shorter
+pub mod Telling
+pub mod Compact
+pub mod Told
 pub mod Outputs

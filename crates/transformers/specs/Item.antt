@@ -1,7 +1,7 @@
 -- What CBOR bytes denote (RFC 8949 section 3), in this profile: whole numbers of -2^63 to 2^64 - 1,
 -- text, arrays, maps whose keys are texts that differ, false, true and null. A value is one of
 -- `serde_json`.
-use Rattle.std.specs.Prelude.{ℕ, zero, suc, ◌+◌, ◌*◌, ◌/◌, ◌%◌, ◌^◌, ◌==◌, ◌++◌, negsuc, List, [], ◌∷◌, length, take, drop, true, false, ltb, if◌then◌else◌, Option, Some, None, is_some}
+use Rattle.std.specs.Prelude.{ℕ, zero, suc, ◌+◌, ◌*◌, ◌/◌, ◌%◌, ◌^◌, ◌==◌, ◌++◌, negsuc, List, [], ◌∷◌, length, take, drop, Bool, true, false, ltb, if◌then◌else◌, Option, Some, None, is_some}
 use Rattle.std.specs.Option.{option_or}
 use Rattle.std.specs.Str.{is_utf8}
 use Rattle.serde_json.specs.Data.{unsigned, negative, Data, null, boolean, number, string, array, object, Members, no_members, put}
@@ -131,7 +131,12 @@ body_at inner Text n bytes = text_at n bytes >>= λ t. Some (string t.0, t.1)
 body_at inner Array n bytes = inner >>= λ one. array_at one n bytes
 body_at inner Map n bytes = inner >>= λ one. map_at one n bytes
 
--- false, true and null are the bytes f4, f5 and f6 (section 3.3)
+-- false, true and null
+abbrev pub simple_data : Option Bool → Data
+simple_data None = null
+simple_data (Some b) = boolean b
+
+-- they are the bytes f4, f5 and f6 (section 3.3)
 unfoldable pub simple_at : List ℕ → Option (Data × List ℕ)
 simple_at [] = None
 simple_at (b ∷ bytes) =

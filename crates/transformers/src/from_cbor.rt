@@ -3,7 +3,7 @@ ghost use Rattle.transformers.specs.Keeps.{Fits};
 ghost use Rattle.transformers.specs.Kinds.{CborToJson, TakesCbor};
 ghost use Rattle.transformers.specs.declared.refused.Refused.TheVariants.{Content, Memory};
 
-use crate::item::value_of;
+use crate::item::text_of;
 use crate::refused::Refused;
 use std::alloc::Global;
 
@@ -19,6 +19,5 @@ pub fn cbor_json(alloc: Global, input: &[u8]) -> Result<Vec<u8>, Refused>
     ensures refused { (result ≡ Err Content) ↔ (¬ TakesCbor input.now) }
     ensures memory { result ≡ Err Memory → TakesCbor input.now }
 {
-    let value = value_of(alloc, input)?;
-    Ok(value.to_string(alloc)?.into_bytes())
+    text_of(alloc, input)
 }

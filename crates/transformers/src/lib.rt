@@ -20,6 +20,7 @@ mod refused;
 mod relation;
 mod stored;
 mod taken;
+mod text;
 mod write;
 
 pub use apply_fault::ApplyFault;
