@@ -1,9 +1,10 @@
 -- What an edge does to the text that it stands for.
-use Rattle.std.proofs.Common.{◌≡◌, ◌⊎◌, ◌&&◌, not, inl, inr, ℕ, ◌≤◌, ◌<◌, ◌+◌, List, [], ◌∷◌, ◌++◌, length, refl, sym, ap, subst, ◌∙◌, arith, append_assoc, Bool, true, false, Option, Some, None, IsSome, Result, Ok, Err, IfOk, OnErr}
+use Rattle.std.proofs.Common.{◌≡◌, ◌⊎◌, ◌&&◌, not, inl, inr, ℕ, ◌≤◌, ◌<◌, ◌+◌, List, [], ◌∷◌, ◌++◌, length, drop, refl, sym, ap, subst, ◌∙◌, arith, append_assoc, Bool, true, false, Option, Some, None, IsSome, Result, Ok, Err, IfOk, OnErr}
 use Rattle.httparse.specs.Grammar.{RequestHead, ChunkLine, chunk_size, HasNoSection}
 use Rattle.httparse.specs.Spans.{RequestOverflows, SectionOverflows}
 use Rattle.http_edge.specs.declared.memory.Memory.{Memory}
 use Rattle.http_edge.specs.declared.request.BadKind.{BadKind}
+use Rattle.http_edge.specs.declared.request.Incoming.{Incoming}
 use Rattle.http_edge.specs.declared.framing.Framing.{Framing}
 use Rattle.http_edge.specs.declared.framing.Framing.TheVariants.{Chunked}
 use Rattle.http_edge.specs.declared.body.Left.{Left}
@@ -12,14 +13,15 @@ use Rattle.http_edge.specs.declared.body.Fill.{Fill}
 use Rattle.http_edge.specs.declared.body.Fill.TheVariants as fill
 use Rattle.http_edge.specs.declared.begun.Begun.{Begun}
 use Rattle.http_edge.specs.declared.head.Start.{Start}
-use Rattle.http_edge.specs.declared.head.Start.TheVariants.{Bad}
+use Rattle.http_edge.specs.declared.head.Start.TheVariants.{Bad, Head}
 use Rattle.http_edge.specs.Framing.{framing}
-use Rattle.http_edge.specs.Requests.{Content, content, expects}
-use Rattle.http_edge.specs.Reading.{BeginsWith, TakesBody, NeverTakes, IsRefused, Item, asked, bad, First, HasNone}
+use Rattle.http_edge.specs.Requests.{Content, content, content_of, expects}
+use Rattle.http_edge.specs.Reading.{BeginsWith, TakesBody, NeverTakes, Spells, IsRefused, Item, asked, bad, First, HasNone}
 use Rattle.http_edge.specs.Chunks.{BeginsLine, BeginsTrailers, NeverTrailers, RefusedBehind, TakesChunks, FailsChunks}
 use Rattle.http_edge.specs.Bodies.{SoFar, Chunks, BehindLine, NoBody, OpenTrailers, Comes}
-use Rattle.http_edge.specs.Edges.{GoesOn, IsStart, StandsBegun, HeadWaits, TrailersWait, Waits, HasTooMany, Expects, WaitsIn, Leaves, FillsBegun, FillsIn}
+use Rattle.http_edge.specs.Edges.{GoesOn, IsStart, StandsBegun, HeadWaits, TrailersWait, Waits, HasTooMany, Expects, StandsIn, WaitsIn, Leaves, Falls, FillsBegun, FillsIn}
 use Rattle.http_edge.proofs.Chunking.{chunk_on, line_on, line_never, same_line}
+use Rattle.http_edge.proofs.Heading.{nothing_waits}
 use Rattle.http_edge.proofs.Lefts.{splits, splits_fail}
 use Rattle.http_edge.proofs.Readings.{same_head, begins_on, never_and_begins}
 
@@ -75,6 +77,44 @@ pub refused : (o : Option Begun) (unread text : List ℕ) (start : Start) (k : B
 refused o unread text start k e is r s =
     let q : IsRefused unread k = subst (λ (x : Start). IsStart unread x) is r in
     subst (λ (t : List ℕ). IsRefused t k) (sym (text_is o unread text e s)) q
+
+-- a request without a body is whole with its head
+pub whole_at : (o : Option Begun) (unread text : List ℕ) (start : Start) (b : Begun) (n : ℕ) → o ≡ None → start ≡ Head b n → b.left ≡ Bytes 0 → IsStart unread start → StandsBegun o unread text → First text (asked (content b.request)) (drop n unread)
+whole_at o unread text start b n e is left r s =
+    let rest = drop n unread in
+    let x : IsStart unread (Head b n) = subst (λ (y : Start). IsStart unread y) is r in
+    let so : SoFar (framing x.0) (Bytes 0) [] rest rest = subst (λ (l : Left). SoFar (framing x.0) l [] rest rest) left x.3 in
+    let none : (content b.request).body ≡ [] = ap (λ (c : Content). c.body) x.4 in
+    let empty : TakesBody (framing x.0) rest [] rest = subst (λ (f : Framing). TakesBody f rest [] rest) (sym so.0) (refl, refl) in
+    subst (λ (t : List ℕ). Spells t (content b.request) rest) (sym (text_is o unread text e s)) (record {
+      head = x.0;
+      behind = rest;
+      begins = x.1;
+      body = subst (λ (y : List ℕ). TakesBody (framing x.0) rest y rest) (sym none) empty;
+      content = x.4 ∙ ap (λ (y : List ℕ). content_of x.0 y) (sym none);
+    })
+
+-- after a request whose connection stays open, nothing is begun
+pub stays_open : (close waits : Bool) (o : Option Begun) (unread : List ℕ) → waits ≡ false → o ≡ None → ((close ≡ true) × (close ≡ true)) ⊎ ((close ≡ false) × StandsIn close waits o unread unread)
+stays_open true waits o unread f e = inl (refl, refl)
+stays_open false waits o unread f e =
+    inr (refl, (refl, subst (λ (x : Option Begun). StandsBegun x unread unread) (sym e) refl, λ w. absurd (let differ = sym w ∙ f in cc)))
+
+-- where nothing is unread, a head is waited for
+
+pub empty_waits : (o : Option Begun) (unread text : List ℕ) → o ≡ None → unread ≡ [] → StandsBegun o unread text → HeadWaits text
+empty_waits o unread text e none s = subst (λ (t : List ℕ). HeadWaits t) (sym (text_is o unread text e s ∙ none)) nothing_waits
+
+pub empty_leaves : (o : Option Begun) (unread text : List ℕ) → o ≡ None → unread ≡ [] → StandsBegun o unread text → WaitsIn o text × Leaves text unread
+empty_leaves o unread text e none s =
+    let waits = empty_waits o unread text e none s in
+    (subst (λ (x : Option Begun). WaitsIn x text) (sym e) waits, inl (waits.0, sym (text_is o unread text e s)))
+
+-- what leaves less to read than was left at last leaves less than at first
+pub falls_from : (r : Result (Option Incoming) Memory) (old mid new : ℕ) → mid ≤ old → IfOk r (λ i. Falls i mid new) → IfOk r (λ i. Falls i old new)
+falls_from (Ok None) old mid new le x = omega (arith, le, x)
+falls_from (Ok (Some i)) old mid new le x = omega (arith, le, x)
+falls_from (Err m) old mid new le x = x
 
 -- the body of the request begun
 

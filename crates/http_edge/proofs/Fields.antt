@@ -1,15 +1,12 @@
 -- The fields of a head: what the parser takes as a name or a value is one for the fields' map.
-use Rattle.std.proofs.Common.{◌≡◌, ℕ, List, [], ◌∷◌, ◌+◌, ◌≤◌, ◌<◌, length, map, drop, get_or, Bool, true, false, subst, arith, refl, sym, ap, ◌∙◌, add-one, All}
+use Rattle.std.proofs.Common.{◌≡◌, ℕ, List, [], ◌≤◌, ◌<◌, length, map, get_or, Bool, subst, arith, refl, sym, ap, ◌∙◌, All}
 use Rattle.std.specs.Prelude.{IsTrue}
-use Rattle.std.proofs.Math.Seq.{drop-cons}
-use Rattle.std.proofs.Math.ListN.{drop_of_length-le}
 use Rattle.std.proofs.lemmas.List.{get_or-map, length-map}
 use Rattle.httparse.specs.Grammar.{AllPass, is_value_byte, Field, IsField, field_value, lf}
 use Rattle.httparse.specs.Spans.{name_and_value, header_bytes, IsHeaderWithin}
 use Rattle.httparse.specs.declared.spans.HeaderSpan.{HeaderSpan}
 use Rattle.httparse.proofs.RunLemmas.{length-slice_range}
 use Rattle.httparse.proofs.TrimLemmas.{AllPass-trim_ows}
-use Rattle.http_edge.specs.Lists.{lists, field_lists}
 use Rattle.http_edge.specs.Requests.{IsFieldOf}
 use Rattle.httparse.specs.Grammar as grammar
 use Rattle.http_header.specs.Token as token
@@ -45,29 +42,3 @@ are_fields buf spans fields e valid within small k d lt =
       short = omega (arith, size, small, w.0.1);
       value = subst (AllPass is_value_byte) (sym (ap (λ (p : List ℕ × List ℕ). p.1) at)) (AllPass-trim_ows is_value_byte (get_or fields k nothing).raw v.raw);
     }
-
--- going over fields in search of a member
-
-pub lists_here : (bytes : HeaderSpan → List ℕ × List ℕ) (name member : List ℕ) (spans : List HeaderSpan) (i : ℕ) (s d : HeaderSpan) (total : Bool)
-    → i < length spans → s ≡ get_or spans i d → field_lists name member (bytes s) ≡ true → lists name member (map bytes (drop i spans)) ≡ total → true ≡ total
-unfolding lists
-lists_here bytes name member spans i s d total lt is found e =
-    let front : drop i spans ≡ s ∷ drop (i + 1) spans = rw (add-one, is) (drop-cons spans i d lt) in
-    let step : lists name member (map bytes (s ∷ drop (i + 1) spans)) ≡ true = rw found refl in
-    sym step ∙ ap (λ (l : List HeaderSpan). lists name member (map bytes l)) (sym front) ∙ e
-
-pub lists_on : (bytes : HeaderSpan → List ℕ × List ℕ) (name member : List ℕ) (spans : List HeaderSpan) (i : ℕ) (s d : HeaderSpan) (total : Bool)
-    → i < length spans → s ≡ get_or spans i d → field_lists name member (bytes s) ≡ false → lists name member (map bytes (drop i spans)) ≡ total → lists name member (map bytes (drop (i + 1) spans)) ≡ total
-unfolding lists
-lists_on bytes name member spans i s d total lt is other e =
-    let front : drop i spans ≡ s ∷ drop (i + 1) spans = rw (add-one, is) (drop-cons spans i d lt) in
-    let step : lists name member (map bytes (s ∷ drop (i + 1) spans)) ≡ lists name member (map bytes (drop (i + 1) spans)) = rw other refl in
-    sym step ∙ ap (λ (l : List HeaderSpan). lists name member (map bytes l)) (sym front) ∙ e
-
-pub lists_end : (bytes : HeaderSpan → List ℕ × List ℕ) (name member : List ℕ) (spans : List HeaderSpan) (i : ℕ) (total : Bool)
-    → length spans ≤ i → lists name member (map bytes (drop i spans)) ≡ total → false ≡ total
-unfolding lists
-lists_end bytes name member spans i total le e =
-    let none : drop i spans ≡ [] = drop_of_length-le spans le in
-    let step : lists name member (map bytes []) ≡ false = refl in
-    sym step ∙ ap (λ (l : List HeaderSpan). lists name member (map bytes l)) (sym none) ∙ e

@@ -1,25 +1,26 @@
--- Loops over fields and over digits.
-use Rattle.std.proofs.Common.{rules, tests, ◌≡◌, ◌⊎◌, inl, inr, ℕ, suc, ◌≤◌, ◌<◌, ◌+◌, ◌-◌, ◌*◌, min, Bool, true, false, ltb, cond, List, [], ◌∷◌, ◌++◌, length, map, drop, get_or, Option, Some, None, option_map, refl, sym, ap, ◌∙◌, arith, add-one}
+-- What is found in fields, and loops over digits.
+use Rattle.std.proofs.Common.{rules, tests, ◌≡◌, ◌⊎◌, inl, inr, ℕ, ◌≤◌, ◌<◌, ◌+◌, ◌-◌, ◌*◌, min, Bool, true, false, ◌||◌, ltb, cond, List, [], ◌∷◌, ◌++◌, length, drop, get_or, refl, sym, ap, ◌∙◌, arith, add-one}
 use Rattle.std.proofs.Math.Seq.{drop-cons}
 use Rattle.std.proofs.Math.ListN.{drop_of_length-le}
-use Rattle.std.proofs.lemmas.List.{length-append}
+use Rattle.std.proofs.lemmas.List.{length-append, append-nil}
+use Rattle.std.proofs.lemmas.List.Folds.{list_any-append}
 use Rattle.std.proofs.lemmas.Bool.{le-ltb, lt-ltb, cases_lt}
 use Rattle.std.proofs.lemmas.Str.{digit_value_digit}
 use Rattle.std.specs.Int.{IsInRange}
-use Rattle.std.specs.List.{list_all}
+use Rattle.std.specs.List.{list_all, list_any}
 use Rattle.std.specs.Str.Parse.{digits_value_after}
 use Rattle.std.specs.Char.{is_ascii_digit, digit_value}
 use Rattle.std.specs.Prelude.{IsTrue, bytes_eq}
-use Rattle.std.specs.Option.{is_some}
 use Rattle.std.specs.Bool.{Decides}
 use Rattle.std.proofs.lemmas.Slice.Eq.{bytes_eq-Decides}
-use Rattle.httparse.specs.declared.spans.HeaderSpan.{HeaderSpan}
 use Rattle.http_header.specs.Token.{lowercase}
 use Rattle.http_edge.specs.declared.framing.Framing.{Framing}
 use Rattle.http_edge.specs.declared.framing.Framing.TheVariants.{Sized, Refused}
 use Rattle.http_edge.specs.declared.request.BadKind.TheVariants.{Syntax, Large}
-use Rattle.http_edge.specs.Framing.{within_limit, sized_at, as_list}
-use Rattle.http_edge.specs.Lists.{named, same_name}
+use Rattle.http_edge.specs.declared.framing.Values.{Values}
+use Rattle.http_edge.specs.declared.framing.Values.TheVariants.{Nothing, One, More}
+use Rattle.http_edge.specs.Framing.{within_limit, sized_at, Finds}
+use Rattle.http_edge.specs.Lists.{named, same_name, lists, field_lists}
 
 -- The framing that digits give after those of n; all above 65,536 are one.
 unfoldable pub length_from : ℕ → List ℕ → Framing
@@ -90,43 +91,61 @@ digits_large n bytes i total le large e =
     let step : length_from n [] ≡ Refused Large = rw test refl in
     sym step ∙ ap (length_from n) (sym none) ∙ e
 
-pub name_goes_on : {S : Type 0} (bytes : S → List ℕ × List ℕ) (name : List ℕ) (one : List (List ℕ)) (v : List ℕ) (spans : List S) (i : ℕ) (s d : S) (total : List (List ℕ))
-    → i < length spans → s ≡ get_or spans i d → same_name (bytes s).0 name ≡ true → one ≡ [] → v ≡ (bytes s).1
-    → one ++ named name (map bytes (drop i spans)) ≡ total → (v ∷ []) ++ named name (map bytes (drop (i + 1) spans)) ≡ total
-name_goes_on {S = S} bytes name one v spans i s d total lt is same none value e =
-    let front : drop i spans ≡ s ∷ drop (i + 1) spans = rw (add-one, is) (drop-cons spans i d lt) in
-    let step : one ++ named name (map bytes (s ∷ drop (i + 1) spans)) ≡ (v ∷ []) ++ named name (map bytes (drop (i + 1) spans)) = rw (none, same, value) refl in
-    sym step ∙ ap (λ (l : List S). one ++ named name (map bytes l)) (sym front) ∙ e
+-- one field more
 
-pub name_passes : {S : Type 0} (bytes : S → List ℕ × List ℕ) (name : List ℕ) (one : List (List ℕ)) (spans : List S) (i : ℕ) (s d : S) (total : List (List ℕ))
-    → i < length spans → s ≡ get_or spans i d → same_name (bytes s).0 name ≡ false
-    → one ++ named name (map bytes (drop i spans)) ≡ total → one ++ named name (map bytes (drop (i + 1) spans)) ≡ total
-name_passes {S = S} bytes name one spans i s d total lt is other e =
-    let front : drop i spans ≡ s ∷ drop (i + 1) spans = rw (add-one, is) (drop-cons spans i d lt) in
-    let step : one ++ named name (map bytes (s ∷ drop (i + 1) spans)) ≡ one ++ named name (map bytes (drop (i + 1) spans)) = rw other refl in
-    sym step ∙ ap (λ (l : List S). one ++ named name (map bytes l)) (sym front) ∙ e
+or_false : (t : Bool) → (t || false) ≡ t
+or_false true = refl
+or_false false = refl
 
-pub name_again : {S : Type 0} (bytes : S → List ℕ × List ℕ) (name : List ℕ) (one : List (List ℕ)) (spans : List S) (i : ℕ) (s d : S) (total : List (List ℕ))
-    → i < length spans → s ≡ get_or spans i d → same_name (bytes s).0 name ≡ true → 0 < length one
-    → one ++ named name (map bytes (drop i spans)) ≡ total → 1 < length total
-name_again bytes name one spans i s d total lt is same some e =
-    let front : drop i spans ≡ s ∷ drop (i + 1) spans = rw (add-one, is) (drop-cons spans i d lt) in
-    let step : named name (map bytes (drop i spans)) ≡ (bytes s).1 ∷ named name (map bytes (drop (i + 1) spans)) = rw front (rw same refl) in
-    let more : length (one ++ named name (map bytes (drop i spans))) ≡ length one + length (named name (map bytes (drop i spans))) = length-append one _ in
-    let size : length (named name (map bytes (drop i spans))) ≡ suc (length (named name (map bytes (drop (i + 1) spans)))) = ap length step in
-    let whole : length (one ++ named name (map bytes (drop i spans))) ≡ length total = ap length e in
-    omega (arith, more, size, whole, some)
+push_case : (t : Bool) (v : List ℕ) (xs ys zs : List (List ℕ)) → xs ≡ ys ++ zs → cond t (v ∷ xs) xs ≡ cond t (v ∷ ys) ys ++ zs
+push_case true v xs ys zs e = ap (λ (l : List (List ℕ)). v ∷ l) e
+push_case false v xs ys zs e = e
 
-pub some_is : {A B : Type 0} (f : A → B) (o : Option A) → is_some o ≡ true → 0 < length (as_list (option_map f o))
-some_is f None e = absurd cc
-some_is f (Some x) e = omega arith
+named_push : (name : List ℕ) (fields : List (List ℕ × List ℕ)) (f : List ℕ × List ℕ) → named name (fields ++ f ∷ []) ≡ named name fields ++ named name (f ∷ [])
+named_push name [] f = refl
+named_push name (g ∷ fields) f = push_case (same_name g.0 name) g.1 (named name (fields ++ f ∷ [])) (named name fields) (named name (f ∷ [])) (named_push name fields f)
 
-pub none_is : {A B : Type 0} (f : A → B) (o : Option A) → is_some o ≡ false → as_list (option_map f o) ≡ []
-none_is f None e = refl
-none_is f (Some x) e = absurd cc
+-- a field of another name
+pub other_name : (wanted : List ℕ) (fields : List (List ℕ × List ℕ)) (name value : List ℕ) → same_name name wanted ≡ false → named wanted fields ≡ named wanted (fields ++ (name, value) ∷ [])
+other_name wanted fields name value other =
+    let none : named wanted ((name, value) ∷ []) ≡ [] = rw other refl in
+    sym (named_push wanted fields (name, value) ∙ ap (λ (l : List (List ℕ)). named wanted fields ++ l) none ∙ append-nil (named wanted fields))
 
-abbrev pub nowhere : HeaderSpan
-nowhere = record { name = record { start = 0; end = 0 }; value = record { start = 0; end = 0 } }
+-- a field of the name
+that_name : (wanted : List ℕ) (fields : List (List ℕ × List ℕ)) (name value : List ℕ) → same_name name wanted ≡ true → named wanted (fields ++ (name, value) ∷ []) ≡ named wanted fields ++ value ∷ []
+that_name wanted fields name value same =
+    let one : named wanted ((name, value) ∷ []) ≡ value ∷ [] = rw same refl in
+    named_push wanted fields (name, value) ∙ ap (λ (l : List (List ℕ)). named wanted fields ++ l) one
+
+pub first_value : (wanted : List ℕ) (fields : List (List ℕ × List ℕ)) (name value : List ℕ) → same_name name wanted ≡ true → named wanted fields ≡ [] → named wanted (fields ++ (name, value) ∷ []) ≡ value ∷ []
+first_value wanted fields name value same none = that_name wanted fields name value same ∙ ap (λ (l : List (List ℕ)). l ++ value ∷ []) none
+
+pub value_again : (wanted : List ℕ) (fields : List (List ℕ × List ℕ)) (name value : List ℕ) → same_name name wanted ≡ true → 0 < length (named wanted fields) → 1 < length (named wanted (fields ++ (name, value) ∷ []))
+value_again wanted fields name value same some =
+    let size : length (named wanted (fields ++ (name, value) ∷ [])) ≡ length (named wanted fields ++ value ∷ []) = ap length (that_name wanted fields name value same) in
+    let parts : length (named wanted fields ++ value ∷ []) ≡ length (named wanted fields) + 1 = length-append (named wanted fields) (value ∷ []) in
+    omega (arith, size, parts, some)
+
+pub found_some : (v : Values) (vs : List (List ℕ)) → (v ≡ Nothing → ⊥) → Finds v vs → 0 < length vs
+found_some Nothing vs some f = absurd (some refl)
+found_some (One w) vs some f = rw f (omega arith)
+found_some More vs some f = omega (arith, f)
+
+lists_push : (name member : List ℕ) (fields : List (List ℕ × List ℕ)) (f : List ℕ × List ℕ) → lists name member (fields ++ f ∷ []) ≡ (lists name member fields || field_lists name member f)
+unfolding lists
+lists_push name member fields f =
+    let one : list_any (field_lists name member) (f ∷ []) ≡ field_lists name member f = or_false (field_lists name member f) in
+    list_any-append (field_lists name member) fields (f ∷ []) ∙ ap (λ (t : Bool). list_any (field_lists name member) fields || t) one
+
+pub listed_before : (name member : List ℕ) (fields : List (List ℕ × List ℕ)) (f : List ℕ × List ℕ) (old : Bool) → old ≡ lists name member fields → old ≡ true → old ≡ lists name member (fields ++ f ∷ [])
+listed_before name member fields f old is so =
+    let before : lists name member fields ≡ true = sym is ∙ so in
+    so ∙ sym (lists_push name member fields f ∙ rw before refl)
+
+pub listed_last : (name member : List ℕ) (fields : List (List ℕ × List ℕ)) (f : List ℕ × List ℕ) (old now : Bool) → old ≡ lists name member fields → old ≡ false → now ≡ field_lists name member f → now ≡ lists name member (fields ++ f ∷ [])
+listed_last name member fields f old now is not_so e =
+    let before : lists name member fields ≡ false = sym is ∙ not_so in
+    e ∙ sym (lists_push name member fields f ∙ rw before refl)
 
 by_cases : (x y : List ℕ) (r t : Bool) → Decides t (x ≡ y) → (IsTrue r → x ≡ y) → (x ≡ y → IsTrue r) → r ≡ t
 by_cases x y true true d f g = refl

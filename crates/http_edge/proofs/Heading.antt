@@ -1,10 +1,15 @@
 -- What the parser's answer says of the head at the front of unread bytes.
 use Rattle.std.proofs.Common.{◌≡◌, inl, inr, ℕ, ◌≤◌, ◌<◌, ◌+◌, List, [], ◌∷◌, ◌++◌, length, take, drop, map, Bool, refl, sym, ap, subst, ◌∙◌, arith}
-use Rattle.std.proofs.lemmas.List.{length-map, length-append, length-take-le}
+use Rattle.std.proofs.lemmas.List.{length-map, length-append, length-take-le, append-nil}
 use Rattle.std.proofs.Math.Seq.{take-length}
 use Rattle.std.specs.List.{flat_map}
+use Rattle.std.specs.Prelude.{IsTrue}
 use Rattle.httparse.specs.Ascii.{space}
-use Rattle.httparse.specs.Grammar.{RequestHead, HasNoRequest, LineEnd, crlf, lf, print_end, print_blank, print_version, print_section, print_field, print_request}
+use Rattle.std.proofs.lemmas.List.Elements.{All-nil, All-cons}
+use Rattle.std.proofs.lemmas.Str.{IsUtf8-from_ascii}
+use Rattle.std.proofs.lemmas.Str.Ascii.{IsAscii-nil, IsAscii-cons}
+use Rattle.http_edge.specs.Edges.{HeadWaits}
+use Rattle.httparse.specs.Grammar.{RequestHead, IsRequestHead, is_token_byte, is_uri_byte, HasNoRequest, LineEnd, crlf, lf, print_end, print_blank, print_version, print_section, print_field, print_request}
 use Rattle.httparse.specs.Spans.{name_and_value, header_bytes, span_bytes, IsRequestWithin, IsRequestAt}
 use Rattle.httparse.specs.declared.spans.HeaderSpan.{HeaderSpan}
 use Rattle.httparse.specs.declared.spans.RequestSpans.{RequestSpans}
@@ -55,3 +60,27 @@ head_is_some h =
     let whole : length (front ++ print_section h.fields h.last) ≡ length front + length (print_section h.fields h.last) = length-append front (print_section h.fields h.last) in
     let section : length (print_section h.fields h.last) ≡ length (flat_map print_field h.fields) + length (print_end h.last) = length-append (flat_map print_field h.fields) (print_end h.last) in
     omega (arith, whole, section, end_is_some h.last)
+
+-- nothing may become a head, and is none
+
+no_head : HasNoRequest []
+no_head h rest r =
+    let size : 0 ≡ length (print_request h ++ rest) = ap length r.1 in
+    let parts : length (print_request h ++ rest) ≡ length (print_request h) + length rest = length-append (print_request h) rest in
+    absurd (omega (arith, size, parts, head_is_some h))
+
+shortest : RequestHead
+shortest = record { blank = []; method = 65 ∷ []; target = 47 ∷ []; minor = 1; line_end = crlf; fields = []; last = crlf }
+
+shortest_is : IsRequestHead shortest
+unfolding is_token_byte shortest
+shortest_is = record {
+  method = (omega arith, All-cons (λ b. IsTrue (is_token_byte b)) 65 [] refl (All-nil _));
+  target = (omega arith, All-cons (λ b. IsTrue (is_uri_byte b)) 47 [] refl (All-nil _));
+  target_text = IsUtf8-from_ascii (47 ∷ []) (IsAscii-cons 47 [] (omega arith) IsAscii-nil);
+  minor = omega arith;
+  fields = All-nil _;
+}
+
+pub nothing_waits : HeadWaits []
+nothing_waits = (no_head, inl (print_request shortest, shortest, (shortest_is, sym (append-nil _))), omega arith)

@@ -11,8 +11,6 @@ use Rattle.http_edge.specs.declared.begun.Begun.{Begun}
 use Rattle.http_edge.specs.declared.head.Start.{Start}
 use Rattle.http_edge.specs.declared.head.Start.TheVariants.{Wait, Bad, Head}
 use Rattle.http_edge.specs.declared.edge.Edge.{Edge}
-use Rattle.http_edge.specs.declared.edge.Begin.{Begin}
-use Rattle.http_edge.specs.declared.edge.Begin.TheVariants as begin
 use Rattle.http_edge.specs.declared.body.Fill.{Fill}
 use Rattle.http_edge.specs.declared.body.Fill.TheVariants as fill
 use Rattle.http_edge.specs.Framing.{framing}
@@ -129,11 +127,6 @@ pub record Expects (text : List ℕ) : Type 0 where
 abbrev pub IsAsking : Edge → List ℕ → Type 0
 IsAsking e text = IsBegun e × (is_told e ≡ false) × Expects text
 
-abbrev pub Begins : Result Begin Memory → Edge → List ℕ → Type 0
-Begins (Ok (begin.Done result)) e text = Steps (Ok result) e text
-Begins (Ok begin.Begun) e text = Stands e text × IsBegun e
-Begins (Err m) e text = Stands e text
-
 -- The request begun has its whole body, and the unread bytes stand after it.
 pub record IsWhole (c : Content) (rest text : List ℕ) : Type 0 where
   pub head : RequestHead
@@ -197,13 +190,3 @@ work_left e = 2 * length e.unread + begun_len e.begun + (if e.ended then 0 else 
 abbrev pub Falls : Option Incoming → ℕ → ℕ → Type 0
 Falls None old new = new ≤ old
 Falls (Some i) old new = new < old
-
--- What beginning a request leaves to read.
-abbrev pub BeginFalls : Begin → ℕ → ℕ → Type 0
-BeginFalls (begin.Done result) old new = Falls result old new
-BeginFalls begin.Begun old new = new ≤ old
-
--- An item after which nothing is begun closes the connection.
-abbrev pub BeginCloses : Begin → Type 0
-BeginCloses (begin.Done (Some i)) = closes (item i) ≡ true
-BeginCloses _ = ⊤

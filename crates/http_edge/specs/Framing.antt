@@ -1,5 +1,5 @@
 -- How the body after a head is framed, and which heads are refused (RFC 9112, sections 3.2 and 6).
-use Rattle.std.specs.Prelude.{◌≡◌, ℕ, ◌<◌, List, [], ◌∷◌, length, map, not, ◌==◌, ◌&&◌, nat_lt, if◌then◌else◌, codes, Option, Some, None}
+use Rattle.std.specs.Prelude.{◌≡◌, ℕ, ◌<◌, List, [], ◌∷◌, length, map, not, ◌==◌, ◌&&◌, nat_lt, if◌then◌else◌, codes}
 use Rattle.std.specs.Char.{is_ascii_digit}
 use Rattle.std.specs.List.{list_all}
 use Rattle.std.specs.Str.Parse.{digits_value}
@@ -9,9 +9,10 @@ use Rattle.httparse.specs.Spans.{name_and_value}
 use Rattle.http_edge.specs.declared.request.BadKind.TheVariants.{Syntax, Large, Coding}
 use Rattle.http_edge.specs.declared.framing.Framing.{Framing}
 use Rattle.http_edge.specs.declared.framing.Framing.TheVariants.{Sized, Chunked, Refused}
+use Rattle.http_edge.specs.declared.framing.Found.{Found}
 use Rattle.http_edge.specs.declared.framing.Values.{Values}
 use Rattle.http_edge.specs.declared.framing.Values.TheVariants.{Nothing, One, More}
-use Rattle.http_edge.specs.Lists.{same_name, named}
+use Rattle.http_edge.specs.Lists.{same_name, named, lists}
 
 -- The framing by a length.
 abbrev pub within_limit : ℕ → Framing
@@ -59,6 +60,10 @@ Finds Nothing vs = vs ≡ []
 Finds (One v) vs = vs ≡ v.now ∷ []
 Finds More vs = 1 < length vs
 
-abbrev pub as_list : {A : Type 0} → Option A → List A
-as_list None = []
-as_list (Some x) = x ∷ []
+-- What was found of the fields that say how a message is framed, and what its client wants.
+abbrev pub IsFound : Found → List (List ℕ × List ℕ) → Type 0
+IsFound f fields = Finds f.hosts (named (codes "host") fields)
+    × Finds f.codings (named (codes "transfer-encoding") fields)
+    × Finds f.lengths (named (codes "content-length") fields)
+    × (f.closes ≡ lists (codes "connection") (codes "close") fields)
+    × (f.expects ≡ lists (codes "expect") (codes "100-continue") fields)

@@ -49,6 +49,13 @@ const LINE_END: [u8; 2] = *b"\r\n";
 /// The most bytes of a chunk's line.
 const LINE: usize = 256;
 
+/// Nothing of the body is missing.
+pub fn is_all(left: Left) -> bool
+    ensures { IsTrue result → left ≡ Bytes 0 }
+{
+    matches!(left, Left::Bytes(0))
+}
+
 /// Moves unread bytes into the body, as far as they are its.
 pub fn fill_body(left: &mut Left, body: &mut Vec<u8>, unread: &mut Unread) -> Result<Fill, Memory>
     ensures ok { IfOk result (λ fill.

@@ -3,19 +3,12 @@
 ghost use Rattle.std.specs.Prelude.{◌≡◌, ◌≤◌, ◌<◌, ◌+◌, ◌-◌, ◌*◌, ◌++◌, ℕ, List, [], take, length, min, IfOk, IfSome, OnErr, IsSome, IsTrue, ◌↔◌, ◌||◌, false, true, Ok, None};
 
 use crate::begun::Begun;
-use crate::body::{Fill, fill_body};
+use crate::body::{Fill, fill_body, is_all};
 use crate::head::{Start, start_of};
 use crate::memory::Memory;
 use crate::request::Incoming;
 use crate::unread::Unread;
 use std::alloc::Global;
-
-/// What `next` answers without a body, or that one comes in.
-#[derive(Drop)]
-enum Begin {
-    Done(Option<Incoming>),
-    Begun,
-}
 
 /// The unread bytes of a connection, and the request begun.
 #[derive(Drop)]
@@ -31,7 +24,7 @@ pub struct Edge {
 
 impl Edge {
     ghost use Rattle.http_edge.specs.Reading.{closes};
-    ghost use Rattle.http_edge.specs.Edges.{Stands, Expects, item, Steps, Begins, Fills, IsBegun, IsWholeIn, IsAsking, IsUnread, Leaves, LeavesBytes, Falls, BeginFalls, BeginCloses, is_told, unread_len, work_left};
+    ghost use Rattle.http_edge.specs.Edges.{Stands, Expects, item, Steps, Fills, IsBegun, IsWholeIn, IsAsking, IsUnread, Leaves, LeavesBytes, Falls, is_told, unread_len, work_left};
     ghost use Rattle.http_edge.specs.Edges as spec;
 
     /// No bytes, and room for 8,192.
@@ -136,20 +129,14 @@ impl Edge {
         if self.ended || self.waits {
             return Ok(None);
         }
-        if let Begin::Done(result) = self.begin()? {
-            return Ok(result);
+        if self.begun.is_some() {
+            return self.go_on();
         }
-        match self.fill()? {
-            Fill::Whole => Ok(self.whole()),
-            Fill::Wait => {
-                self.waits = true;
-                Ok(None)
-            }
-            Fill::Bad(kind) => {
-                self.ended = true;
-                Ok(Some(Incoming::Bad(kind)))
-            }
+        if self.unread.as_slice().is_empty() {
+            self.waits = true;
+            return Ok(None);
         }
+        self.begin()
     }
 
     /// Whether the request that has begun waits for `100 Continue`: true once for each request
@@ -175,37 +162,75 @@ impl Edge {
         }
     }
 
-    /// Begins the request at the front, where none is begun.
-    fn begin(&mut self) -> Result<Begin, Memory>
+    /// Reads the head at the front, where no request is begun, and then its body. A request without
+    /// a body is whole with its head.
+    fn begin(&mut self) -> Result<Option<Incoming>, Memory>
         requires open { self.old.ended ≡ false }
         requires reads { self.old.waits ≡ false }
-        ensures steps { (text : List ℕ) → Stands self.old text → Begins result self.new text }
-        ensures told { is_told self.new ≡ is_told self.old }
-        ensures less { IfOk result (λ begin.
-            BeginFalls begin (work_left self.old) (work_left self.new)) }
-        ensures closing { IfOk result BeginCloses }
-        ensures stays_open { result ≡ Ok Begin.Begun → self.new.ended ≡ false }
-        ensures still_reads { result ≡ Ok Begin.Begun → self.new.waits ≡ false }
-        ensures begun { result ≡ Ok Begin.Begun → IsBegun self.new }
-        ensures room { result ≡ Ok (Begin.Done None) → unread_len self.new < 8192 }
-        ensures waits { result ≡ Ok (Begin.Done None) → self.new.waits ≡ true }
+        requires none { self.old.begun ≡ None }
+        ensures steps { (text : List ℕ) → Stands self.old text → Steps result self.new text }
+        ensures room { result ≡ Ok None → unread_len self.new < 8192 }
+        ensures waits { result ≡ Ok None → self.new.waits ≡ true }
+        ensures left { result ≡ Ok None → (text : List ℕ)
+            → Stands self.new text → Leaves text self.new.unread }
+        ensures told { is_told self.new ≡ true → is_told self.old ≡ true }
+        ensures fresh { IfOk result (λ found.
+            IfSome found (λ i. closes (item i) ≡ false → is_told self.new ≡ false)) }
+        ensures still_told { result ≡ Ok None → is_told self.new ≡ is_told self.old }
+        ensures told_on_refusal { OnErr result (is_told self.new ≡ is_told self.old) }
+        ensures less { IfOk result (λ item. Falls item (work_left self.old) (work_left self.new)) }
+        ensures behind { IfOk result (λ found. IfSome found (λ i. closes (item i) ≡ false
+            → (text : List ℕ) → Stands self.new text → text ≡ self.new.unread)) }
     {
-        if self.begun.is_some() {
-            return Ok(Begin::Begun);
-        }
         match start_of(self.alloc, self.unread.as_slice())? {
             Start::Wait => {
                 self.waits = true;
-                Ok(Begin::Done(None))
+                Ok(None)
             }
             Start::Bad(kind) => {
                 self.ended = true;
-                Ok(Begin::Done(Some(Incoming::Bad(kind))))
+                Ok(Some(Incoming::Bad(kind)))
             }
             Start::Head(begun, len) => {
                 self.unread.skip(len);
+                if is_all(begun.left) {
+                    self.ended = begun.request.close;
+                    return Ok(Some(Incoming::Request(begun.request)));
+                }
                 self.begun = Some(begun);
-                Ok(Begin::Begun)
+                self.go_on()
+            }
+        }
+    }
+
+    /// Reads on in the body of the request begun.
+    fn go_on(&mut self) -> Result<Option<Incoming>, Memory>
+        requires open { self.old.ended ≡ false }
+        requires reads { self.old.waits ≡ false }
+        requires begun { IsBegun self.old }
+        ensures steps { (text : List ℕ) → Stands self.old text → Steps result self.new text }
+        ensures room { result ≡ Ok None → unread_len self.new < 8192 }
+        ensures waits { result ≡ Ok None → self.new.waits ≡ true }
+        ensures left { result ≡ Ok None → (text : List ℕ)
+            → Stands self.new text → Leaves text self.new.unread }
+        ensures told { is_told self.new ≡ true → is_told self.old ≡ true }
+        ensures fresh { IfOk result (λ found.
+            IfSome found (λ i. closes (item i) ≡ false → is_told self.new ≡ false)) }
+        ensures still_told { result ≡ Ok None → is_told self.new ≡ is_told self.old }
+        ensures told_on_refusal { OnErr result (is_told self.new ≡ is_told self.old) }
+        ensures less { IfOk result (λ item. Falls item (work_left self.old) (work_left self.new)) }
+        ensures behind { IfOk result (λ found. IfSome found (λ i. closes (item i) ≡ false
+            → (text : List ℕ) → Stands self.new text → text ≡ self.new.unread)) }
+    {
+        match self.fill()? {
+            Fill::Whole => Ok(self.whole()),
+            Fill::Wait => {
+                self.waits = true;
+                Ok(None)
+            }
+            Fill::Bad(kind) => {
+                self.ended = true;
+                Ok(Some(Incoming::Bad(kind)))
             }
         }
     }

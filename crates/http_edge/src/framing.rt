@@ -1,10 +1,10 @@
 //! How a body is framed, and which heads are refused (RFC 9112, sections 3.2 and 6).
 
-ghost use Rattle.std.specs.Prelude.{◌≡◌, ℕ, List, length, All, map};
+ghost use Rattle.std.specs.Prelude.{◌≡◌, ◌++◌, ◌∷◌, [], ℕ, List, length, All, map};
 ghost use Rattle.httparse.specs.Spans.{IsHeaderWithin, header_bytes};
 ghost use Rattle.http_edge.specs.Lists.{named};
 ghost use Rattle.http_edge.specs.Lists as spec;
-ghost use Rattle.http_edge.specs.Framing.{framing_of, sized_at, Finds};
+ghost use Rattle.http_edge.specs.Framing.{framing_of, sized_at, Finds, IsFound};
 ghost use Rattle.http_edge.specs.Framing as frames;
 
 use crate::lists::{has_member, is_named};
@@ -28,45 +28,69 @@ pub enum Values<'a> {
     More,
 }
 
-/// The values of the fields of that name.
-fn values_of<'a>(buf: &'a [u8], spans: &[HeaderSpan], name: &[u8]) -> Values<'a>
+/// What the fields of a head say of its message.
+#[derive(Clone, Copy)]
+pub struct Found<'a> {
+    hosts: Values<'a>,
+    codings: Values<'a>,
+    lengths: Values<'a>,
+    /// A Connection field lists `close`.
+    pub closes: bool,
+    /// An Expect field lists `100-continue`.
+    pub expects: bool,
+}
+
+/// What the fields say, in one pass.
+pub fn found_in<'a>(buf: &'a [u8], spans: &[HeaderSpan]) -> Found<'a>
     requires { All (IsHeaderWithin (length buf.now)) spans.now }
-    ensures { Finds result (named name.now (map (header_bytes buf.now) spans.now)) }
+    ensures { IsFound result (map (header_bytes buf.now) spans.now) }
 {
-    let mut one: Option<&[u8]> = None;
+    let mut found = Found {
+        hosts: Values::Nothing,
+        codings: Values::Nothing,
+        lengths: Values::Nothing,
+        closes: false,
+        expects: false,
+    };
     'each: for span in spans {
-        if is_named(span.name.of(buf), name) {
-            if one.is_some() {
-                return Values::More;
-            }
-            one = Some(span.value.of(buf));
-        }
+        found = with_field(found, span.name.of(buf), span.value.of(buf));
     }
-    match one {
-        Some(value) => Values::One(value),
-        None => Values::Nothing,
+    found
+}
+
+/// What the fields say with one more after them.
+fn with_field<'a>(found: Found<'a>, name: &[u8], value: &'a [u8]) -> Found<'a>
+    ensures { (fields : List (List ℕ × List ℕ)) → IsFound found.entry fields
+        → IsFound result (fields ++ (name.now, value.now) ∷ []) }
+{
+    Found {
+        hosts: with_value(found.hosts, b"host", name, value),
+        codings: with_value(found.codings, b"transfer-encoding", name, value),
+        lengths: with_value(found.lengths, b"content-length", name, value),
+        closes: found.closes || field_lists(b"connection", b"close", name, value),
+        expects: found.expects || field_lists(b"expect", b"100-continue", name, value),
     }
 }
 
-/// A field of that name lists the member.
-pub fn lists(buf: &[u8], spans: &[HeaderSpan], name: &[u8], member: &[u8]) -> bool
-    requires { All (IsHeaderWithin (length buf.now)) spans.now }
-    ensures { result ≡ spec.lists name.now member.now (map (header_bytes buf.now) spans.now) }
+/// The values of the fields of the name wanted, with one more field after them.
+fn with_value<'a>(values: Values<'a>, wanted: &[u8], name: &[u8], value: &'a [u8]) -> Values<'a>
+    ensures { (fields : List (List ℕ × List ℕ)) → Finds values.entry (named wanted.now fields)
+        → Finds result (named wanted.now (fields ++ (name.now, value.now) ∷ [])) }
 {
-    'each: for span in spans {
-        if field_lists(buf, span, name, member) {
-            return true;
-        }
+    if !is_named(name, wanted) {
+        return values;
     }
-    false
+    match values {
+        Values::Nothing => Values::One(value),
+        _ => Values::More,
+    }
 }
 
-/// The field has that name and lists the member.
-fn field_lists(buf: &[u8], span: &HeaderSpan, name: &[u8], member: &[u8]) -> bool
-    requires { IsHeaderWithin (length buf.now) span.now }
-    ensures { result ≡ spec.field_lists name.now member.now (header_bytes buf.now span.now) }
+/// The field has the name wanted and lists the member.
+fn field_lists(wanted: &[u8], member: &[u8], name: &[u8], value: &[u8]) -> bool
+    ensures { result ≡ spec.field_lists wanted.now member.now (name.now, value.now) }
 {
-    is_named(span.name.of(buf), name) && has_member(span.value.of(buf), member)
+    is_named(name, wanted) && has_member(value, member)
 }
 
 /// The framing by a Content-Length with that value.
@@ -89,18 +113,17 @@ fn length_at(digits: &[u8]) -> Framing
     Framing::Sized(n)
 }
 
-/// The framing of a head of HTTP/1.`minor`.
+/// The framing of a head of HTTP/1.`minor` by what its fields say.
 #[tactic(auto, unfolding(crate::specs::Framing::framing_of))]
-pub fn framing_at(buf: &[u8], spans: &[HeaderSpan], minor: u8) -> Framing
-    requires { All (IsHeaderWithin (length buf.now)) spans.now }
-    ensures { result ≡ framing_of minor (map (header_bytes buf.now) spans.now) }
+pub fn framing_by(found: &Found<'_>, minor: u8) -> Framing
+    ensures { (fields : List (List ℕ × List ℕ)) → IsFound found.now fields
+        → result ≡ framing_of minor fields }
 {
-    if minor == 1 && !matches!(values_of(buf, spans, b"host"), Values::One(_)) {
+    if minor == 1 && !matches!(found.hosts, Values::One(_)) {
         return Framing::Refused(BadKind::Syntax);
     }
-    let codings = values_of(buf, spans, b"transfer-encoding");
-    let lengths = values_of(buf, spans, b"content-length");
-    match codings {
+    let lengths = found.lengths;
+    match found.codings {
         Values::Nothing => sized_by(lengths),
         _ if minor == 0 || !matches!(lengths, Values::Nothing) => Framing::Refused(BadKind::Syntax),
         Values::One(coding) if is_named(coding, b"chunked") => Framing::Chunked,

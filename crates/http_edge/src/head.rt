@@ -7,13 +7,14 @@ ghost use Rattle.http_header.specs.HeaderMap.{append};
 ghost use Rattle.http_header.specs.Token.{lowercase};
 ghost use Rattle.http_header.specs.FieldValue.{plain_value};
 ghost use Rattle.http_edge.specs.Requests.{content, fields_from, request_from, expects_of, AreFields};
+ghost use Rattle.http_edge.specs.Framing.{IsFound};
 ghost use Rattle.http_edge.specs.Bodies.{SoFar};
 ghost use Rattle.http_edge.specs.Reading.{NeverTakes};
 ghost use Rattle.http_edge.specs.Edges.{IsStart};
 
 use crate::begun::Begun;
 use crate::body::Left;
-use crate::framing::{Framing, framing_at, lists};
+use crate::framing::{Found, Framing, found_in, framing_by};
 use crate::memory::Memory;
 use crate::request::{BadKind, Request, Version};
 use http_header::{HeaderMap, HeaderName, HeaderNameError, HeaderValue, HeaderValueError};
@@ -47,12 +48,13 @@ pub fn start_of(alloc: Global, unread: &[u8]) -> Result<Start, Memory>
         Err(_) => return Ok(Start::Bad(BadKind::Syntax)),
     };
     let spans = &spans[..head.headers];
-    let left = match left_of(framing_at(unread, spans, head.version)) {
+    let found = found_in(unread, spans);
+    let left = match left_of(framing_by(&found, head.version)) {
         Ok(left) => left,
         Err(kind) => return Ok(Start::Bad(kind)),
     };
-    let wants = expects_at(unread, spans, head.version);
-    let request = request_of(alloc, unread, spans, &head, room_of(left))?;
+    let wants = expects_in(&found, head.version);
+    let request = request_of(alloc, unread, spans, &head, &found, room_of(left))?;
     let begun = Begun {
         request,
         left,
@@ -83,11 +85,11 @@ fn room_of(left: Left) -> usize {
 }
 
 /// The client waits for `100 Continue` before it sends the body.
-fn expects_at(unread: &[u8], spans: &[HeaderSpan], minor: u8) -> bool
-    requires { All (IsHeaderWithin (length unread.now)) spans.now }
-    ensures { result ≡ expects_of minor (map (header_bytes unread.now) spans.now) }
+fn expects_in(found: &Found<'_>, minor: u8) -> bool
+    ensures { (fields : List (List ℕ × List ℕ)) → IsFound found.now fields
+        → result ≡ expects_of minor fields }
 {
-    minor == 1 && lists(unread, spans, b"expect", b"100-continue")
+    minor == 1 && found.expects
 }
 
 /// The request without its body.
@@ -96,12 +98,14 @@ fn request_of(
     unread: &[u8],
     spans: &[HeaderSpan],
     head: &RequestSpans,
+    found: &Found<'_>,
     room: usize,
 ) -> Result<Request, Memory>
     requires within { All (IsHeaderWithin (length unread.now)) spans.now }
     requires method { IsWithin (length unread.now) head.now.method }
     requires path { IsWithin (length unread.now) head.now.path }
     requires fields { AreFields unread.now spans.now }
+    requires found { IsFound found.now (map (header_bytes unread.now) spans.now) }
     ensures { IfOk result (λ r.
         content r ≡ request_from (span_bytes unread.now head.now.method)
         (span_bytes unread.now head.now.path) head.now.version
@@ -117,7 +121,7 @@ fn request_of(
         },
         fields: fields_of(alloc, unread, spans)?,
         body: Vec::with_capacity(alloc, room)?,
-        close: head.version == 0 || lists(unread, spans, b"connection", b"close"),
+        close: head.version == 0 || found.closes,
     })
 }
 
@@ -128,6 +132,9 @@ fn fields_of(alloc: Global, unread: &[u8], spans: &[HeaderSpan]) -> Result<Heade
     ensures { IfOk result (λ m. m ≡ fields_from (map (header_bytes unread.now) spans.now)) }
 {
     let mut fields = HeaderMap::new(alloc);
+    if fields.reserve(spans.len()).is_err() {
+        return Err(Memory);
+    }
     'each: for span in spans {
         add_field(
             alloc,

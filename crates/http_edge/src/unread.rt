@@ -1,5 +1,7 @@
 //! The bytes of a connection that are not read yet.
 
+ghost use Rattle.std.specs.Prelude.{◌≡◌, ◌≤◌, drop, vec_len, vec_capacity};
+
 use crate::memory::Memory;
 use std::alloc::Global;
 use std::marker::Model;
@@ -60,7 +62,7 @@ impl Unread {
         ensures count { result ≡ min (length bytes.now) (8192 - length self.old) }
         ensures more { self.new ≡ self.old ++ take result bytes.now }
     {
-        self.bytes.drain(..self.start);
+        drop_first(&mut self.bytes, self.start);
         self.start = 0;
         let n = bytes.len().min(Unread::ROOM - self.bytes.len());
         if self.bytes.extend_from_slice(&bytes[..n]).is_err() {
@@ -83,5 +85,18 @@ impl Unread {
         ensures { self.new ≡ drop n self.old }
     {
         self.start += n;
+    }
+}
+
+/// Drops the first bytes. Where those are all, none is moved.
+fn drop_first(bytes: &mut Vec<u8>, n: usize)
+    requires { n ≤ vec_len bytes.old }
+    ensures items { bytes.new.items ≡ drop n bytes.old.items }
+    ensures room { vec_capacity bytes.new ≡ vec_capacity bytes.old }
+{
+    if n == bytes.len() {
+        bytes.clear();
+    } else {
+        bytes.drain(..n);
     }
 }

@@ -25,13 +25,13 @@ returns c =
     let w : IsRequestWithin c.args.unread.now c.parse_request.new.headers c.in-Ok-Complete.head = search rules in
     let room : length c.parse_request.new.headers ≡ 64 = search rules in
     let behind = drop c.in-Ok-Complete.head.len c.args.unread.now in
-    let left : SoFar c.framing_at.result c.in-Ok.left [] behind behind = rw c.in-Ok.is at (c.left_of.ensures behind) in (
+    let left : SoFar c.framing_by.result c.in-Ok.left [] behind behind = rw c.in-Ok.is at (c.left_of.ensures behind) in (
       at.0,
       law.begins_at c.args.unread.now c.parse_request.new.headers c.in-Ok-Complete.head at.0 c.requires room w at.1,
       w.section.len_fits,
-      law.left_at c.args.unread.now c.parse_request.new.headers c.in-Ok-Complete.head at.0 c.framing_at.result c.in-Ok.left behind at.1 c.framing_at.ensures left,
+      law.left_at c.args.unread.now c.parse_request.new.headers c.in-Ok-Complete.head at.0 c.framing_by.result c.in-Ok.left behind at.1 (c.framing_by.ensures _ c.found_in-found.ensures) left,
       law.content_at c.args.unread.now c.parse_request.new.headers c.in-Ok-Complete.head at.0 (content c.in_ok-request.request) at.1 c.in_ok-request.ensures,
-      law.wants_at c.args.unread.now c.parse_request.new.headers c.in-Ok-Complete.head at.0 c.expects_at-wants.result at.1 c.expects_at-wants.ensures,
+      law.wants_at c.args.unread.now c.parse_request.new.headers c.in-Ok-Complete.head at.0 c.expects_in-wants.result at.1 (c.expects_in-wants.ensures _ c.found_in-found.ensures),
       refl,
       omega (arith, at.1.len, law.head_is_some at.0),
     )

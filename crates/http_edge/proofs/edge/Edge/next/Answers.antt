@@ -1,34 +1,14 @@
-use Rattle.std.proofs.Common.{rules, ◌⊎◌, ℕ, List, inl, refl, sym, ◌∙◌, None, ◌≡◌}
-use Rattle.http_edge.specs.Reading.{IsRefused, HasNone}
-use Rattle.http_edge.specs.Edges.{Stands, IsBegun, IsWholeIn, Waits, Leaves}
+use Rattle.std.proofs.Common.{rules, ◌≡◌, ◌∙◌, [], length, sym, inl, inr, None}
 use Rattle.http_edge.proofs.Edging as law
+use Rattle.http_edge.proofs.Listing.{empty}
 use Rattle.http_edge.proofs.edge.Edge.next.Goals as goal
 
-pub returns-in-Bad-clause-steps : goal.returns-in-Bad-clause-steps
-returns-in-Bad-clause-steps c =
-    let begun : (text : List ℕ) → Stands c.args.self.now text → Stands c.begin.new.self text × IsBegun c.begin.new.self = search rules in
-    λ text s.
-    let b = begun text s in
-    let filled : IsRefused text c.in-Bad.kind = rw c.in-Bad.is at (c.in_ok-fill.ensures.fills text b.0 b.1) in
-    (text, (filled, refl), inl (refl, refl))
-
-pub returns-in-Whole-clause-steps : goal.returns-in-Whole-clause-steps
-returns-in-Whole-clause-steps c =
-    let begun : (text : List ℕ) → Stands c.args.self.now text → Stands c.begin.new.self text × IsBegun c.begin.new.self = search rules in
-    λ text s.
-    let b = begun text s in
-    let filled : IsBegun c.fill.new.self × IsWholeIn c.fill.new.self.begun c.fill.new.self.unread text = rw c.in-Whole.is at (c.in_ok-fill.ensures.fills text b.0 b.1) in
-    c.whole.ensures.steps text filled.0 filled.1
-
-pub returns-in-Wait-clause-steps : goal.returns-in-Wait-clause-steps
-returns-in-Wait-clause-steps c =
-    let begun : (text : List ℕ) → Stands c.args.self.now text → Stands c.begin.new.self text × IsBegun c.begin.new.self = search rules in
-    λ text s.
-    let b = begun text s in
-    let filled : Stands c.fill.new.self text × (HasNone text ⊎ Waits text) × Leaves text c.fill.new.self.unread = rw c.in-Wait.is at (c.in_ok-fill.ensures.fills text b.0 b.1) in
-    ((filled.0.0, filled.0.1, λ e. (law.waits-begun c.fill.new.self.begun text (c.fill.ensures.begun b.1) filled.1, filled.2)), filled.1)
-
-pub returns-in-Whole-clause-still_told : goal.returns-in-Whole-clause-still_told
-returns-in-Whole-clause-still_told c = λ e.
-    let none : c.whole.result ≡ None = cc in
-    c.whole.ensures.told ∙ sym (c.whole.ensures.none none) ∙ c.fill.ensures.told ∙ c.begin.ensures.told
+pub returns-then-is_empty-clause-steps : goal.returns-then-is_empty-clause-steps
+returns-then-is_empty-clause-steps c =
+    let e : c.args.self.now.begun ≡ None = search rules in
+    let size : length c.as_slice.result.now ≡ 0 = search rules in
+    let none : c.args.self.now.unread ≡ [] = sym c.as_slice.ensures.bytes ∙ empty c.as_slice.result.now size in
+    λ text s. (
+      (s.0, s.1, λ waits. law.empty_leaves c.args.self.now.begun c.args.self.now.unread text e none s.1),
+      inr (inl (law.empty_waits c.args.self.now.begun c.args.self.now.unread text e none s.1)),
+    )
