@@ -97,17 +97,18 @@ impl Reader {
         ensures waits { result ≡ Ok None → self.new.edge.waits ≡ true }
         ensures told { is_told self.new.edge ≡ true → is_told self.old.edge ≡ true }
     {
-        let Some(incoming) = self.edge.next()? else {
-            return Ok(None);
+        let found = self.edge.next()?;
+        let Some(incoming) = &found else {
+            return Ok(found);
         };
-        if closes(&incoming) {
+        if closes(incoming) {
             self.start = self.bytes.len();
             self.taken = self.start;
             self.edge.restart();
-            return Ok(Some(incoming));
+            return Ok(found);
         }
         self.start = self.taken - self.edge.unread();
-        Ok(Some(incoming))
+        Ok(found)
     }
 
     /// The next request, or the refusal of what stands in its place. None where none is whole.
@@ -120,8 +121,9 @@ impl Reader {
         ensures told { is_told self.new.edge ≡ true → is_told self.old.edge ≡ true }
     {
         'each: loop {
-            if let Some(incoming) = self.next()? {
-                return Ok(Some(incoming));
+            let found = self.next()?;
+            if found.is_some() {
+                return Ok(found);
             }
             if !self.refill() {
                 return Ok(None);
@@ -184,11 +186,15 @@ pub fn closes(incoming: &Incoming) -> bool
     }
 }
 
-/// Drops the first bytes.
+/// Drops the first bytes. Where those are all, none is moved.
 fn drop_first(bytes: &mut Vec<u8>, n: usize)
     requires { n ≤ vec_len bytes.old }
     ensures items { bytes.new.items ≡ drop n bytes.old.items }
     ensures len { vec_len bytes.new + n ≡ vec_len bytes.old }
 {
-    bytes.drain(..n);
+    if n == bytes.len() {
+        bytes.clear();
+    } else {
+        bytes.drain(..n);
+    }
 }

@@ -16,18 +16,18 @@ returns-then-closes-clause-reads c =
     let ok = s.bytes.ok.0 in
     let within = s.within in
     let fits : s.taken ≤ length s.bytes.items = omega (arith, ok, within) in
-    let steps = rw (c.in-Some.is) at (c.in_ok-incoming.ensures.steps (given_of s) c.requires) in
+    let steps = rw (c.in-Some.is) at (c.in_ok-found.ensures.steps (given_of s) c.requires) in
     let last : closes (item c.in-Some.incoming) ≡ true = sym c.closes.ensures ∙ c.if-closes.true in
     let none = none-left s.bytes.items c.len-self.result (omega (arith, ok, c.len-self.ensures)) in
     let empty = c.restart.ensures.empty in
-    record {
+    rw c.in-Some.is (record {
       rest = steps.0 ++ drop s.taken s.bytes.items;
       first = first-whole s.bytes.items s.start s.taken s.order fits (item c.in-Some.incoming) steps.0 steps.1;
       left = left-last (item c.in-Some.incoming) (steps.0 ++ drop s.taken s.bytes.items) (drop c.len-self.result s.bytes.items) last none;
       counted = rw none (omega (arith, empty, c.len-self.ensures));
       shorter = λ goes_on. absurd (true-false (sym last ∙ goes_on));
       untold = c.restart.ensures.told;
-    }
+    })
 
 pub overflow_sub-self : goal.overflow_sub-self
 overflow_sub-self c =
@@ -36,8 +36,8 @@ overflow_sub-self c =
     let within = s.within in
     let fits : s.taken ≤ length s.bytes.items = omega (arith, ok, within) in
     let goes_on : closes (item c.in-Some.incoming) ≡ false = sym c.closes.ensures ∙ c.if-closes.false in
-    let l = left-behind (item c.in-Some.incoming) c.next.new.self (given_of s) c.unread.result goes_on (rw (c.in-Some.is) at (c.in_ok-incoming.ensures.steps (given_of s) c.requires))
-    ((rw (c.in-Some.is) at c.in_ok-incoming.ensures.behind) goes_on) c.unread.ensures.len in
+    let l = left-behind (item c.in-Some.incoming) c.next.new.self (given_of s) c.unread.result goes_on (rw (c.in-Some.is) at (c.in_ok-found.ensures.steps (given_of s) c.requires))
+    ((rw (c.in-Some.is) at c.in_ok-found.ensures.behind) goes_on) c.unread.ensures.len in
     left-start s.bytes.items s.start s.taken s.order fits _ _ _ l
 
 pub returns-clause-in_step : goal.returns-clause-in_step
@@ -47,8 +47,8 @@ returns-clause-in_step c =
     let within = s.within in
     let fits : s.taken ≤ length s.bytes.items = omega (arith, ok, within) in
     let goes_on : closes (item c.in-Some.incoming) ≡ false = sym c.closes.ensures ∙ c.if-closes.false in
-    let l = left-behind (item c.in-Some.incoming) c.next.new.self (given_of s) c.unread.result goes_on (rw (c.in-Some.is) at (c.in_ok-incoming.ensures.steps (given_of s) c.requires))
-    ((rw (c.in-Some.is) at c.in_ok-incoming.ensures.behind) goes_on) c.unread.ensures.len in
+    let l = left-behind (item c.in-Some.incoming) c.next.new.self (given_of s) c.unread.result goes_on (rw (c.in-Some.is) at (c.in_ok-found.ensures.steps (given_of s) c.requires))
+    ((rw (c.in-Some.is) at c.in_ok-found.ensures.behind) goes_on) c.unread.ensures.len in
     left-stands s.bytes.items s.start s.taken s.order fits _ _ _ l
 
 pub returns-clause-reads : goal.returns-clause-reads
@@ -59,16 +59,16 @@ returns-clause-reads c =
     let order = s.order in
     let fits : s.taken ≤ length s.bytes.items = omega (arith, ok, within) in
     let goes_on : closes (item c.in-Some.incoming) ≡ false = sym c.closes.ensures ∙ c.if-closes.false in
-    let l = left-behind (item c.in-Some.incoming) c.next.new.self (given_of s) c.unread.result goes_on (rw (c.in-Some.is) at (c.in_ok-incoming.ensures.steps (given_of s) c.requires))
-    ((rw (c.in-Some.is) at c.in_ok-incoming.ensures.behind) goes_on) c.unread.ensures.len in
+    let l = left-behind (item c.in-Some.incoming) c.next.new.self (given_of s) c.unread.result goes_on (rw (c.in-Some.is) at (c.in_ok-found.ensures.steps (given_of s) c.requires))
+    ((rw (c.in-Some.is) at c.in_ok-found.ensures.behind) goes_on) c.unread.ensures.len in
     let few = left-start s.bytes.items s.start s.taken s.order fits _ _ _ l in
     let len = c.unread.ensures.len in
     let long = length-drop (s.taken - c.unread.result) s.bytes.items in
-    record {
+    rw c.in-Some.is (record {
       rest = l.rest ++ drop s.taken s.bytes.items;
       first = first-whole s.bytes.items s.start s.taken s.order fits (item c.in-Some.incoming) l.rest l.first;
       left = left-more (item c.in-Some.incoming) (l.rest ++ drop s.taken s.bytes.items) (drop (s.taken - c.unread.result) s.bytes.items) goes_on (left-is s.bytes.items s.start s.taken s.order fits _ _ _ l);
       counted = omega (arith, ok, within, order, few, len, long);
       shorter = λ more. left-shorter s.bytes.items s.start s.taken s.order fits _ _ _ l;
-      untold = (rw (c.in-Some.is) at c.in_ok-incoming.ensures.fresh) goes_on;
-    }
+      untold = (rw (c.in-Some.is) at c.in_ok-found.ensures.fresh) goes_on;
+    })
