@@ -102,6 +102,7 @@ impl OptionDefinition {
 }
 
 /// The row of the option of that number, if the table has one.
+#[inline(always)]
 pub fn definition(number: u16) -> Option<OptionDefinition>
     ensures row { result ≡ definition_of number }
     // The columns of the table are what the bits of its numbers say.

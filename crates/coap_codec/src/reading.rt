@@ -82,6 +82,7 @@ fn option_of(before: u16, first: u8, bytes: &[u8]) -> Result<(Found<'_>, &[u8]),
 }
 
 /// The next option and the bytes after it, or none at the end or the payload marker.
+#[inline(always)]
 #[tactic(auto, unfolding(crate::specs::Reading::next_at))]
 fn next_option(before: u16, bytes: &[u8]) -> Result<Option<(Found<'_>, &[u8])>, CodecFault>
     ensures { Reads (λ o.

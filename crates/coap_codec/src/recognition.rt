@@ -50,7 +50,7 @@ fn recognise(marks: &mut [bool; 64], o: &Opt) -> bool
         return false;
     }
     let place = usize::from(o.number);
-    if !may_repeat(o) && marks[place] {
+    if marks[place] && !may_repeat(o) {
         return false;
     }
     marks[place] = true;

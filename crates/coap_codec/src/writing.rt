@@ -27,7 +27,8 @@ fn nibble_of(n: u16) -> u8
     }
 }
 
-/// Appends the bytes that extend the nibble.
+/// Appends the bytes that extend the nibble: most often none.
+#[inline(always)]
 fn push_more(out: &mut Vec<u8>, n: u16) -> Result<(), AllocError>
     ensures { OnOk result (out.new.items ≡ out.old.items ++ more n) }
 {
@@ -96,9 +97,11 @@ pub fn append_head(
         (out.new.items ≡ out.old.items ++ head_of kind code mid token.now) }
     ensures token { OnOk result (length token.now ≤ Token.LIMIT) }
 {
+    let [high, low] = mid.to_be_bytes();
     out.push(64 + 16 * (kind as u8) + token.len() as u8)?;
     out.push(code)?;
-    out.extend_from_slice(&mid.to_be_bytes())?;
+    out.push(high)?;
+    out.push(low)?;
     out.extend_from_slice(token.as_slice())?;
     Ok(())
 }
