@@ -17,3 +17,4 @@ pub mod Preparing
 pub mod Following
 pub mod Ordering
 pub mod After
+pub mod Numbering

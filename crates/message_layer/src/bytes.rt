@@ -68,3 +68,58 @@ impl Bytes {
         Bytes::new(alloc, items)
     }
 }
+
+/// The bytes of a datagram that is to get its message ID when it is sent: what they have in its
+/// place counts as 0. So they may be shared with the datagram that is sent.
+#[derive(Drop)]
+pub struct Unnumbered {
+    bytes: Bytes,
+}
+
+impl Model for Unnumbered {
+    ghost use Rattle.std.specs.Prelude.{List, ℕ, slice_set};
+
+    ghost Value = { List ℕ };
+
+    ghost view = { λ u. slice_set (slice_set u.bytes 2 0) 3 0 };
+}
+
+impl Unnumbered {
+    /// A copy of the bytes.
+    pub(crate) fn from_slice(alloc: Global, text: &[u8]) -> Result<Unnumbered, AllocError>
+        ensures { IfOk result (λ u. u ≡ with_mid 0 text.now) }
+    {
+        let items = Vec::from_slice(alloc, text)?;
+        Ok(Unnumbered {
+            bytes: Bytes::new(alloc, items)?,
+        })
+    }
+
+    /// The bytes of a datagram, shared and not copied.
+    pub(crate) fn of(datagram: &Bytes) -> Result<Unnumbered, AllocError>
+        ensures { IfOk result (λ u. u ≡ with_mid 0 datagram.now) }
+    {
+        Ok(Unnumbered {
+            bytes: datagram.share()?,
+        })
+    }
+
+    /// The same bytes, shared and not copied.
+    pub(crate) fn share(&self) -> Result<Unnumbered, AllocError>
+        ensures { IfOk result (λ u. u ≡ self.now) }
+    {
+        Ok(Unnumbered {
+            bytes: self.bytes.share()?,
+        })
+    }
+
+    /// A copy of the datagram, with this message ID.
+    #[tactic(auto, using(crate::proofs::Numbering::as_long))]
+    pub(crate) fn numbered(&self, alloc: Global, mid: u16) -> Result<Bytes, AllocError>
+        requires { 4 ≤ length self.now }
+        ensures { IfOk result (λ b. b ≡ with_mid mid self.now) }
+    {
+        let datagram = Bytes::numbered(alloc, self.bytes.as_slice(), mid)?;
+        Ok(datagram)
+    }
+}

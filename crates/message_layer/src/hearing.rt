@@ -253,10 +253,11 @@ fn prepare_message(
     s: &mut State,
     m: Message,
     moment: u64,
-) -> Result<Option<Hearing>, AllocError>
+) -> Result<Option<Hearing>, LinkFault>
     requires { IsSound (seen s.old) }
     ensures same { seen s.new ≡ seen s.old }
     ensures ok { IfOk result (λ o. IsMessage moment (content m) (shown s.new) o) }
+    ensures memory { IsOkUnless result LinkFault.Memory }
 {
     let verdict = decide(s, &m, moment);
     if loses(&verdict.news) {
@@ -286,10 +287,7 @@ pub fn prepare_heard(
         return Ok(None);
     }
     match decode(alloc, datagram) {
-        Ok(m) => {
-            let hearing = prepare_message(alloc, s, m, moment)?;
-            Ok(hearing)
-        }
+        Ok(m) => prepare_message(alloc, s, m, moment),
         Err(CodecFault::Memory) => Err(LinkFault::Memory),
         Err(_) => {
             let hearing = prepare_unread(alloc, s, datagram, moment)?;

@@ -99,7 +99,9 @@ fn latest_since<T: Timed>(latest: &Option<T>, since: u64) -> Option<T>
     }
 }
 
-/// The series with the item that came after it, and with nothing in it that was dropped.
+/// The series with the item that came after it, and with nothing in it that was dropped. It is
+/// made seldom: only where a clock went back.
+#[inline(never)]
 fn settled<T: Timed>(
     series: &Series<T>,
     since: u64,

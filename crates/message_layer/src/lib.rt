@@ -15,6 +15,7 @@ mod calls;
 mod chains;
 mod earlier;
 mod fault;
+mod handing;
 mod hearing;
 mod kept;
 mod laws;
@@ -30,7 +31,7 @@ mod series;
 mod state;
 mod verdict;
 
-pub use bytes::Bytes;
+pub use bytes::{Bytes, Unnumbered};
 pub use fault::LinkFault;
 pub use laws::{
     hands_up_once, heard_sends, hears_as_prepared, mids_apart, run_answers, run_keeps_turn,

@@ -94,6 +94,7 @@ impl Link {
 
     /// Prepares to take a message that is already encoded, as a CON under message ID 0. It
     /// allocates all that `submit_prepared` needs, and changes nothing else.
+    #[tactic(auto, using(crate::proofs::Numbering::unnumbered_text))]
     pub fn prepare_submit(
         &mut self,
         token: Token,
@@ -108,9 +109,7 @@ impl Link {
         ensures fault { IsSubmitted moment self.old.state result }
     {
         sending::check(&self.state, moment)?;
-        let text = Bytes::new(self.alloc, Vec::from_slice(self.alloc, text)?)?;
-        let x = sending::prepare_submit(self.alloc, &mut self.state, token, text, moment, word)?;
-        Ok(x)
+        sending::prepare_submit(self.alloc, &mut self.state, token, text, moment, word)
     }
 
     /// Takes a message that was prepared at this moment, and the link has not changed since.
@@ -169,8 +168,7 @@ impl Link {
         ensures ok { IfOk result (λ o. IsPreparedFor moment datagram.now self.new o) }
         ensures memory { IsOkUnless result LinkFault.Memory }
     {
-        let hearing = hearing::prepare_heard(self.alloc, &mut self.state, datagram, moment)?;
-        Ok(hearing)
+        hearing::prepare_heard(self.alloc, &mut self.state, datagram, moment)
     }
 
     /// Does what a datagram makes the link do, as it was prepared at this moment.
@@ -186,6 +184,7 @@ impl Link {
     /// that is spelled already, as a CON under message ID 0. It waits behind all that waits once
     /// the datagram was heard, and is sent at once where nothing is outstanding then. The room for
     /// both is there.
+    #[tactic(auto, using(crate::proofs::Numbering::unnumbered_text))]
     pub fn prepare_more(
         &self,
         x: &Heeding,
@@ -203,9 +202,7 @@ impl Link {
         ensures fault { IsSubmitted moment (heeded moment x.now self.now.state) result }
     {
         more::check_more(&self.state, x, moment)?;
-        let text = Bytes::new(self.alloc, Vec::from_slice(self.alloc, text)?)?;
-        let more = more::prepare_more(self.alloc, &self.state, x, token, text, moment, word)?;
-        Ok(more)
+        more::prepare_more(self.alloc, &self.state, x, token, text, moment, word)
     }
 
     /// Does what a datagram makes the link do, and takes the message that was prepared after it,

@@ -1,20 +1,19 @@
 //! A message that is taken in the same step as a datagram from the peer, and after it.
 
-ghost use Rattle.std.specs.Prelude.{◌≡◌, ◌≤◌, ◌+◌, length, IfOk};
+ghost use Rattle.std.specs.Prelude.{◌≡◌, ◌≤◌, ◌+◌, length, IfOk, IsOkUnless};
 ghost use Rattle.limits.specs.declared.TheConstants.{LAST_MOMENT};
 ghost use Rattle.message_layer.specs.Values.{seen, shown, IsSound, IsSoundWaiting};
-ghost use Rattle.message_layer.specs.Sending.{waits, IsNext, IsSubmitted, HasPlace, HasRoomToo};
-ghost use Rattle.message_layer.specs.Prepared.{at_once, heeded, link_after, followed, sendings, is_free, MayHeed, MayFollow, IsSubmission};
+ghost use Rattle.message_layer.specs.Sending.{waits, with_mid, IsSubmitted, HasPlace, HasRoomToo};
+ghost use Rattle.message_layer.specs.Prepared.{heeded, link_after, followed, sendings, is_free, MayHeed, MayFollow, IsSubmission};
 
-use crate::bytes::Bytes;
 use crate::fault::LinkFault;
-use crate::hearing;
 use crate::prepared::{FirstSending, Heeding, Submission};
-use crate::sending::{has_mid, launch, take, waiting_of};
+use crate::sending::{has_mid, take};
 use crate::state::{State, Waiting};
+use crate::{handing, hearing};
 use coap_codec::Token;
 use limits::MAX_WAITING;
-use std::alloc::{AllocError, Global};
+use std::alloc::Global;
 
 /// How many wait once that was sent.
 fn waiting_after(waiting: &[Waiting], next: &Option<FirstSending>) -> usize
@@ -52,46 +51,29 @@ pub fn check_more(s: &State, x: &Heeding, moment: u64) -> Result<(), LinkFault>
     Ok(())
 }
 
-/// The first sending of a message that is taken after the datagram, where nothing is outstanding
-/// then.
-fn sent_after(
-    alloc: Global,
-    w: &Waiting,
-    s: &State,
-    x: &Heeding,
-    moment: u64,
-) -> Result<Option<FirstSending>, AllocError>
-    requires waiting { IsSoundWaiting w.now }
-    requires ready { MayHeed moment (shown s.now) x.now }
-    ensures { IfOk result (λ f. let after = heeded moment x.now (seen s.now) in
-        IsNext moment after.last_mid (at_once w.now after.outstanding) f) }
-{
-    if !has_free_turn(s, x) {
-        return Ok(None);
-    }
-    let first = launch(alloc, w, s.last_mid, moment)?;
-    Ok(Some(first))
-}
-
 /// The message with these bytes, as it is taken after the datagram.
 pub fn prepare_more(
     alloc: Global,
     s: &State,
     x: &Heeding,
     token: Token,
-    text: Bytes,
+    text: &[u8],
     moment: u64,
     word: u64,
-) -> Result<Submission, AllocError>
-    requires waiting { IsSoundWaiting (waits token text word) }
+) -> Result<Submission, LinkFault>
+    requires waiting { IsSoundWaiting (waits token text.now word) }
+    requires id { with_mid 0 text.now ≡ text.now }
     requires ready { MayHeed moment (shown s.now) x.now }
     requires place { HasPlace moment (heeded moment x.now (seen s.now)) }
-    ensures { IfOk result
-        (λ more. IsSubmission moment token text word (link_after moment x.now (shown s.now)) more) }
+    ensures ok { IfOk result (λ more.
+        IsSubmission moment token text.now word (link_after moment x.now (shown s.now)) more) }
+    ensures memory { IsOkUnless result LinkFault.Memory }
 {
-    let waiting = waiting_of(token, text, word);
-    let sent = sent_after(alloc, &waiting, s, x, moment)?;
-    Ok(Submission { waiting, sent })
+    if has_free_turn(s, x) {
+        handing::at_once(alloc, token, text, s.last_mid, moment, word)
+    } else {
+        handing::in_turn(alloc, token, text, word)
+    }
 }
 
 /// Does what the datagram makes the link do, and takes the message after it.

@@ -4,20 +4,20 @@ ghost use Rattle.std.specs.Prelude.{◌≡◌, ◌<◌, ◌≤◌, ◌+◌, ◌^
 ghost use Rattle.std.specs.Option.{option_copied, option_map};
 ghost use Rattle.std.specs.List.{AllByRecursion, find};
 ghost use Rattle.limits.specs.declared.TheConstants.{MAX_MESSAGE_IDS, MAX_WAITING};
-ghost use Rattle.coap_codec.specs.Spelling.{content, Spells};
+ghost use Rattle.coap_codec.specs.Spelling.{content};
 ghost use Rattle.coap_codec.specs.Writing.{IsEncodable};
 ghost use Rattle.message_layer.specs.Values.{seen, shown, told, has_room, IsSound, IsSoundOutstanding, IsSoundWaiting};
-ghost use Rattle.message_layer.specs.Sending.{due_of, next_mid, first_sent, next_sent, ticked, with_outstanding, again, waits, submitted, IsNext, IsNextOf, HasRoom, HasRoomToo, mids_in_use, initial_timeout, unnumbered, HasPlace, Submits, IsSubmitted};
+ghost use Rattle.message_layer.specs.Sending.{due_of, next_mid, first_sent, next_sent, ticked, with_outstanding, again, waits, submitted, IsNext, IsNextOf, HasRoom, HasRoomToo, mids_in_use, with_mid, HasPlace, Submits, IsSubmitted};
 ghost use Rattle.message_layer.specs.Calls.{is_among, waits_on, without};
 ghost use Rattle.message_layer.specs.Prepared.{at_once, copied, MaySubmit, IsSubmission, IsTicking};
 
 use crate::bytes::Bytes;
-use crate::calls;
 use crate::fault::LinkFault;
 use crate::prepared::{FirstSending, Submission, Ticking};
 use crate::state::{Awaited, Outstanding, State, Up, Waiting};
-use coap_codec::{Message, MsgType, Token, encode};
-use limits::{ACK_TIMEOUT, MAX_RETRANSMIT, MAX_WAITING};
+use crate::{calls, handing};
+use coap_codec::{Message, MsgType, Token};
+use limits::{MAX_RETRANSMIT, MAX_WAITING};
 use std::alloc::{AllocError, Global};
 
 /// Two to the power of the number of copies.
@@ -43,13 +43,46 @@ fn due(outstanding: &Outstanding) -> u64
     outstanding.sent + outstanding.timeout * power(outstanding.retransmissions)
 }
 
-fn mid_after(last_mid: Option<u16>, first_mid: u16) -> u16
+/// The message ID after the last one, or the first one.
+pub fn mid_after(last_mid: Option<u16>, first_mid: u16) -> u16
     ensures { result ≡ next_mid last_mid first_mid }
 {
     match last_mid {
         None => first_mid,
         Some(mid) => ((u32::from(mid) + 1) % 65536) as u16,
     }
+}
+
+/// The message as it is when it is sent in this datagram, and the datagram once more.
+pub fn sent_in(
+    w: &Waiting,
+    mid: u16,
+    datagram: Bytes,
+    moment: u64,
+) -> Result<FirstSending, AllocError>
+    ensures message { IfOk result (λ p. p.message ≡ record {
+      token = w.now.token;
+      mid = mid;
+      datagram = datagram;
+      timeout = w.now.timeout;
+      sent = moment;
+      retransmissions = 0;
+    }) }
+    ensures datagram { IfOk result (λ p. p.datagram ≡ p.message.datagram) }
+{
+    let copy = datagram.share()?;
+    let message = Outstanding {
+        token: w.token,
+        mid,
+        datagram,
+        timeout: w.timeout,
+        sent: moment,
+        retransmissions: 0,
+    };
+    Ok(FirstSending {
+        message,
+        datagram: copy,
+    })
 }
 
 /// The message as it is when it is sent, and its bytes once more.
@@ -64,20 +97,8 @@ pub fn launch(
     ensures datagram { IfOk result (λ p. p.datagram ≡ p.message.datagram) }
 {
     let mid = mid_after(last_mid, w.first_mid);
-    let datagram = Bytes::numbered(alloc, w.datagram.as_slice(), mid)?;
-    let copy = datagram.share()?;
-    let message = Outstanding {
-        token: w.token,
-        mid,
-        datagram,
-        timeout: w.timeout,
-        sent: moment,
-        retransmissions: 0,
-    };
-    Ok(FirstSending {
-        message,
-        datagram: copy,
-    })
+    let datagram = w.datagram.numbered(alloc, mid)?;
+    sent_in(w, mid, datagram, moment)
 }
 
 /// The message that goes out next, if one waits.
@@ -263,24 +284,6 @@ pub fn has_mid(s: &State, moment: u64) -> bool
     s.given.has_free(s.waiting.len(), moment)
 }
 
-fn timeout_of(word: u64) -> u64
-    ensures { result ≡ initial_timeout word }
-{
-    ACK_TIMEOUT + word % 4294967296 % 1001
-}
-
-/// A message that is handed in, as it waits for its turn.
-pub fn waiting_of(token: Token, text: Bytes, word: u64) -> Waiting
-    ensures { result ≡ waits token text word }
-{
-    Waiting {
-        token,
-        datagram: text,
-        timeout: timeout_of(word),
-        first_mid: (word % 65536) as u16,
-    }
-}
-
 /// Whether a place in the queue and an ID are free; if not, which is missing.
 pub fn check(s: &State, moment: u64) -> Result<(), LinkFault>
     requires { IsSound (seen s.now) }
@@ -295,66 +298,27 @@ pub fn check(s: &State, moment: u64) -> Result<(), LinkFault>
     Ok(())
 }
 
-/// The message's bytes.
-fn bytes_of(alloc: Global, m: &Message) -> Result<Bytes, LinkFault>
-    requires { IsEncodable (content m.now) }
-    ensures ok { IfOk result (λ text. Spells (content m.now) text) }
-    ensures memory { IsOkUnless result LinkFault.Memory }
-{
-    match encode(alloc, m) {
-        Ok(text) => Ok(Bytes::new(alloc, text)?),
-        Err(_) => Err(LinkFault::Memory),
-    }
-}
-
-/// The message's bytes, under ID 0.
-fn text_of(alloc: Global, m: Message) -> Result<Bytes, LinkFault>
-    requires encodable { IsEncodable (content m) }
-    ensures ok { IfOk result (λ text. Spells (unnumbered (content m)) text) }
-    ensures memory { IsOkUnless result LinkFault.Memory }
-{
-    let mut m = m;
-    m.mid = 0;
-    bytes_of(alloc, &m)
-}
-
-/// The first sending of a message that is handed in, where nothing is outstanding.
-fn sent_at_once(
-    alloc: Global,
-    w: &Waiting,
-    s: &State,
-    moment: u64,
-) -> Result<Option<FirstSending>, AllocError>
-    requires { IsSoundWaiting w.now }
-    ensures { IfOk result (λ x. IsNext moment s.now.last_mid (at_once w.now s.now.outstanding) x) }
-{
-    match &s.outstanding {
-        Some(_) => Ok(None),
-        None => {
-            let first = launch(alloc, w, s.last_mid, moment)?;
-            Ok(Some(first))
-        }
-    }
-}
-
 /// The message with these bytes, as it is taken. Nothing is changed.
 pub fn prepare_submit(
     alloc: Global,
     s: &mut State,
     token: Token,
-    text: Bytes,
+    text: &[u8],
     moment: u64,
     word: u64,
-) -> Result<Submission, AllocError>
-    requires waiting { IsSoundWaiting (waits token text word) }
+) -> Result<Submission, LinkFault>
+    requires waiting { IsSoundWaiting (waits token text.now word) }
+    requires id { with_mid 0 text.now ≡ text.now }
     requires place { HasPlace moment (seen s.old) }
     ensures same { seen s.new ≡ seen s.old }
-    ensures ok { IfOk result (λ x. IsSubmission moment token text word (shown s.new) x) }
+    ensures ok { IfOk result (λ x. IsSubmission moment token text.now word (shown s.new) x) }
+    ensures memory { IsOkUnless result LinkFault.Memory }
 {
-    let waiting = waiting_of(token, text, word);
-    let sent = sent_at_once(alloc, &waiting, s, moment)?;
     make_room(s)?;
-    Ok(Submission { waiting, sent })
+    match &s.outstanding {
+        Some(_) => handing::in_turn(alloc, token, text, word),
+        None => handing::at_once(alloc, token, text, s.last_mid, moment, word),
+    }
 }
 
 /// Takes a message, where there is room for it, and for its sending if it is sent at once.
@@ -385,6 +349,7 @@ pub fn submit_prepared(s: &mut State, x: Submission, moment: u64)
 }
 
 /// Takes a message to be sent.
+#[tactic(auto, using(crate::proofs::Numbering::spelled_under_0))]
 pub fn submit(
     alloc: Global,
     s: &mut State,
@@ -401,8 +366,8 @@ pub fn submit(
 {
     check(s, moment)?;
     let token = m.token;
-    let text = text_of(alloc, m)?;
-    let x = prepare_submit(alloc, s, token, text, moment, word)?;
+    let text = handing::text_of(alloc, m)?;
+    let x = prepare_submit(alloc, s, token, &text, moment, word)?;
     submit_prepared(s, x, moment);
     Ok(())
 }

@@ -135,6 +135,7 @@ impl<T: Countable> Series<T> {
     }
 
     /// The last items are shared from now on.
+    #[inline(never)]
     fn share_last(&mut self) -> Result<(), AllocError>
         ensures { self.new.items ≡ self.old.items }
     {

@@ -3,7 +3,7 @@
 ghost use Rattle.std.specs.Prelude.{◌≡◌};
 ghost use Rattle.message_layer.specs.Remembering.{is_fresh, is_repeat};
 
-use crate::bytes::Bytes;
+use crate::bytes::{Bytes, Unnumbered};
 use crate::mids::Mids;
 use crate::remembered::Remembered;
 use coap_codec::{Message, Token};
@@ -15,7 +15,7 @@ use std::collections::VecDeque;
 pub struct Waiting {
     pub token: Token,
     /// Its bytes, under message ID 0.
-    pub datagram: Bytes,
+    pub datagram: Unnumbered,
     /// The initial timeout, in milliseconds.
     pub timeout: u64,
     /// The message ID, should no message have been sent before.
