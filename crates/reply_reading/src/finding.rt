@@ -1,6 +1,6 @@
 //! What an ask comes to, and why.
 
-ghost use Rattle.std.specs.Prelude.{◌≡◌, map, IfOk};
+ghost use Rattle.std.specs.Prelude.{◌≡◌, map, IfOk, Some, slice_get};
 ghost use Rattle.std.specs.Arc.{arc_value};
 ghost use Rattle.coap_codec.specs.Spelling.{content};
 ghost use Rattle.journal_book.specs.Entries.{Live, Kept, Fault};
@@ -149,6 +149,27 @@ pub fn fetched_of(
       grounds = Live replies;
     }) }
 {
-    let response = join_pieces(alloc, &earlier, last)?;
+    match earlier.first() {
+        None => answer_of(alloc, replies, last),
+        Some(first) => joined_of(alloc, replies, first, &earlier, last),
+    }
+}
+
+/// The same, where some pieces came before the last: the first of them is named too.
+#[inline(never)]
+fn joined_of(
+    alloc: Global,
+    replies: Numbers,
+    first: &Message,
+    earlier: &[Message],
+    last: Message,
+) -> Result<Finding, AllocError>
+    requires { Some first.now ≡ slice_get earlier.now 0 }
+    ensures { IfOk result (λ f. f ≡ record {
+      told = Tells (joined_all (map content earlier.now) (content last));
+      grounds = Live replies;
+    }) }
+{
+    let response = join_pieces(alloc, first, earlier, last)?;
     Ok(Finding::whole(Arc::new(alloc, response)?, replies))
 }

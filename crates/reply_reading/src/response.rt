@@ -1,6 +1,6 @@
 //! The response that a message is, or that pieces are together.
 
-ghost use Rattle.std.specs.Prelude.{◌≡◌, ◌++◌, map, IfOk, option_map};
+ghost use Rattle.std.specs.Prelude.{◌≡◌, ◌++◌, map, IfOk, Some, option_map, slice_get};
 ghost use Rattle.coap_codec.specs.Spelling.{content};
 ghost use Rattle.coap_codec.specs.Values.{uint};
 ghost use Rattle.coap_codec.specs.Recognition.{value_of, values_of};
@@ -54,18 +54,25 @@ fn etag_of(alloc: Global, m: &Message) -> Result<Option<Bytes>, AllocError>
     }
 }
 
-/// Copies of the values of its options of this number that are defined, in order.
-fn copies_of(alloc: Global, m: &Message, number: u16) -> Result<Values, AllocError>
-    ensures { IfOk result (λ v. v ≡ values_of number (content m.now)) }
+/// Copies of the values of its Location options that are defined, in order.
+fn location_of(alloc: Global, m: &Message) -> Result<Location, AllocError>
+    ensures path { IfOk result (λ l. l.path ≡ values_of 8 (content m.now)) }
+    ensures query { IfOk result (λ l. l.query ≡ values_of 20 (content m.now)) }
 {
-    let mut copies = Vec::new(alloc);
+    let mut path = Vec::new(alloc);
+    let mut query = Vec::new(alloc);
     'each: for o in &m.options {
-        if o.number == number && is_defined(o) {
-            let value = Bytes::from_slice(alloc, &o.value)?;
-            copies.push(value)?;
+        if o.number == number::LOCATION_PATH && is_defined(o) {
+            path.push(Bytes::from_slice(alloc, &o.value)?)?;
+        }
+        if o.number == number::LOCATION_QUERY && is_defined(o) {
+            query.push(Bytes::from_slice(alloc, &o.value)?)?;
         }
     }
-    Ok(Values::of(copies))
+    Ok(Location {
+        path: Values::of(path),
+        query: Values::of(query),
+    })
 }
 
 /// Its payload.
@@ -80,10 +87,7 @@ pub fn response_of(alloc: Global, m: Message) -> Result<Response, AllocError>
     ensures { IfOk result (λ r. r ≡ response_of (content m)) }
 {
     let etag = etag_of(alloc, &m)?;
-    let location = Location {
-        path: copies_of(alloc, &m, number::LOCATION_PATH)?,
-        query: copies_of(alloc, &m, number::LOCATION_QUERY)?,
-    };
+    let location = location_of(alloc, &m)?;
     Ok(Response {
         code: m.code,
         format: format_of(&m),
@@ -116,17 +120,16 @@ fn join(alloc: Global, earlier: &[Message], last: &[u8]) -> Result<Vec<u8>, Allo
 }
 
 /// What the pieces of a representation say together, of which the last is given and those before
-/// it, in order. The payload of one that is alone becomes the body and isn't copied.
+/// it, in order, beginning with the first.
 pub fn join_pieces(
     alloc: Global,
+    first: &Message,
     earlier: &[Message],
     last: Message,
 ) -> Result<Response, AllocError>
+    requires { Some first.now ≡ slice_get earlier.now 0 }
     ensures { IfOk result (λ r. r ≡ joined_all (map content earlier.now) (content last)) }
 {
-    let Some(first) = earlier.first() else {
-        return response_of(alloc, last);
-    };
     let body = join(alloc, earlier, &last.payload)?;
     let mut response = response_of(alloc, last)?;
     response.max_age = max_age_of(first);
