@@ -3,6 +3,7 @@
 ghost use Rattle.std.specs.Prelude.{◌≡◌, ◌++◌, map, codes, decimal, string_bytes, OnOk};
 ghost use Rattle.std.specs.Str.{is_utf8};
 ghost use Rattle.http_mapping.specs.Means.{pair_of, only, content_type, cache_control, entity_tag, is_read, caching, value_if, retry_after, connection, content_length, closes as closing, seconds_left as left_of};
+ghost use Rattle.media_map.specs.Formats.{media_text};
 ghost use Rattle.ask_model.specs.Causes.{cause_text};
 ghost use Rattle.ask_model.specs.Views.{came_of};
 ghost use Rattle.http_mapping.specs.Located.{located};
@@ -11,6 +12,7 @@ use crate::location::location_of;
 use ask_model::{Cause, Mapped};
 use code_map::{Method, Status, method_of};
 use http_edge::{Field, Incoming, Memory};
+use itoa::Buffer;
 use media_map::{Media, media_of};
 use reply_reading::Response;
 use std::alloc::Global;
@@ -36,13 +38,20 @@ const NO_CONTENT: u16 = 204;
 const DEFAULT_MAX_AGE: u32 = 60;
 
 /// Puts a field last.
-fn add(fields: &mut Vec<Field>, name: &'static str, value: String) -> Result<(), Memory>
+fn add(fields: &mut Vec<Field>, name: &'static str, value: Vec<u8>) -> Result<(), Memory>
+    ensures { OnOk result (map pair_of fields.new.items ≡ map pair_of fields.old.items
+        ++ only name.now value.items) }
+{
+    fields.push(Field { name, value })?;
+    Ok(())
+}
+
+/// Puts a field with a text of its own last.
+fn add_string(fields: &mut Vec<Field>, name: &'static str, value: String) -> Result<(), Memory>
     ensures { OnOk result (map pair_of fields.new.items ≡ map pair_of fields.old.items
         ++ only name.now (string_bytes value)) }
 {
-    let value = value.into_bytes();
-    fields.push(Field { name, value })?;
-    Ok(())
+    add(fields, name, value.into_bytes())
 }
 
 /// Puts a field with a fixed text last.
@@ -55,7 +64,26 @@ fn add_text(
     ensures { OnOk result (map pair_of fields.new.items ≡ map pair_of fields.old.items
         ++ only name.now text.now) }
 {
-    add(fields, name, String::from_str(alloc, text)?)
+    add(fields, name, Vec::from_slice(alloc, text.as_bytes())?)
+}
+
+/// Puts a field last whose value is a text with a number behind it.
+fn add_number(
+    alloc: Global,
+    fields: &mut Vec<Field>,
+    name: &'static str,
+    text: &str,
+    number: u64,
+) -> Result<(), Memory>
+    ensures { OnOk result (map pair_of fields.new.items ≡ map pair_of fields.old.items
+        ++ only name.now (text.now ++ decimal number)) }
+{
+    let mut buffer = Buffer::new();
+    let digits = buffer.format(number).as_bytes();
+    let mut value = Vec::with_capacity(alloc, text.len().saturating_add(digits.len()))?;
+    value.extend_from_slice(text.as_bytes())?;
+    value.extend_from_slice(digits)?;
+    add(fields, name, value)
 }
 
 /// Names the cause of an answer of the proxy's own, and the entry that shows it.
@@ -68,7 +96,7 @@ pub fn add_cause(
     ensures { OnOk result (map pair_of fields.new.items ≡ map pair_of fields.old.items
         ++ only (codes "HC-Cause") (cause_text cause ++ codes " " ++ decimal number)) }
 {
-    add(fields, "HC-Cause", format!(in alloc; "{cause} {number}")?)
+    add_string(fields, "HC-Cause", format!(in alloc; "{cause} {number}")?)
 }
 
 /// The media type of the body.
@@ -85,16 +113,19 @@ pub fn add_content_type(
         return Ok(());
     }
     match response.format {
-        Some(format) => {
-            let media = media_of(alloc, format)?;
-            add_text(alloc, fields, "Content-Type", media.as_str())
-        }
-        None if response.code >= ERROR && is_text(body) => {
-            let media = media_of(alloc, TEXT)?;
-            add_text(alloc, fields, "Content-Type", media.as_str())
-        }
+        Some(format) => add_format(alloc, fields, format),
+        None if response.code >= ERROR && is_text(body) => add_format(alloc, fields, TEXT),
         None => Ok(()),
     }
+}
+
+/// The media type of a format.
+fn add_format(alloc: Global, fields: &mut Vec<Field>, format: u16) -> Result<(), Memory>
+    ensures { OnOk result (map pair_of fields.new.items ≡ map pair_of fields.old.items
+        ++ only (codes "Content-Type") (media_text format)) }
+{
+    let media = media_of(alloc, format)?;
+    add_text(alloc, fields, "Content-Type", media.as_str())
 }
 
 /// The media type that a body was transformed to.
@@ -129,11 +160,7 @@ fn add_freshness(
         return Ok(());
     }
     let left = seconds_left(response, age);
-    add(
-        fields,
-        "Cache-Control",
-        format!(in alloc; "max-age={left}")?,
-    )
+    add_number(alloc, fields, "Cache-Control", "max-age=", left)
 }
 
 /// The whole seconds for which a response of that age, in milliseconds, stays fresh.
@@ -152,7 +179,7 @@ fn add_entity_tag(alloc: Global, fields: &mut Vec<Field>, response: &Response) -
     match &response.etag {
         Some(tag) if response.code == CONTENT => {
             let digits = hex::encode(alloc, tag.as_slice())?;
-            add(fields, "ETag", format!(in alloc; "\"{digits}\"")?)
+            add_string(fields, "ETag", format!(in alloc; "\"{digits}\"")?)
         }
         _ => Ok(()),
     }
@@ -198,13 +225,10 @@ pub fn add_location<R: Relation>(
     ensures { OnOk result (map pair_of fields.new.items ≡ map pair_of fields.old.items
         ++ value_if (codes "Location") (located mapped.now.rules mapped.now.sense response.now)) }
 {
-    if let Some(value) = location_of(alloc, mapped, response)? {
-        fields.push(Field {
-            name: "Location",
-            value,
-        })?;
+    match location_of(alloc, mapped, response)? {
+        Some(value) => add(fields, "Location", value),
+        None => Ok(()),
     }
-    Ok(())
 }
 
 /// When to ask again (RFC 8075, section 7).
@@ -218,7 +242,7 @@ pub fn add_retry_after(
 {
     match response.max_age {
         Some(seconds) if response.code == UNAVAILABLE => {
-            add(fields, "Retry-After", format!(in alloc; "{seconds}")?)
+            add_number(alloc, fields, "Retry-After", "", u64::from(seconds))
         }
         _ => Ok(()),
     }
@@ -258,5 +282,5 @@ pub fn add_content_length(
     if status.number() == NO_CONTENT {
         return Ok(());
     }
-    add(fields, "Content-Length", format!(in alloc; "{len}")?)
+    add_number(alloc, fields, "Content-Length", "", len as u64)
 }

@@ -2,18 +2,15 @@
 
 ghost use Rattle.std.specs.Prelude.{◌≡◌, None, option_map, IfOk};
 ghost use Rattle.std.specs.Arc.{arc_value};
-ghost use Rattle.uri_map.specs.Naming.{target_at};
-ghost use Rattle.uri_map.specs.Splitting.{origin_form};
-ghost use Rattle.uri_map.specs.Peers.{peer_in};
 ghost use Rattle.code_map.specs.Methods.{method_named};
 ghost use Rattle.code_map.specs.Statuses.{number_of};
 ghost use Rattle.http_header.specs.Token.{lowercase};
 ghost use Rattle.http_edge.specs.Kinds.{status_of};
 ghost use Rattle.http_edge.specs.Requests.{content};
 ghost use Rattle.transformers.specs.Suits.{Suits};
-ghost use Rattle.ask_model.specs.Requests.{Whole};
-ghost use Rattle.ask_model.specs.Views.{came_of, body_of, sense_of, rules_of};
-ghost use Rattle.ask_model.specs.Maps.{Maps, MapsMethod, MapsTarget, MapsPeer, MapsBody, wanted_of, has_field, is_conditional as conditional, is_refused_write as refused_write, carried, fault_status};
+ghost use Rattle.ask_model.specs.Requests.{Whole, Bad};
+ghost use Rattle.ask_model.specs.Views.{came_of, sense_of, rules_of};
+ghost use Rattle.ask_model.specs.Maps.{Maps, MapsMethod, wanted_of, has_field, is_conditional as conditional, is_refused_write as refused_write, carried, fault_status};
 ghost use Rattle.http_mapping.specs.Limits.{limited};
 
 use crate::sending::{Unsent, sending_of};
@@ -26,7 +23,7 @@ use media_map::{MediaFault, Wanted};
 use std::alloc::Global;
 use std::sync::Arc;
 use transformers::{Bank, Relation};
-use uri_map::{Peer, Target, UriFault, path_and_query, peer_of, target_of};
+use uri_map::{UriFault, path_and_query, peer_of, target_of};
 
 /// What a request means, and what is wanted of its answer.
 #[derive(Drop)]
@@ -61,42 +58,31 @@ pub fn map_request<R: Relation>(
     ensures maps { IfOk result (λ m.
         Maps R.holds R.takes (rules_of (arc_value settings.now)) m.came m.sense) }
 {
-    let came = within_limit(came);
-    let meant = meant_by(alloc, settings, bank, &came)?;
+    let request = match &came {
+        Incoming::Request(request) if incoming_size(&came) <= MAX_REQUEST_SIZE => request,
+        Incoming::Request(_) => return bad_mapped(settings, BadKind::Large),
+        Incoming::Bad(kind) => return bad_mapped(settings, *kind),
+    };
+    let meant = request_meant(alloc, settings, bank, request)?;
     let settings = Arc::try_clone(settings)?;
     Ok(Mapped::new(came, meant.meaning, meant.wanted, settings))
 }
 
-/// What came, where it isn't too large.
-fn within_limit(came: Incoming) -> Incoming
-    ensures { came_of result ≡ limited (came_of came) }
-{
-    if incoming_size(&came) > MAX_REQUEST_SIZE {
-        Incoming::Bad(BadKind::Large)
-    } else {
-        came
-    }
-}
-
-/// The meaning of what was read.
-fn meant_by<R: Relation>(
-    alloc: Global,
-    settings: &Settings,
-    bank: &Bank<R>,
-    came: &Incoming,
-) -> Result<Meant, Memory>
-    requires suits { Suits R.holds R.takes settings.now.routes bank.now }
+/// What is mapped of bytes that are no request.
+fn bad_mapped<R: Relation>(settings: &Arc<Settings>, kind: BadKind) -> Result<Mapped<R>, Memory>
+    ensures came { IfOk result (λ m. m.came ≡ Bad kind) }
+    ensures rules { IfOk result (λ m. m.rules ≡ rules_of (arc_value settings.now)) }
     ensures maps { IfOk result (λ m.
-        Maps R.holds R.takes (rules_of settings.now) (came_of came.now)
-        (sense_of m.meaning (body_of (came_of came.now)))) }
-    ensures wants { IfOk result (λ m.
-        m.wanted ≡ wanted_of (rules_of settings.now) (came_of came.now)
-        (sense_of m.meaning (body_of (came_of came.now)))) }
+        Maps R.holds R.takes (rules_of (arc_value settings.now)) m.came m.sense) }
 {
-    match came {
-        Incoming::Bad(kind) => Ok(refused(Cause::BadHttp, bad_status(*kind))),
-        Incoming::Request(request) => request_meant(alloc, settings, bank, request),
-    }
+    let settings = Arc::try_clone(settings)?;
+    let refusal = refused(Cause::BadHttp, bad_status(kind));
+    Ok(Mapped::new(
+        Incoming::Bad(kind),
+        refusal.meaning,
+        refusal.wanted,
+        settings,
+    ))
 }
 
 /// The status for bytes that are no request.
@@ -110,7 +96,8 @@ fn bad_status(kind: BadKind) -> Status
     }
 }
 
-/// The meaning of a request.
+/// The meaning of a request. Of a target in absolute form, the path and the query count (RFC 9112
+/// section 3.2.2).
 fn request_meant<R: Relation>(
     alloc: Global,
     settings: &Settings,
@@ -125,99 +112,19 @@ fn request_meant<R: Relation>(
         m.wanted ≡ wanted_of (rules_of settings.now) (Whole (content request.now))
         (sense_of m.meaning request.now.body.items)) }
 {
-    match method_of(&request.method) {
-        Some(method) if !is_refused_write(request, method) => {
-            target_meant(alloc, settings, bank, request, method)
-        }
-        _ => Ok(refused(Cause::Method, Status::NotImplemented)),
-    }
-}
-
-/// The meaning of a request whose method is mapped. Of a target in absolute form, the path and the
-/// query count (RFC 9112 section 3.2.2).
-fn target_meant<R: Relation>(
-    alloc: Global,
-    settings: &Settings,
-    bank: &Bank<R>,
-    request: &Request,
-    method: Method,
-) -> Result<Meant, Memory>
-    requires suits { Suits R.holds R.takes settings.now.routes bank.now }
-    ensures maps { IfOk result (λ m.
-        MapsTarget R.holds R.takes (rules_of settings.now) (content request.now) method
-        (target_at settings.now.base (origin_form request.now.target.items))
-        (sense_of m.meaning request.now.body.items)) }
-    ensures wants { IfOk result (λ m.
-        m.wanted ≡ wanted_of (rules_of settings.now) (Whole (content request.now))
-        (sense_of m.meaning request.now.body.items)) }
-{
-    match target_of(alloc, settings.base.as_bytes(), named_text(request)) {
-        Ok(target) => peer_meant(alloc, settings, bank, request, method, target),
-        Err(UriFault::Memory) => Err(Memory),
-        Err(fault) => Ok(refused(Cause::NoMap, target_status(fault))),
-    }
-}
-
-/// The text that names the target of a request.
-fn named_text(request: &Request) -> &[u8]
-    ensures { result.now ≡ origin_form request.now.target.items }
-{
-    path_and_query(&request.target)
-}
-
-/// The meaning of a request for a target.
-fn peer_meant<R: Relation>(
-    alloc: Global,
-    settings: &Settings,
-    bank: &Bank<R>,
-    request: &Request,
-    method: Method,
-    target: Target,
-) -> Result<Meant, Memory>
-    requires suits { Suits R.holds R.takes settings.now.routes bank.now }
-    ensures maps { IfOk result (λ m.
-        MapsPeer R.holds R.takes (rules_of settings.now) (content request.now) method target
-        (peer_in settings.now.directory target) (sense_of m.meaning request.now.body.items)) }
-    ensures wants { IfOk result (λ m.
-        m.wanted ≡ wanted_of (rules_of settings.now) (Whole (content request.now))
-        (sense_of m.meaning request.now.body.items)) }
-{
-    match peer_of(&settings.directory, &target) {
-        Some(peer) => body_meant(alloc, settings, bank, request, method, target, peer),
-        None => Ok(refused(Cause::NoMap, Status::NotImplemented)),
-    }
-}
-
-/// The status for a target that names no resource.
-fn target_status(fault: UriFault) -> Status
-    ensures { number_of result ≡ fault_status fault }
-{
-    match fault {
-        UriFault::OtherBase => Status::NotFound,
-        UriFault::Scheme => Status::NotImplemented,
-        UriFault::TooLong => Status::UriTooLong,
-        UriFault::Authority | UriFault::Escape | UriFault::Memory => Status::BadRequest,
-    }
-}
-
-/// The meaning of a request for a target that a peer serves.
-fn body_meant<R: Relation>(
-    alloc: Global,
-    settings: &Settings,
-    bank: &Bank<R>,
-    request: &Request,
-    method: Method,
-    target: Target,
-    peer: Peer,
-) -> Result<Meant, Memory>
-    requires suits { Suits R.holds R.takes settings.now.routes bank.now }
-    ensures maps { IfOk result (λ m.
-        MapsBody R.holds R.takes (rules_of settings.now) (content request.now) method target peer
-        (sense_of m.meaning request.now.body.items)) }
-    ensures wants { IfOk result (λ m.
-        m.wanted ≡ wanted_of (rules_of settings.now) (Whole (content request.now))
-        (sense_of m.meaning request.now.body.items)) }
-{
+    let method = match method_of(&request.method) {
+        Some(method) if !is_refused_write(request, method) => method,
+        _ => return Ok(refused(Cause::Method, Status::NotImplemented)),
+    };
+    let named = path_and_query(&request.target);
+    let target = match target_of(alloc, settings.base.as_bytes(), named) {
+        Ok(target) => target,
+        Err(UriFault::Memory) => return Err(Memory),
+        Err(fault) => return Ok(refused(Cause::NoMap, target_status(fault))),
+    };
+    let Some(peer) = peer_of(&settings.directory, &target) else {
+        return Ok(refused(Cause::NoMap, Status::NotImplemented));
+    };
     let body = carried_body(request, method);
     let typing = typing_of(request, settings, body);
     let sending = match sending_of(bank, typing, method, body) {
@@ -231,17 +138,27 @@ fn body_meant<R: Relation>(
         Err(MediaFault::Memory) => return Err(Memory),
         Err(_) => return Ok(refused(Cause::Media, Status::NotAcceptable)),
     };
-    Ok(Meant {
-        meaning: Meaning::Ask {
-            method,
-            target,
-            peer,
-            accept: format_wanted(&wanted),
-            format: sending.format,
-            payload: sending.payload,
-        },
-        wanted,
-    })
+    let meaning = Meaning::Ask {
+        method,
+        target,
+        peer,
+        accept: format_wanted(&wanted),
+        format: sending.format,
+        payload: sending.payload,
+    };
+    Ok(Meant { meaning, wanted })
+}
+
+/// The status for a target that names no resource.
+fn target_status(fault: UriFault) -> Status
+    ensures { number_of result ≡ fault_status fault }
+{
+    match fault {
+        UriFault::OtherBase => Status::NotFound,
+        UriFault::Scheme => Status::NotImplemented,
+        UriFault::TooLong => Status::UriTooLong,
+        UriFault::Authority | UriFault::Escape | UriFault::Memory => Status::BadRequest,
+    }
 }
 
 /// The format that is asked for.

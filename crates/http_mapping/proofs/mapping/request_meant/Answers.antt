@@ -2,7 +2,7 @@
 use Rattle.std.proofs.Common.{List, subst}
 use Rattle.media_map.specs.declared.form.Form.{Form}
 use Rattle.http_mapping.specs.Typings.{typing_shown, IsAlong}
-use Rattle.http_mapping.proofs.mapping.body_meant.Goals as goal
+use Rattle.http_mapping.proofs.mapping.request_meant.Goals as goal
 
 pub sending_of-requires-clause-along : goal.sending_of-requires-clause-along
 sending_of-requires-clause-along g c =
