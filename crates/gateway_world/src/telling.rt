@@ -14,8 +14,8 @@ ghost use Rattle.transformers.specs.Suits.{Suits};
 use crate::engine::Context;
 use exchange_core::Answer;
 use gateway_model::Output;
-use http_edge::{Memory, answer_bytes};
-use http_mapping::render;
+use http_edge::Memory;
+use http_mapping::render_bytes;
 use std::alloc::Global;
 use transformers::{Bank, Relation};
 
@@ -42,8 +42,7 @@ pub fn answer_told<R: Relation>(
         (given_of answer.now) bytes.items) }
 {
     let age = answer.moment.saturating_sub(answer.heard);
-    let response = render(alloc, bank, &answer.mapped, &answer.finding, age)?;
-    let bytes = answer_bytes(alloc, &response)?;
+    let bytes = render_bytes(alloc, bank, &answer.mapped, &answer.finding, age)?;
     Ok(bytes)
 }
 

@@ -7,3 +7,5 @@ pub mod Shown
 pub mod Stored
 pub mod Values
 pub mod Codings
+pub mod Meanings
+pub mod Written

@@ -3,3 +3,4 @@ pub mod Located
 pub mod Means
 pub mod Showings
 pub mod Typings
+pub mod Writes

@@ -7,6 +7,7 @@ ghost use Rattle.media_map.specs.Formats.{media_text};
 ghost use Rattle.ask_model.specs.Causes.{cause_text};
 ghost use Rattle.ask_model.specs.Views.{came_of};
 ghost use Rattle.http_mapping.specs.Located.{located};
+ghost use Rattle.http_mapping.specs.Writes.{type_of};
 
 use crate::location::location_of;
 use ask_model::{Cause, Mapped};
@@ -20,19 +21,19 @@ use std::str;
 use transformers::Relation;
 
 /// The code 2.05, Content.
-const CONTENT: u8 = 69;
+pub const CONTENT: u8 = 69;
 
 /// The code 5.03, Service Unavailable.
-const UNAVAILABLE: u8 = 163;
+pub const UNAVAILABLE: u8 = 163;
 
 /// The least code of an error, 4.00.
-const ERROR: u8 = 128;
+pub const ERROR: u8 = 128;
 
 /// The content format of UTF-8 text.
-const TEXT: u16 = 0;
+pub const TEXT: u16 = 0;
 
 /// The status that has no body.
-const NO_CONTENT: u16 = 204;
+pub const NO_CONTENT: u16 = 204;
 
 /// The seconds that a response is fresh where it doesn't say (RFC 7252, section 5.10.5).
 const DEFAULT_MAX_AGE: u32 = 60;
@@ -108,14 +109,25 @@ pub fn add_content_type(
     ensures { OnOk result (map pair_of fields.new.items ≡ map pair_of fields.old.items
         ++ content_type response.now) }
 {
+    match format_shown(response) {
+        Some(format) => add_format(alloc, fields, format),
+        None => Ok(()),
+    }
+}
+
+/// The format whose media type is that of the body: the one that the response says, and that of
+/// text for an error's text of which it says none (RFC 7252, section 5.5.2).
+pub fn format_shown(response: &Response) -> Option<u16>
+    ensures { content_type response.now ≡ type_of result }
+{
     let body = response.body.as_slice();
     if body.is_empty() {
-        return Ok(());
+        return None;
     }
     match response.format {
-        Some(format) => add_format(alloc, fields, format),
-        None if response.code >= ERROR && is_text(body) => add_format(alloc, fields, TEXT),
-        None => Ok(()),
+        Some(format) => Some(format),
+        None if response.code >= ERROR && is_text(body) => Some(TEXT),
+        None => None,
     }
 }
 
@@ -164,7 +176,7 @@ fn add_freshness(
 }
 
 /// The whole seconds for which a response of that age, in milliseconds, stays fresh.
-fn seconds_left(response: &Response, age: u64) -> u64
+pub fn seconds_left(response: &Response, age: u64) -> u64
     ensures { result ≡ left_of response.now age }
 {
     let fresh = 1000 * u64::from(response.max_age.unwrap_or(DEFAULT_MAX_AGE));
@@ -204,7 +216,7 @@ pub fn add_caching(
 }
 
 /// Whether a representation was asked for, by GET or HEAD.
-fn is_read(came: &Incoming) -> bool
+pub fn is_read(came: &Incoming) -> bool
     ensures { result ≡ is_read (came_of came.now) }
 {
     match came {

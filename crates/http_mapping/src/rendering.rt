@@ -47,7 +47,7 @@ pub fn render<R: Relation>(
 }
 
 /// The number of the last reply that a response rests on; 0 where it rests on none.
-fn last_reply(finding: &Finding) -> u32
+pub fn last_reply(finding: &Finding) -> u32
     ensures { result ≡ last_in finding.now.grounds }
 {
     match finding.grounds() {
@@ -60,7 +60,7 @@ fn last_reply(finding: &Finding) -> u32
 }
 
 /// The number of the entry that an error of the proxy's own names.
-fn number_named(finding: &Finding) -> u32
+pub fn number_named(finding: &Finding) -> u32
     ensures { (cause : Causes) → Fits (Fails cause) finding.now.grounds
         → finding.now.grounds ≡ Fault cause result }
 {
@@ -71,7 +71,7 @@ fn number_named(finding: &Finding) -> u32
 }
 
 /// An answer of the proxy's own: its cause, and the number of the entry that it names.
-fn tell<R: Relation>(
+pub fn tell<R: Relation>(
     alloc: Global,
     mapped: &Mapped<R>,
     cause: Cause,
@@ -192,7 +192,7 @@ fn shown_body(alloc: Global, came: &Incoming, body: &[u8]) -> Result<Body, Memor
 }
 
 /// Whether a HEAD was asked.
-fn is_head(came: &Incoming) -> bool
+pub fn is_head(came: &Incoming) -> bool
     ensures { result ≡ head (came_of came.now) }
 {
     match came {
