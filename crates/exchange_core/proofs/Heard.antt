@@ -41,7 +41,7 @@ first-of t last [] (Some f) i = absurd i
 first-of t last (w ∷ ws) None i = absurd i
 first-of t last (w ∷ ws) (Some f) i = i
 
-none-handed : (v : Option FirstSending) → or_handed_in v None ≡ v
+pub none-handed : (v : Option FirstSending) → or_handed_in v None ≡ v
 none-handed None = refl
 none-handed (Some f) = refl
 

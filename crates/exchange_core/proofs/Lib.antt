@@ -10,6 +10,7 @@ mod Least
 mod Refusals
 mod Renewals
 mod Listed
+mod Apart
 mod Askable
 mod Asked
 mod Asks

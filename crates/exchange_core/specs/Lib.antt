@@ -9,6 +9,7 @@ pub mod Expiring
 pub mod Faults
 pub mod Hearing
 pub mod Joining
+pub mod Judged
 pub mod Matters
 pub mod Notifying
 pub mod Recalling

@@ -71,7 +71,7 @@ fn change_exchanges<R: Relation>(
 }
 
 /// The message that goes out next, in the entry with this number, is that of its exchange.
-fn note_next(exchanges: &mut Exchanges, next: &Option<FirstSending>, number: u32)
+pub fn note_next(exchanges: &mut Exchanges, next: &Option<FirstSending>, number: u32)
     ensures { exchanges.new.exchanges ≡ note_next number next.now exchanges.old.exchanges }
 {
     if let Some(first) = next {
@@ -80,7 +80,7 @@ fn note_next(exchanges: &mut Exchanges, next: &Option<FirstSending>, number: u32
 }
 
 /// The number of the entry in which the next message goes out, after that of the datagram.
-fn first_number(number: u32, heeding: &Heeding) -> u32
+pub fn first_number(number: u32, heeding: &Heeding) -> u32
     requires { number ≤ MAX_ENTRIES }
     ensures { result ≡ first_number number heeding.now }
 {

@@ -12,6 +12,7 @@ ghost use Rattle.exchange_core.specs.Answering.{given_of};
 ghost use Rattle.exchange_core.specs.Asked.{IsAskIn};
 ghost use Rattle.exchange_core.specs.Drafts.{IsDrafted};
 ghost use Rattle.exchange_core.specs.Ending.{IsAnswerTo, IsTold, counted_moment, deed_of, first_moment, last_moment};
+ghost use Rattle.exchange_core.specs.Judged.{TellsAll};
 ghost use Rattle.exchange_core.specs.Matters.{readers_told};
 
 use crate::answer::Answer;
@@ -197,4 +198,46 @@ pub fn draft_tellings<R: Relation>(
         draft_telling(draft, journal, telling, moment)?;
     }
     Ok(())
+}
+
+/// What the one reader is told of that.
+fn found_for(ended: Ended, reader: &Reader) -> Finding
+    ensures { (n : ℕ) (how : Ending) (sending : Option ℕ) → IsEnded n ended how
+        → result ≡ found_for how n sending reader.now }
+{
+    match ended {
+        Ended::Found(finding) => finding,
+        Ended::Renewed(finding, _) => finding,
+        Ended::Turned => Finding::fault(Cause::Busy, reader.ask),
+    }
+}
+
+/// All who wait for the exchange are told how it ended. One alone is given what was found.
+pub fn tell_readers<R: Relation>(
+    alloc: Global,
+    draft: &mut Draft<R>,
+    journal: &Journal<R>,
+    readers: &Readers,
+    exchange: &Exchange,
+    ended: Ended,
+    moment: u64,
+) -> Result<(), AllocError>
+    requires room { draft.old.next + length readers.now.items ≤ 4294967295 }
+    requires told { TellsAll journal.now.entries draft.old.entries moment exchange.now ended
+        readers.now.items }
+    ensures { (S : CoreState) (ds : List Deed) (n : ℕ) (how : Ending) → IsEnded n ended how
+        → S.entries ≡ journal.now.entries → IsDrafted moment S ds draft.old
+        → OnOk result (IsDrafted moment S
+        (ds ++ map deed_of (readers_told how n exchange.now readers.now.items)) draft.new) }
+{
+    let [reader] = readers.of(exchange.opening) else {
+        let told = readers_told(alloc, exchange, &ended, readers)?;
+        return draft_tellings(draft, journal, told, moment);
+    };
+    let telling = Telling {
+        reader: *reader,
+        renewed: is_renewed(&ended),
+        finding: found_for(ended, reader),
+    };
+    draft_telling(draft, journal, telling, moment)
 }

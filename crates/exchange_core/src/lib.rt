@@ -6,6 +6,7 @@
 //! journal is to be taken after it: answers by their asks, and datagrams in order.
 #![tactic(auto)]
 
+mod acting;
 mod answer;
 mod asking;
 mod beginning;
@@ -14,6 +15,7 @@ mod core_state;
 mod draft;
 mod due;
 mod ending;
+mod ends;
 mod expiring;
 mod fault;
 mod hearing;

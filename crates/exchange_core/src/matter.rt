@@ -104,7 +104,7 @@ fn coming_of<R: Relation>(
 
 /// What the exchange comes to by the reply, which the entry with this number bears. It ends where
 /// that says that what it asks about is valid still.
-fn replied_to<R: Relation>(
+pub fn replied_to<R: Relation>(
     alloc: Global,
     s: &State<R>,
     exchange: &Exchange,
@@ -229,7 +229,7 @@ fn goes_on<R: Relation>(
 }
 
 /// What the exchange comes to, as it is prepared.
-fn matter_by<R: Relation>(
+pub fn matter_by<R: Relation>(
     alloc: Global,
     s: &State<R>,
     moment: u64,
@@ -260,39 +260,6 @@ fn matter_by<R: Relation>(
             alloc, s, moment, word, token, peer, heeding, exchange, onward,
         ),
     }
-}
-
-/// What a response is to the exchange whose latest message goes under its token. A next message
-/// goes under this one.
-pub fn matter_of<R: Relation>(
-    alloc: Global,
-    s: &State<R>,
-    moment: u64,
-    word: u64,
-    token: &Token,
-    peer: &Peer,
-    heeding: &Heeding,
-    exchange: &Exchange,
-    message: Message,
-) -> Result<Matter, AllocError>
-    requires entries { length s.now.journal.entries ≤ MAX_ENTRIES }
-    requires few { AllByRecursion IsFewTimes s.now.exchanges.exchanges }
-    requires asked { AllByRecursion (IsAskedFor s.now.journal.entries) s.now.exchanges.exchanges }
-    requires found { find (is_under heeding.now.token) s.now.exchanges.exchanges
-        ≡ Some exchange.now }
-    requires early { moment ≤ LAST_MOMENT }
-    requires ready { MayHeed moment (link_at s.now.endpoints peer.now) heeding.now }
-    requires known { is_some (link_of s.now.endpoints.links peer.now).last_mid ≡ true }
-    requires token { IsNextToken word token.now (state_of s.now) }
-    ensures { IfOk result (λ k. IsPrepared moment word (link_at s.now.endpoints peer.now)
-        heeding.now (state_of s.now) k (matter_for moment peer.now heeding.now
-        (response (content message)) (state_of s.now))) }
-{
-    let number = s.journal.len() as u32;
-    let coming = replied_to(alloc, s, exchange, number, message)?;
-    matter_by(
-        alloc, s, moment, word, token, peer, heeding, exchange, coming,
-    )
 }
 
 /// What an RST is to the exchanges, by the token of the message that it rejects: that one's ends.

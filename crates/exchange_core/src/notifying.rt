@@ -1,10 +1,10 @@
 //! Messages under the tokens of what is observed (RFC 7641).
 
-ghost use Rattle.std.specs.Prelude.{ℕ, ◌≡◌, ◌≤◌, ◌<◌, ◌++◌, true, is_some, Some, ◌&&◌, IfOk, IfSome, OnOk, length, nat_lt, option_to_list};
-ghost use Rattle.std.specs.List.{AllByRecursion};
+ghost use Rattle.std.specs.Prelude.{ℕ, ◌≡◌, ◌≤◌, ◌<◌, ◌++◌, true, is_some, None, Some, ◌&&◌, IfOk, IfSome, OnOk, length, nat_lt, option_to_list};
+ghost use Rattle.std.specs.List.{AllByRecursion, find};
 ghost use Rattle.limits.specs.declared.TheConstants.{LAST_MOMENT, MAX_ENTRIES};
 ghost use Rattle.coap_codec.specs.Spelling.{Content, content};
-ghost use Rattle.message_layer.specs.Values.{told};
+ghost use Rattle.message_layer.specs.Values.{response, told};
 ghost use Rattle.ask_model.specs.Requests.{CoapRequest};
 ghost use Rattle.blockwise.specs.Downloads.{IsSayable};
 ghost use Rattle.observe_share.specs.declared.notice.Notice.TheVariants.{Update};
@@ -14,14 +14,15 @@ ghost use Rattle.history_laws.specs.Hearing.{is_such};
 ghost use Rattle.history_laws.specs.Observing.{as_first, notice_in};
 ghost use Rattle.endpoint_table.specs.Tables.{link_at};
 ghost use Rattle.exchange_model.specs.State.{link_of};
+ghost use Rattle.exchange_model.specs.Steps.{is_under};
 ghost use Rattle.exchange_model.specs.Matters.{IsDigested, Matter as ModelMatter, Tells as TellsOf, asked_in, has_next_place, told_alone, told_so};
 ghost use Rattle.exchange_model.specs.Hearing.{Numbers};
-ghost use Rattle.exchange_core.specs.Matters.{IsAskedFor, IsFewTimes, IsMatter, IsNextToken, IsPrepared};
+ghost use Rattle.exchange_core.specs.Matters.{IsMatter, IsNextToken, IsPrepared};
 ghost use Rattle.exchange_core.specs.Notifying.{IsReadBy, IsNotedIn, IsStarted, IsUnder, IsWatchedBy, IsWatchedFor, ReadsIn, has_link_place, matter_told, may_start_for, notice_told, registered_by, started, unless_more};
 ghost use Rattle.exchange_core.specs.States.{state_of};
 
 use crate::beginning::GET;
-use crate::matter::{Going, Matter, Notification, Starting, matter_of, prepare_next, reset_of};
+use crate::matter::{Going, Matter, Notification, Starting, prepare_next, reset_of};
 use crate::state::State;
 use crate::storing::stored_for;
 use crate::watching::add_written;
@@ -254,8 +255,8 @@ fn tells<R: Relation>(
     }
 }
 
-/// What the datagram is to the exchanges and to what is observed, by what its link tells of it. A
-/// next message goes under this token.
+/// What the datagram, which is no reply to an exchange, is to the exchanges and to what is observed,
+/// by what its link tells of it. A next message goes under this token.
 pub fn matter_told<R: Relation>(
     alloc: Global,
     s: &State<R>,
@@ -268,8 +269,8 @@ pub fn matter_told<R: Relation>(
     up: Up,
 ) -> Result<Matter, AllocError>
     requires entries { length s.now.journal.entries ≤ MAX_ENTRIES }
-    requires few { AllByRecursion IsFewTimes s.now.exchanges.exchanges }
-    requires asked { AllByRecursion (IsAskedFor s.now.journal.entries) s.now.exchanges.exchanges }
+    requires alone { (m : Content) → told up ≡ response m
+        → find (is_under heeding.now.token) s.now.exchanges.exchanges ≡ None }
     requires early { moment ≤ LAST_MOMENT }
     requires ready { MayHeed moment (link_at s.now.endpoints peer.now) heeding.now }
     requires known { is_some (link_of s.now.endpoints.links peer.now).last_mid ≡ true }
@@ -283,14 +284,9 @@ pub fn matter_told<R: Relation>(
         (matter_told moment peer.now heeding.now (told up) (state_of s.now))) }
 {
     match up {
-        Up::Response(message) => match s.exchanges.find(&heeding.token) {
-            Some(exchange) => matter_of(
-                alloc, s, moment, word, token, peer, heeding, exchange, message,
-            ),
-            None => tells(
-                alloc, s, moment, word, token, peer, heeding, notice, message,
-            ),
-        },
+        Up::Response(message) => tells(
+            alloc, s, moment, word, token, peer, heeding, notice, message,
+        ),
         Up::Reset(of) => Ok(reset_of(s, &of)),
         _ => Ok(Matter::Nothing),
     }

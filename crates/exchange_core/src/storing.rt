@@ -197,7 +197,7 @@ fn put_renewed<R: Relation>(
 }
 
 /// What the end of the exchange puts into the store.
-fn put_ended<R: Relation>(
+pub fn put_ended<R: Relation>(
     alloc: Global,
     journal: &Journal<R>,
     exchange: &Exchange,

@@ -1,147 +1,50 @@
-use Rattle.std.proofs.Common.{◌≡◌, Bool, true, false, not, refl, sym, ◌∙◌, arith}
-use Rattle.std.proofs.lemmas.Bool.{false≢true}
+use Rattle.std.proofs.Common.{◌≡◌, ℕ, List, refl, sym, subst}
+use Rattle.coap_codec.specs.Spelling.{Content}
+use Rattle.coap_codec.specs.declared.message.Message.{Message}
+use Rattle.message_layer.specs.Prepared.{IsHearing}
+use Rattle.message_layer.specs.Values.{no_news, response, timed_out, told, was_dropped, was_reset}
+use Rattle.message_layer.specs.declared.state.Up.{Up}
+use Rattle.message_layer.specs.declared.state.Up.TheVariants as U
 use Rattle.endpoint_table.specs.Tables.{link_at}
-use Rattle.exchange_core.specs.Matters.{more_in}
-use Rattle.exchange_core.specs.States.{state_of}
-use Rattle.exchange_model.proofs.CallerLemmas.{all-asked-for, all-digested, all-watched-for, restarts-few}
-use Rattle.exchange_core.proofs.BeginSound.{issued-below}
-use Rattle.exchange_core.proofs.Ordered.{conns-ordered, ordered}
-use Rattle.exchange_core.proofs.Heard.{next-timed}
-use Rattle.coap_codec.specs.Reading.{message_at}
-use Rattle.message_layer.specs.Values.{told}
-use Rattle.exchange_core.specs.Hearing.{watches_after}
-use Rattle.exchange_core.proofs.HeardNotes.{first-so, reads-in, under-told, watched-as}
-use Rattle.exchange_core.proofs.Heeds.{bytes-small, effect}
-use Rattle.exchange_core.proofs.HeardSteps.{newest-in, sound-sealed, seen-sealed, sound-heard, seen-heard, tells-so}
-use Rattle.exchange_core.proofs.Readers.{few-readers}
-use Rattle.exchange_core.proofs.Sounding.{few-for}
 use Rattle.exchange_core.proofs.hearing.take.Goals as goal
 
-untaken : (b : Bool) → not b ≡ true → b ≡ false
-untaken true e = absurd (false≢true e)
-untaken false e = refl
+-- What isn't a response is none.
 
-is-taken : (b : Bool) → not b ≡ false → b ≡ true
-is-taken true e = refl
-is-taken false e = absurd (false≢true (sym e))
+nothing-else : (m : Content) → no_news ≡ response m → ⊥
+nothing-else m e = cc
 
-pub matter_told-requires-clause-few : goal.matter_told-requires-clause-few
-matter_told-requires-clause-few g c = restarts-few (state_of c.args.s.now) c.requires.sound.kept.kept
+timed-else : (of : List ℕ) (m : Content) → timed_out of ≡ response m → ⊥
+timed-else of m e = cc
 
-pub matter_told-requires-clause-asked : goal.matter_told-requires-clause-asked
-matter_told-requires-clause-asked g c = all-asked-for (state_of c.args.s.now) c.requires.sound.kept.kept
+reset-else : (of : List ℕ) (m : Content) → was_reset of ≡ response m → ⊥
+reset-else of m e = cc
 
-pub matter_told-requires-clause-watched : goal.matter_told-requires-clause-watched
-matter_told-requires-clause-watched g c = all-watched-for (state_of c.args.s.now) c.requires.sound.kept.kept
+dropped-else : (m : Content) → was_dropped ≡ response m → ⊥
+dropped-else m e = cc
 
-pub matter_told-requires-clause-digests : goal.matter_told-requires-clause-digests
-matter_told-requires-clause-digests g c = all-digested (state_of c.args.s.now) c.requires.sound.kept.kept
+else-none : (u : Up) (m : Content) → told u ≡ response m → ((x : Message) → u ≡ U.Response x → ⊥) → ⊥
+else-none (U.Response x) m e none = none x refl
+else-none U.Nothing m e none = nothing-else m e
+else-none (U.TimedOut of) m e none = timed-else of m e
+else-none (U.Reset of) m e none = reset-else of m e
+else-none U.Dropped m e none = dropped-else m e
 
-pub matter_told-requires-clause-known : goal.matter_told-requires-clause-known
-matter_told-requires-clause-known g c = c.requires.hears.known
+pub take_reply-requires-clause-hears : goal.take_reply-requires-clause-hears
+take_reply-requires-clause-hears g c =
+    subst (λ (u : Up). IsHearing c.args.moment c.args.datagram.now (link_at c.args.s.now.endpoints c.args.peer) (record { heeding = c.args.hearing.heeding; up = u })) c.in-Response.is c.requires.hears
 
-pub matter_told-requires-clause-under : goal.matter_told-requires-clause-under
-matter_told-requires-clause-under g c =
-    under-told c.args.moment c.args.datagram.now _ c.args.hearing (message_at c.args.datagram.now) c.requires.hears.is
+pub take_reply-requires-clause-open : goal.take_reply-requires-clause-open
+take_reply-requires-clause-open g c = sym c.in-Some.ensures
 
-pub bring-requires-clause-reads : goal.bring-requires-clause-reads
-bring-requires-clause-reads g c =
-    let made = c.in_ok-matter.ensures in
-    reads-in c.args.moment c.args.peer c.args.hearing.heeding (told c.args.hearing.up) (state_of c.args.s.now) _ made.numbers c.in_ok-matter.matter c.requires.sound.kept.kept made.is
+pub take_alone-requires-clause-hears : goal.take_alone-requires-clause-hears
+take_alone-requires-clause-hears g c = c.requires.hears
 
-pub bring-requires-clause-readers : goal.bring-requires-clause-readers
-bring-requires-clause-readers g c = few-readers (state_of c.args.s.now) c.requires.sound.kept
+pub take_alone-requires-clause-alone : goal.take_alone-requires-clause-alone
+take_alone-requires-clause-alone g c = λ m is. absurd (else-none c.args.hearing.up m is c.in_default.not-Response)
 
-pub bring-requires-clause-timed : goal.bring-requires-clause-timed
-bring-requires-clause-timed g c =
-    next-timed c.args.moment c.args.peer (state_of c.args.s.now) (link_at c.args.s.now.endpoints c.args.peer) c.args.hearing.heeding
-    (more_in c.in_ok-matter.matter) c.requires.hears.ready c.in_ok-matter.ensures.follows refl c.requires.sound.kept.kept
+pub take_alone-requires-in-None-clause-hears : goal.take_alone-requires-in-None-clause-hears
+take_alone-requires-in-None-clause-hears g c =
+    subst (λ (u : Up). IsHearing c.args.moment c.args.datagram.now (link_at c.args.s.now.endpoints c.args.peer) (record { heeding = c.args.hearing.heeding; up = u })) c.in-Response.is c.requires.hears
 
-pub bring-requires-clause-tells : goal.bring-requires-clause-tells
-bring-requires-clause-tells g c =
-    tells-so c.args.moment c.args.word c.args.peer c.args.datagram.now (state_of c.args.s.now) (link_at c.args.s.now.endpoints c.args.peer) c.args.hearing _ _ _
-    c.requires.sound c.requires.unsealed c.requires.later c.requires.early
-    (bytes-small c.args.datagram.now (λ i. omega (arith, c.type_inv.datagram i)))
-    c.requires.hears refl c.in_ok-matter.matter c.in_ok-matter.ensures
-
-pub bring-requires-clause-ordered : goal.bring-requires-clause-ordered
-bring-requires-clause-ordered g c = conns-ordered (state_of c.args.s.now) c.requires.sound.kept
-
-pub add_heard-requires-clause-ordered : goal.add_heard-requires-clause-ordered
-add_heard-requires-clause-ordered g c = ordered (state_of c.args.s.now) c.requires.sound.kept
-
-pub add_heard-requires-clause-issued : goal.add_heard-requires-clause-issued
-add_heard-requires-clause-issued g c = issued-below _ _ _ _ c.requires.sound
-
-pub add_heard-requires-clause-newest : goal.add_heard-requires-clause-newest
-add_heard-requires-clause-newest g c =
-    let made = c.in_ok-matter.ensures in
-    newest-in (state_of c.args.s.now) c.requires.sound.kept.kept c.in_ok-matter.matter _ made.numbers made.is made.worded.number
-
-pub add_heard-requires-clause-digests : goal.add_heard-requires-clause-digests
-add_heard-requires-clause-digests g c = all-digested (state_of c.args.s.now) c.requires.sound.kept.kept
-
-pub add_heard-requires-clause-follows : goal.add_heard-requires-clause-follows
-add_heard-requires-clause-follows g c = c.in_ok-matter.ensures.follows
-
-pub add_heard-requires-clause-known : goal.add_heard-requires-clause-known
-add_heard-requires-clause-known g c = c.requires.hears.known
-
-pub add_heard-requires-clause-few : goal.add_heard-requires-clause-few
-add_heard-requires-clause-few g c =
-    few-for c.args.moment (state_of c.args.s.now) c.bring.new.draft
-    (sym (c.in_ok-brought.ensures.taken c.args.moment) ∙ is-taken _ c.if-not-brought.false)
-
-pub returns-then-not-brought-clause-sound : goal.returns-then-not-brought-clause-sound
-returns-then-not-brought-clause-sound g c =
-    let e = c.seal.ensures in let made = c.in_ok-matter.ensures in
-    sound-sealed c.args.moment c.args.word c.args.peer c.args.datagram.now
-    (state_of c.args.s.now) (link_at c.args.s.now.endpoints c.args.peer) c.args.hearing _ _ _
-    c.requires.sound c.requires.unsealed c.requires.later c.requires.early
-    (bytes-small c.args.datagram.now (λ i. omega (arith, c.type_inv.datagram i)))
-    c.requires.hears refl c.in_ok-matter.matter made
-    c.bring.new.draft (c.in_ok-brought.ensures.drafted made.numbers _ made.is) _ _ (watched-as c.args.moment c.args.word c.args.peer c.args.datagram.now (state_of c.args.s.now) (link_at c.args.s.now.endpoints c.args.peer) c.args.hearing
-    c.in_ok-matter.matter c.requires.hears refl made c.in_ok-brought.brought.watching c.notice_told-notice.result c.notice_told-notice.ensures c.in_ok-brought.ensures.watched) _ _ _ _
-    (sym (c.in_ok-brought.ensures.taken c.args.moment) ∙ untaken _ c.if-not-brought.true) e.state e.bytes e.room e.answers
-
-pub returns-then-not-brought-clause-heard : goal.returns-then-not-brought-clause-heard
-returns-then-not-brought-clause-heard g c =
-    let e = c.seal.ensures in let made = c.in_ok-matter.ensures in
-    seen-sealed c.args.moment c.args.word c.args.peer c.args.datagram.now
-    (state_of c.args.s.now) (link_at c.args.s.now.endpoints c.args.peer) c.args.hearing _ _ _
-    c.requires.sound c.requires.unsealed c.requires.later c.requires.early
-    (bytes-small c.args.datagram.now (λ i. omega (arith, c.type_inv.datagram i)))
-    c.requires.hears refl c.in_ok-matter.matter made
-    c.bring.new.draft (c.in_ok-brought.ensures.drafted made.numbers _ made.is) _ _ (watched-as c.args.moment c.args.word c.args.peer c.args.datagram.now (state_of c.args.s.now) (link_at c.args.s.now.endpoints c.args.peer) c.args.hearing
-    c.in_ok-matter.matter c.requires.hears refl made c.in_ok-brought.brought.watching c.notice_told-notice.result c.notice_told-notice.ensures c.in_ok-brought.ensures.watched) _ _ _ _
-    (sym (c.in_ok-brought.ensures.taken c.args.moment) ∙ untaken _ c.if-not-brought.true) e.state e.answers e.sends
-
-pub returns-clause-sound : goal.returns-clause-sound
-returns-clause-sound g c =
-    let e = c.in_ok-add_heard.ensures in let made = c.in_ok-matter.ensures in
-    sound-heard c.args.moment c.args.word c.args.peer c.args.datagram.now
-    (state_of c.args.s.now) (link_at c.args.s.now.endpoints c.args.peer) c.args.hearing _ _ _
-    c.requires.sound c.requires.unsealed c.requires.later c.requires.early
-    (bytes-small c.args.datagram.now (λ i. omega (arith, c.type_inv.datagram i)))
-    c.requires.hears refl c.in_ok-matter.matter made
-    c.bring.new.draft (c.in_ok-brought.ensures.drafted made.numbers _ made.is) _ _ (watched-as c.args.moment c.args.word c.args.peer c.args.datagram.now (state_of c.args.s.now) (link_at c.args.s.now.endpoints c.args.peer) c.args.hearing
-    c.in_ok-matter.matter c.requires.hears refl made c.in_ok-brought.brought.watching c.notice_told-notice.result c.notice_told-notice.ensures c.in_ok-brought.ensures.watched) _ _ _ _
-    (sym (c.in_ok-brought.ensures.taken c.args.moment) ∙ is-taken _ c.if-not-brought.false)
-    (e.state (effect c.args.moment c.args.word c.args.peer c.args.datagram.now (state_of c.args.s.now) (link_at c.args.s.now.endpoints c.args.peer) c.args.hearing
-    c.in_ok-matter.matter c.requires.hears refl made (watches_after c.args.moment c.args.s.now.journal.entries c.in_ok-brought.brought.watching.notice c.in_ok-matter.matter
-    c.in_ok-brought.brought.watching.more c.args.s.now.watches.standing) c.in_ok-brought.brought.watching.gone.items) (record { matter = made.is; first = first-so c.args.moment c.args.peer c.args.hearing.heeding (told c.args.hearing.up) (state_of c.args.s.now) _ made.numbers c.in_ok-matter.matter c.requires.sound.kept.kept made.is; watches = refl; gone = refl }) (c.in_ok-brought.ensures.put made.numbers _ made.is)) e.bytes e.held e.answers
-
-pub returns-clause-heard : goal.returns-clause-heard
-returns-clause-heard g c =
-    let e = c.in_ok-add_heard.ensures in let made = c.in_ok-matter.ensures in
-    seen-heard c.args.moment c.args.word c.args.peer c.args.datagram.now
-    (state_of c.args.s.now) (link_at c.args.s.now.endpoints c.args.peer) c.args.hearing _ _ _
-    c.requires.sound c.requires.unsealed c.requires.later c.requires.early
-    (bytes-small c.args.datagram.now (λ i. omega (arith, c.type_inv.datagram i)))
-    c.requires.hears refl c.in_ok-matter.matter made
-    c.bring.new.draft (c.in_ok-brought.ensures.drafted made.numbers _ made.is) _ _ (watched-as c.args.moment c.args.word c.args.peer c.args.datagram.now (state_of c.args.s.now) (link_at c.args.s.now.endpoints c.args.peer) c.args.hearing
-    c.in_ok-matter.matter c.requires.hears refl made c.in_ok-brought.brought.watching c.notice_told-notice.result c.notice_told-notice.ensures c.in_ok-brought.ensures.watched) _ _ _ _
-    (sym (c.in_ok-brought.ensures.taken c.args.moment) ∙ is-taken _ c.if-not-brought.false)
-    (e.state (effect c.args.moment c.args.word c.args.peer c.args.datagram.now (state_of c.args.s.now) (link_at c.args.s.now.endpoints c.args.peer) c.args.hearing
-    c.in_ok-matter.matter c.requires.hears refl made (watches_after c.args.moment c.args.s.now.journal.entries c.in_ok-brought.brought.watching.notice c.in_ok-matter.matter
-    c.in_ok-brought.brought.watching.more c.args.s.now.watches.standing) c.in_ok-brought.brought.watching.gone.items) (record { matter = made.is; first = first-so c.args.moment c.args.peer c.args.hearing.heeding (told c.args.hearing.up) (state_of c.args.s.now) _ made.numbers c.in_ok-matter.matter c.requires.sound.kept.kept made.is; watches = refl; gone = refl }) (c.in_ok-brought.ensures.put made.numbers _ made.is)) e.answers e.sends
+pub take_alone-requires-in-None-clause-alone : goal.take_alone-requires-in-None-clause-alone
+take_alone-requires-in-None-clause-alone g c = λ m is. sym c.in-None.ensures

@@ -1,35 +1,22 @@
 use Rattle.std.proofs.Common.{sym, ap, subst}
 use Rattle.std.specs.Prelude.{is_none, IfOk}
 use Rattle.coap_codec.specs.Spelling.{content}
-use Rattle.message_layer.specs.Values.{Told, response, told}
+use Rattle.message_layer.specs.Values.{Told, told}
 use Rattle.endpoint_table.specs.Tables.{link_at}
 use Rattle.exchange_model.specs.Matters.{Matter}
 use Rattle.exchange_core.specs.declared.matter.Matter.{Matter as RustMatter}
 use Rattle.exchange_core.specs.Matters.{IsPrepared}
 use Rattle.exchange_core.specs.Notifying.{matter_told}
 use Rattle.exchange_core.specs.States.{state_of}
-use Rattle.exchange_core.proofs.Notified.{told-exchange, told-watch}
+use Rattle.exchange_core.proofs.Notified.{told-watch}
 use Rattle.exchange_core.proofs.notifying.matter_told.Goals as goal
 
-pub matter_of-requires-clause-found : goal.matter_of-requires-clause-found
-matter_of-requires-clause-found g c = sym c.in-Some.ensures
-
-pub returns-in-Some : goal.returns-in-Some
-returns-in-Some g c =
+pub returns-in-Response : goal.returns-in-Response
+returns-in-Response g c =
     let S = state_of c.args.s.now in
     let x = c.args.heeding.now in
     let link = link_at c.args.s.now.endpoints c.args.peer.now in
-    let alone = ap is_none (sym c.in-Some.ensures) in
-    subst (λ (u : Told). IfOk c.matter_of.result (λ (k : RustMatter). IsPrepared c.args.moment c.args.word link x S k (matter_told c.args.moment c.args.peer.now x u S))) (sym (ap told c.in-Response.is))
-    (subst (λ (y : Matter). IfOk c.matter_of.result (λ (k : RustMatter). IsPrepared c.args.moment c.args.word link x S k y))
-    (told-exchange c.args.moment c.args.peer.now x S (response (content c.in-Response.message)) alone) c.matter_of.ensures)
-
-pub returns-in-None : goal.returns-in-None
-returns-in-None g c =
-    let S = state_of c.args.s.now in
-    let x = c.args.heeding.now in
-    let link = link_at c.args.s.now.endpoints c.args.peer.now in
-    let alone = ap is_none (sym c.in-None.ensures) in
+    let alone = ap is_none (c.requires.alone (content c.in-Response.message) (ap told c.in-Response.is)) in
     subst (λ (u : Told). IfOk c.tells.result (λ (k : RustMatter). IsPrepared c.args.moment c.args.word link x S k (matter_told c.args.moment c.args.peer.now x u S))) (sym (ap told c.in-Response.is))
     (subst (λ (y : Matter). IfOk c.tells.result (λ (k : RustMatter). IsPrepared c.args.moment c.args.word link x S k y))
     (told-watch c.args.moment c.args.peer.now x S (content c.in-Response.message) alone) c.tells.ensures)

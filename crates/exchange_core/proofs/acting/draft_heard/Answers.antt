@@ -14,7 +14,7 @@ use Rattle.exchange_core.specs.Values.{written}
 use Rattle.exchange_core.proofs.Drafting.{answers-none}
 use Rattle.exchange_core.proofs.Heard.{link-few}
 use Rattle.exchange_core.proofs.Tolds.{told-few, told-same}
-use Rattle.exchange_core.proofs.hearing.draft_heard.Goals as goal
+use Rattle.exchange_core.proofs.acting.draft_heard.Goals as goal
 
 pub draft_tellings-requires-clause-room : goal.draft_tellings-requires-clause-room
 draft_tellings-requires-clause-room g c =

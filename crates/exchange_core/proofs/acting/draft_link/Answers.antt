@@ -3,7 +3,7 @@ use Rattle.exchange_core.specs.Drafts.{Drafts}
 use Rattle.exchange_core.specs.Hearing.{link_deeds}
 use Rattle.exchange_core.specs.States.{state_of}
 use Rattle.exchange_core.proofs.Heard.{reply-few}
-use Rattle.exchange_core.proofs.hearing.draft_link.Goals as goal
+use Rattle.exchange_core.proofs.acting.draft_link.Goals as goal
 
 pub draft_reply-requires : goal.draft_reply-requires
 draft_reply-requires g c =

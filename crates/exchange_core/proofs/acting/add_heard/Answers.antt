@@ -2,7 +2,7 @@ use Rattle.std.proofs.Common.{subst, sym}
 use Rattle.std.specs.List.{AllByRecursion}
 use Rattle.exchange_model.specs.State.{State}
 use Rattle.exchange_model.specs.Matters.{IsDigested}
-use Rattle.exchange_core.proofs.hearing.add_heard.Goals as goal
+use Rattle.exchange_core.proofs.acting.add_heard.Goals as goal
 
 pub change_tables-requires-clause-ready : goal.change_tables-requires-clause-ready
 change_tables-requires-clause-ready g c = rw (c.make_room_to_add.ensures.endpoints) c.requires.ready
