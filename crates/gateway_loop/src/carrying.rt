@@ -6,7 +6,7 @@ ghost use Rattle.gateway_loop.specs.Gateways.{MayGoOn};
 ghost use Rattle.transformers.specs.Suits.{Suits};
 
 use crate::delivery::deliver;
-use crate::gateway::Gateway;
+use crate::gateway::{Ends, Gateway};
 use crate::host::Host;
 use crate::inputs::Passed;
 use crate::sockets::{Stream, Wire};
@@ -23,7 +23,7 @@ impl<R: Relation, S: Stream + Drop, W: Wire + Drop> Gateway<R, S, W> {
     pub fn is_between(&self, number: u32) -> bool
         ensures { result ≡ true → MayGoOn number self.now }
     {
-        self.world.is_between(number) && self.clients.is_written(number)
+        self.world.is_between(number) && self.ends.clients.is_written(number)
     }
 
     /// Closes the connection for the world between two requests: its stream is to go on as another.
@@ -42,7 +42,7 @@ impl<R: Relation, S: Stream + Drop, W: Wire + Drop> Gateway<R, S, W> {
     fn stand_still(&mut self, number: u32)
         ensures { self.new ≡ self.old }
     {
-        self.clients.park(number);
+        self.ends.clients.park(number);
     }
 
     /// Opens a connection for the stream of this one, which goes on as it. Where none opens, memory is
@@ -60,12 +60,12 @@ impl<R: Relation, S: Stream + Drop, W: Wire + Drop> Gateway<R, S, W> {
         let next = self.next_number();
         let Gateway {
             world,
-            mut clients,
             mut outputs,
-            mut wire,
+            mut ends,
         } = self;
+        let Ends { clients, wire } = &mut *ends;
         if !clients.carry(number, host, next) {
-            return Ok(Gateway::of(world, clients, outputs, wire));
+            return Ok(Gateway::of(world, outputs, ends));
         }
         let input = Input {
             moment: when.moment,
@@ -75,18 +75,18 @@ impl<R: Relation, S: Stream + Drop, W: Wire + Drop> Gateway<R, S, W> {
         let Advanced { world, step } = world.advance(bank, input, &mut outputs)?;
         match step {
             Step::Taken(Some(opened)) => {
-                deliver(&mut outputs, &mut clients, &mut wire);
+                deliver(&mut outputs, clients, wire);
                 clients.line_up(opened);
-                Ok(Gateway::of(world, clients, outputs, wire))
+                Ok(Gateway::of(world, outputs, ends))
             }
             Step::Taken(None) => {
                 clients.pop();
-                deliver(&mut outputs, &mut clients, &mut wire);
-                Ok(Gateway::of(world, clients, outputs, wire))
+                deliver(&mut outputs, clients, wire);
+                Ok(Gateway::of(world, outputs, ends))
             }
             Step::Refused => {
                 clients.pop();
-                Ok(Gateway::of(world, clients, outputs, wire))
+                Ok(Gateway::of(world, outputs, ends))
             }
         }
     }

@@ -33,7 +33,7 @@ impl<R: Relation, S: Stream + Drop, W: Wire + Drop> Gateway<R, S, W> {
         ensures turns { number < length self.old.clients.places
             → HaveTurns (number ∷ []) self.old.clients self.new.clients }
     {
-        self.clients.wake(number, ended);
+        self.ends.clients.wake(number, ended);
     }
 
     /// The connection may have something to do: it has its turn after those before it.
@@ -41,7 +41,7 @@ impl<R: Relation, S: Stream + Drop, W: Wire + Drop> Gateway<R, S, W> {
         ensures world { self.new.world ≡ self.old.world }
         ensures turns { HaveTurns (number ∷ []) self.old.clients self.new.clients }
     {
-        self.clients.line_up(number);
+        self.ends.clients.line_up(number);
     }
 
     /// Whether all connections have their turns. That is told once.
@@ -49,33 +49,33 @@ impl<R: Relation, S: Stream + Drop, W: Wire + Drop> Gateway<R, S, W> {
         ensures world { self.new.world ≡ self.old.world }
         ensures is { result ≡ self.old.clients.everyone }
     {
-        self.clients.take_everyone()
+        self.ends.clients.take_everyone()
     }
 
     /// Whose turn is next.
     pub fn next(&mut self) -> Option<u32>
         ensures { self.new.world ≡ self.old.world }
     {
-        self.clients.next()
+        self.ends.clients.next()
     }
 
     /// How far the connection is, if it is there.
     pub fn stage(&self, number: u32) -> Option<Stage> {
-        self.clients.stage(number)
+        self.ends.clients.stage(number)
     }
 
     /// The connection takes leave.
     pub fn leave(&mut self, number: u32)
         ensures { self.new.world ≡ self.old.world }
     {
-        self.clients.leave(number);
+        self.ends.clients.leave(number);
     }
 
     /// The connection is there no more, with what is left for it.
     pub(crate) fn remove(&mut self, number: u32)
         ensures { self.new.world ≡ self.old.world }
     {
-        self.clients.remove(number);
+        self.ends.clients.remove(number);
     }
 
     /// Writes and reads on the connection, and answers what is to be done next. Nothing is asked of
@@ -88,15 +88,15 @@ impl<R: Relation, S: Stream + Drop, W: Wire + Drop> Gateway<R, S, W> {
             → HasConn self.old.world.core.state.conns number None → result ≡ Due.End }
         ensures length { length buffer.new ≡ length buffer.old }
     {
-        if self.clients.stage(number).is_none() {
+        if self.ends.clients.stage(number).is_none() {
             return self.end_of_nobody(number);
         }
-        match self.clients.flush(number) {
+        match self.ends.clients.flush(number) {
             Flow::On => {}
             Flow::Later => return Due::Nothing,
             Flow::End | Flow::Lost => return Due::End,
         }
-        match self.clients.stage(number) {
+        match self.ends.clients.stage(number) {
             Some(Stage::Open) => self.find_piece(number, buffer),
             Some(Stage::Parked) => Due::Nothing,
             Some(Stage::Closing) => Due::Farewell,
@@ -129,10 +129,10 @@ impl<R: Relation, S: Stream + Drop, W: Wire + Drop> Gateway<R, S, W> {
         if !self.world.is_idle(number) {
             return Due::Nothing;
         }
-        if self.clients.has_unfed(number) {
+        if self.ends.clients.has_unfed(number) {
             return Due::Piece;
         }
-        match self.clients.read(number, buffer) {
+        match self.ends.clients.read(number, buffer) {
             Flow::On => Due::Piece,
             Flow::Later => Due::Nothing,
             Flow::End | Flow::Lost => Due::End,
@@ -145,7 +145,7 @@ impl<R: Relation, S: Stream + Drop, W: Wire + Drop> Gateway<R, S, W> {
         ensures asks { result ≢ Due.Piece }
         ensures length { length buffer.new ≡ length buffer.old }
     {
-        match self.clients.read(number, buffer) {
+        match self.ends.clients.read(number, buffer) {
             Flow::On => Due::More,
             Flow::Later => Due::Nothing,
             Flow::End | Flow::Lost => Due::End,

@@ -5,7 +5,7 @@ ghost use Rattle.gateway_loop.specs.Gateways.{MayAsk};
 ghost use Rattle.transformers.specs.Suits.{Suits};
 
 use crate::delivery::deliver;
-use crate::gateway::Gateway;
+use crate::gateway::{Ends, Gateway};
 use crate::sockets::{Stream, Wire};
 use gateway_world::{Advanced, Happening, Input, Step, When};
 use http_edge::Memory;
@@ -22,11 +22,10 @@ impl<R: Relation, S: Stream + Drop, W: Wire + Drop> Gateway<R, S, W> {
     {
         let Gateway {
             world,
-            mut clients,
             mut outputs,
-            mut wire,
+            mut ends,
         } = self;
-        let piece = clients.piece(number);
+        let piece = ends.clients.piece(number);
         let count = piece.len();
         let input = Input {
             moment: when.moment,
@@ -34,15 +33,16 @@ impl<R: Relation, S: Stream + Drop, W: Wire + Drop> Gateway<R, S, W> {
             happening: Happening::Bytes(number, piece),
         };
         if world.is_too_much(input.happening) {
-            let gateway = Gateway::of(world, clients, outputs, wire);
+            let gateway = Gateway::of(world, outputs, ends);
             return gateway.end(bank, when, number);
         }
         let Advanced { world, step } = world.advance(bank, input, &mut outputs)?;
         match step {
             Step::Taken(_) => {
+                let Ends { clients, wire } = &mut *ends;
                 clients.feed(number, count);
-                deliver(&mut outputs, &mut clients, &mut wire);
-                Ok(Gateway::of(world, clients, outputs, wire))
+                deliver(&mut outputs, clients, wire);
+                Ok(Gateway::of(world, outputs, ends))
             }
             // What a connection brings is never refused: where memory is, that is given up.
             Step::Refused => unreachable!(),

@@ -19,14 +19,22 @@ use transformers::Relation;
 /// datagram to each of 512 endpoints, and to each of 256 connections two runs of bytes and its end.
 const MOST_OUTPUTS: usize = 2048;
 
-/// A world, the connections that it serves by their numbers, and the wire.
+/// What a world is driven by, and to whom it gives out: the connections by their numbers, and the
+/// wire.
+#[derive(Drop)]
+pub struct Ends<S: Stream, W: Wire> {
+    pub(crate) clients: Clients<S>,
+    pub(crate) wire: W,
+}
+
+/// A world and its ends.
 #[derive(Drop)]
 pub struct Gateway<R: Relation, S: Stream, W: Wire> {
     pub(crate) world: World<R>,
-    pub(crate) clients: Clients<S>,
     /// What an input gives out, until it is delivered.
     pub(crate) outputs: Vec<Output<R>>,
-    pub(crate) wire: W,
+    /// In a place of their own, so that who hands a gateway on moves little.
+    pub(crate) ends: Box<Ends<S, W>>,
 }
 
 impl<R: Relation, S: Stream, W: Wire> Model for Gateway<R, S, W> {
@@ -37,13 +45,13 @@ impl<R: Relation, S: Stream, W: Wire> Model for Gateway<R, S, W> {
 
     ghost view = { λ g. record {
       world = g.world;
-      clients = g.clients;
-      wire = g.wire;
+      clients = g.ends.value.clients;
+      wire = g.ends.value.wire;
     } };
 
     ghost invariant = { λ g.
-        IsServing R.holds R.takes S.written S.gave W.sent W.heard g.world g.clients.places g.wire
-        g.clients.told };
+        IsServing R.holds R.takes S.written S.gave W.sent W.heard g.world
+        g.ends.value.clients.places g.ends.value.wire g.ends.value.clients.told };
 }
 
 impl<R: Relation, S: Stream + Drop, W: Wire + Drop> Gateway<R, S, W> {
@@ -55,65 +63,67 @@ impl<R: Relation, S: Stream + Drop, W: Wire + Drop> Gateway<R, S, W> {
     {
         let mut outputs = Vec::new(alloc);
         outputs.try_reserve(MOST_OUTPUTS)?;
+        let ends = Ends {
+            clients: Clients::new(alloc),
+            wire,
+        };
         Ok(Gateway {
             world: World::new(alloc, settings)?,
-            clients: Clients::new(alloc),
             outputs,
-            wire,
+            ends: Box::new(alloc, ends)?,
         })
     }
 
     /// The gateway of these.
     pub(crate) fn of(
         world: World<R>,
-        clients: Clients<S>,
         outputs: Vec<Output<R>>,
-        wire: W,
+        ends: Box<Ends<S, W>>,
     ) -> Gateway<R, S, W>
         requires { IsServing R.holds R.takes S.written S.gave W.sent W.heard
-            world clients.places wire clients.told }
-        ensures { result ≡ record { world = world; clients = clients; wire = wire } }
+            world ends.value.clients.places ends.value.wire ends.value.clients.told }
+        ensures { result
+            ≡ record { world = world; clients = ends.value.clients; wire = ends.value.wire } }
     {
         Gateway {
             world,
-            clients,
             outputs,
-            wire,
+            ends,
         }
     }
 
     /// Where memory is taken.
     pub(crate) fn alloc(&self) -> Global {
-        self.clients.alloc()
+        self.ends.clients.alloc()
     }
 
     /// How many connections there were, and so the number of the next.
     pub fn count(&self) -> usize
         ensures { result ≡ length self.now.clients.places }
     {
-        self.clients.count()
+        self.ends.clients.count()
     }
 
     /// The first number of which something is kept: all connections before it ended.
     pub fn first_number(&self) -> u32 {
-        self.clients.first()
+        self.ends.clients.first()
     }
 
     /// The number of the next connection, or the last number that there is.
     pub fn next_number(&self) -> u32 {
-        u32::try_from(self.clients.count()).unwrap_or(u32::MAX)
+        u32::try_from(self.ends.clients.count()).unwrap_or(u32::MAX)
     }
 
     /// Whether connections have their turns.
     pub fn have_turns(&self) -> bool {
-        self.clients.have_turns()
+        self.ends.clients.have_turns()
     }
 
     /// How many connections stand in the line of those that have their turns.
     pub fn in_line(&self) -> usize
         ensures { result ≡ length self.now.clients.line }
     {
-        self.clients.in_line()
+        self.ends.clients.in_line()
     }
 
     /// The moment of the next tick that has something to do, if any has.

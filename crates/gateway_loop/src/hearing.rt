@@ -4,7 +4,7 @@ ghost use Rattle.std.specs.Prelude.{◌≡◌, true, false, length, IfOk};
 ghost use Rattle.transformers.specs.Suits.{Suits};
 
 use crate::delivery::deliver;
-use crate::gateway::Gateway;
+use crate::gateway::{Ends, Gateway};
 use crate::sockets::{Received, Stream, Wire};
 use gateway_world::{Advanced, Happening, Input, Step, When};
 use http_edge::Memory;
@@ -34,14 +34,14 @@ impl<R: Relation, S: Stream + Drop, W: Wire + Drop> Gateway<R, S, W> {
     {
         let Gateway {
             world,
-            mut clients,
             mut outputs,
-            mut wire,
+            mut ends,
         } = self;
+        let Ends { clients, wire } = &mut *ends;
         let (count, peer) = match wire.receive(buffer) {
             Received::From(count, peer) => (count, peer),
             Received::Later => {
-                let gateway = Gateway::of(world, clients, outputs, wire);
+                let gateway = Gateway::of(world, outputs, ends);
                 return Ok(Listened {
                     gateway,
                     heard: false,
@@ -56,15 +56,15 @@ impl<R: Relation, S: Stream + Drop, W: Wire + Drop> Gateway<R, S, W> {
         let Advanced { world, step } = world.advance(bank, input, &mut outputs)?;
         match step {
             Step::Taken(_) => {
-                deliver(&mut outputs, &mut clients, &mut wire);
-                let gateway = Gateway::of(world, clients, outputs, wire);
+                deliver(&mut outputs, clients, wire);
+                let gateway = Gateway::of(world, outputs, ends);
                 Ok(Listened {
                     gateway,
                     heard: true,
                 })
             }
             Step::Refused => {
-                let gateway = Gateway::of(world, clients, outputs, wire);
+                let gateway = Gateway::of(world, outputs, ends);
                 Ok(Listened {
                     gateway,
                     heard: true,

@@ -9,7 +9,7 @@ ghost use Rattle.gateway_loop.specs.Sockets.{Are};
 ghost use Rattle.transformers.specs.Suits.{Suits};
 
 use crate::delivery::deliver;
-use crate::gateway::Gateway;
+use crate::gateway::{Ends, Gateway};
 use crate::sockets::{Stream, Wire};
 use gateway_world::{Advanced, Happening, Input, Step, When};
 use http_edge::Memory;
@@ -33,13 +33,13 @@ impl<R: Relation, S: Stream + Drop, W: Wire + Drop> Gateway<R, S, W> {
     {
         let Gateway {
             world,
-            mut clients,
             mut outputs,
-            mut wire,
+            mut ends,
         } = self;
+        let Ends { clients, wire } = &mut *ends;
         match clients.push(stream) {
             Ok(()) => {}
-            Err(_) => return Ok(Gateway::of(world, clients, outputs, wire)),
+            Err(_) => return Ok(Gateway::of(world, outputs, ends)),
         }
         let input = Input {
             moment: when.moment,
@@ -49,17 +49,17 @@ impl<R: Relation, S: Stream + Drop, W: Wire + Drop> Gateway<R, S, W> {
         let Advanced { world, step } = world.advance(bank, input, &mut outputs)?;
         match step {
             Step::Taken(Some(_)) => {
-                deliver(&mut outputs, &mut clients, &mut wire);
-                Ok(Gateway::of(world, clients, outputs, wire))
+                deliver(&mut outputs, clients, wire);
+                Ok(Gateway::of(world, outputs, ends))
             }
             Step::Taken(None) => {
                 clients.pop();
-                deliver(&mut outputs, &mut clients, &mut wire);
-                Ok(Gateway::of(world, clients, outputs, wire))
+                deliver(&mut outputs, clients, wire);
+                Ok(Gateway::of(world, outputs, ends))
             }
             Step::Refused => {
                 clients.pop();
-                Ok(Gateway::of(world, clients, outputs, wire))
+                Ok(Gateway::of(world, outputs, ends))
             }
         }
     }
@@ -96,10 +96,10 @@ impl<R: Relation, S: Stream + Drop, W: Wire + Drop> Gateway<R, S, W> {
     {
         let Gateway {
             world,
-            mut clients,
             mut outputs,
-            mut wire,
+            mut ends,
         } = self;
+        let Ends { clients, wire } = &mut *ends;
         let input = Input {
             moment: when.moment,
             word: when.word,
@@ -108,15 +108,15 @@ impl<R: Relation, S: Stream + Drop, W: Wire + Drop> Gateway<R, S, W> {
         let Advanced { world, step } = world.advance(bank, input, &mut outputs)?;
         match step {
             Step::Taken(_) => {
-                deliver(&mut outputs, &mut clients, &mut wire);
-                let gateway = Gateway::of(world, clients, outputs, wire);
+                deliver(&mut outputs, clients, wire);
+                let gateway = Gateway::of(world, outputs, ends);
                 Ok(Passed {
                     gateway,
                     taken: true,
                 })
             }
             Step::Refused => {
-                let gateway = Gateway::of(world, clients, outputs, wire);
+                let gateway = Gateway::of(world, outputs, ends);
                 Ok(Passed {
                     gateway,
                     taken: false,

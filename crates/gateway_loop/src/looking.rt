@@ -17,7 +17,7 @@ impl<R: Relation, S: Stream + Drop, W: Wire + Drop> Gateway<R, S, W> {
         ensures { self.new ≡ record self.old
             { clients = record self.old.clients { told = Kept [] } } }
     {
-        self.clients.keep_told();
+        self.ends.clients.keep_told();
     }
 
     /// Forgets what tells of them so far.
@@ -25,7 +25,7 @@ impl<R: Relation, S: Stream + Drop, W: Wire + Drop> Gateway<R, S, W> {
         ensures { self.new ≡ record self.old
             { clients = record self.old.clients { told = forgotten self.old.clients.told } } }
     {
-        self.clients.forget_told();
+        self.ends.clients.forget_told();
     }
 }
 
@@ -41,7 +41,7 @@ impl<R: Relation, S: Stream + Drop, W: Wire + Drop> Loop<R, S, W> {
     pub fn wire(&self) -> &W
         ensures { result.now ≡ self.now.gateway.wire }
     {
-        &self.gateway.wire
+        &self.gateway.ends.wire
     }
 
     /// How many connections there were, and so the number of the next.
@@ -68,7 +68,7 @@ impl<R: Relation, S: Stream + Drop, W: Wire + Drop> Loop<R, S, W> {
     pub fn told(&self) -> &[Told]
         ensures { map telling result.now ≡ told_in self.now.gateway.clients.told }
     {
-        self.gateway.clients.told()
+        self.gateway.ends.clients.told()
     }
 
     /// Forgets it.

@@ -20,27 +20,27 @@ const MOST_OPEN: usize = 256;
 impl<R: Relation, S: Stream + Drop, W: Wire + Drop> Gateway<R, S, W> {
     /// How many connections are open.
     pub fn open(&self) -> usize {
-        self.clients.open()
+        self.ends.clients.open()
     }
 
     /// Looks at the connection, at this moment.
     pub fn look(&mut self, number: u32, moment: u64)
         ensures { self.new ≡ self.old }
     {
-        self.clients.look(number, moment);
+        self.ends.clients.look(number, moment);
     }
 
     /// Keeps nothing more of connections that ended before all others, once they are many.
     pub fn forget(&mut self)
         ensures { self.new ≡ self.old }
     {
-        self.clients.forget();
+        self.ends.clients.forget();
     }
 
     /// Whether its client has stood still in a request for so many milliseconds, or hasn't taken all
     /// that is left for it within as many.
     pub fn stands_still(&self, number: u32, moment: u64, most: u64) -> bool {
-        let Some(waits) = self.clients.waits(number) else {
+        let Some(waits) = self.ends.clients.waits(number) else {
             return false;
         };
         match waits.on {
@@ -54,7 +54,7 @@ impl<R: Relation, S: Stream + Drop, W: Wire + Drop> Gateway<R, S, W> {
     /// they wait for answers, then those that have waited longest for a request, at least so many
     /// milliseconds, then those that have waited longest for the rest of one.
     pub fn readiness(&self, number: u32, moment: u64, least: u64) -> Option<Readiness> {
-        let waits = self.clients.waits(number)?;
+        let waits = self.ends.clients.waits(number)?;
         let kind = self.kind_of(number, waits)?;
         let time = waits.times.waited(moment);
         if kind != Kind::Gone && time < least {

@@ -6,7 +6,7 @@ ghost use Rattle.gateway_loop.specs.Gateways.{MayAsk, TurnsOrStays};
 ghost use Rattle.transformers.specs.Suits.{Suits};
 
 use crate::delivery::deliver;
-use crate::gateway::Gateway;
+use crate::gateway::{Ends, Gateway};
 use crate::inputs::Passed;
 use crate::sockets::{Stream, Wire};
 use gateway_world::{Advanced, Happening, Input, Output, Step, When};
@@ -45,7 +45,7 @@ impl<R: Relation, S: Stream + Drop, W: Wire + Drop> Gateway<R, S, W> {
     pub fn is_written(&self, number: u32) -> bool
         ensures { result ≡ true → MayAsk number self.now }
     {
-        self.world.is_idle(number) && self.clients.is_written(number)
+        self.world.is_idle(number) && self.ends.clients.is_written(number)
     }
 
     /// Whether the connection waits for no answer, though it is open.
@@ -78,14 +78,14 @@ impl<R: Relation, S: Stream + Drop, W: Wire + Drop> Gateway<R, S, W> {
     {
         let Gateway {
             world,
-            mut clients,
             mut outputs,
-            mut wire,
+            mut ends,
         } = self;
+        let Ends { clients, wire } = &mut *ends;
         match clients.push_nobody() {
             Ok(()) => {}
             Err(_) => {
-                let gateway = Gateway::of(world, clients, outputs, wire);
+                let gateway = Gateway::of(world, outputs, ends);
                 return Ok(Padded {
                     gateway,
                     number: None,
@@ -100,8 +100,8 @@ impl<R: Relation, S: Stream + Drop, W: Wire + Drop> Gateway<R, S, W> {
         let Advanced { world, step } = world.advance(bank, input, &mut outputs)?;
         match step {
             Step::Taken(Some(number)) => {
-                deliver(&mut outputs, &mut clients, &mut wire);
-                let gateway = Gateway::of(world, clients, outputs, wire);
+                deliver(&mut outputs, clients, wire);
+                let gateway = Gateway::of(world, outputs, ends);
                 Ok(Padded {
                     gateway,
                     number: Some(number),
@@ -109,8 +109,8 @@ impl<R: Relation, S: Stream + Drop, W: Wire + Drop> Gateway<R, S, W> {
             }
             Step::Taken(None) => {
                 clients.pop();
-                deliver(&mut outputs, &mut clients, &mut wire);
-                let gateway = Gateway::of(world, clients, outputs, wire);
+                deliver(&mut outputs, clients, wire);
+                let gateway = Gateway::of(world, outputs, ends);
                 Ok(Padded {
                     gateway,
                     number: None,
@@ -118,7 +118,7 @@ impl<R: Relation, S: Stream + Drop, W: Wire + Drop> Gateway<R, S, W> {
             }
             Step::Refused => {
                 clients.pop();
-                let gateway = Gateway::of(world, clients, outputs, wire);
+                let gateway = Gateway::of(world, outputs, ends);
                 Ok(Padded {
                     gateway,
                     number: None,
@@ -136,9 +136,8 @@ impl<R: Relation, S: Stream + Drop, W: Wire + Drop> Gateway<R, S, W> {
     {
         let Gateway {
             world,
-            clients,
             mut outputs,
-            wire,
+            ends,
         } = self;
         let input = Input {
             moment: when.moment,
@@ -149,11 +148,11 @@ impl<R: Relation, S: Stream + Drop, W: Wire + Drop> Gateway<R, S, W> {
         match step {
             Step::Taken(_) => {
                 let told = take_only(&mut outputs);
-                let gateway = Gateway::of(world, clients, outputs, wire);
+                let gateway = Gateway::of(world, outputs, ends);
                 Ok(Rotated { gateway, told })
             }
             Step::Refused => {
-                let gateway = Gateway::of(world, clients, outputs, wire);
+                let gateway = Gateway::of(world, outputs, ends);
                 Ok(Rotated {
                     gateway,
                     told: None,

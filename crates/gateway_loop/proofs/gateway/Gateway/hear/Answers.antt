@@ -2,6 +2,7 @@
 use Rattle.std.proofs.Common.{refl, ap, ◌∙◌}
 use Rattle.gateway_model.specs.Emissions.{emissions}
 use Rattle.gateway_world.proofs.Running.{takes-rules}
+use Rattle.gateway_loop.proofs.Standing.{serving-at}
 use Rattle.gateway_loop.proofs.Stepping.{counted, refused, taken}
 use Rattle.gateway_loop.proofs.Taking.{serving-hears, serving-stays, serving-waits}
 use Rattle.gateway_loop.proofs.gateway.Gateway.hear.Goals as goal
@@ -10,8 +11,9 @@ pub of-gateway-requires : goal.of-gateway-requires
 of-gateway-requires g c =
     serving-waits g.R.Relation.holds g.R.Relation.takes g.S.Stream.written g.S.Stream.gave g.W.Wire.sent
     g.W.Wire.heard
-    c.self.inside.world c.self.inside.clients.places c.self.inside.wire c.receive.new.self
-    c.self.inside.clients.told c.self.inside.clients.told c.self.invariant c.in-Later.ensures.quiet
+    c.self.inside.world c.deref_mut.result.now.clients.places c.deref_mut.result.now.wire c.receive.new.self
+    c.deref_mut.result.now.clients.told c.deref_mut.result.now.clients.told (serving-at g.R.Relation.holds g.R.Relation.takes g.S.Stream.written g.S.Stream.gave g.W.Wire.sent
+    g.W.Wire.heard c.self.inside.world _ _ c.deref_mut.ensures.value c.self.invariant) c.in-Later.ensures.quiet
     c.in-Later.ensures.came refl
 
 pub of-gateway-requires-in-Taken : goal.of-gateway-requires-in-Taken
@@ -19,11 +21,12 @@ of-gateway-requires-in-Taken g c =
     serving-hears g.R.Relation.holds g.R.Relation.takes g.S.Stream.written g.S.Stream.gave g.W.Wire.sent
     g.W.Wire.heard
     _ c.in-Taken.field-0 (emissions c.advance.new.outputs.items)
-    c.self.inside.world c.in_ok-world.field-0.world c.self.inside.clients.places
+    c.self.inside.world c.in_ok-world.field-0.world c.deref_mut.result.now.clients.places
     c.deliver.new.clients.places
-    c.self.inside.wire c.receive.new.self c.deliver.new.wire _ c.self.inside.clients.told
+    c.deref_mut.result.now.wire c.receive.new.self c.deliver.new.wire _ c.deref_mut.result.now.clients.told
     c.deliver.new.clients.told
-    c.self.invariant (taken _ _ c.in-Taken.is c.in_ok-world.ensures.takes)
+    (serving-at g.R.Relation.holds g.R.Relation.takes g.S.Stream.written g.S.Stream.gave g.W.Wire.sent
+    g.W.Wire.heard c.self.inside.world _ _ c.deref_mut.ensures.value c.self.invariant) (taken _ _ c.in-Taken.is c.in_ok-world.ensures.takes)
     (counted _ _ _ _ _ c.in-Taken.is c.in_ok-world.ensures.opened) refl c.deliver.ensures.given
     c.in-From.ensures.quiet c.deliver.ensures.wire c.in-From.ensures.came c.deliver.ensures.quiet
     c.deliver.ensures.told
@@ -32,9 +35,10 @@ pub of-gateway-requires-in-Refused : goal.of-gateway-requires-in-Refused
 of-gateway-requires-in-Refused g c =
     serving-stays g.R.Relation.holds g.R.Relation.takes g.S.Stream.written g.S.Stream.gave g.W.Wire.sent
     g.W.Wire.heard
-    c.self.inside.world c.in_ok-world.field-0.world c.self.inside.clients.places c.self.inside.wire
-    c.receive.new.self _ c.self.inside.clients.told c.self.inside.clients.told
-    c.self.invariant (refused _ c.in-Refused.is c.in_ok-world.ensures.stays).0 c.in-From.ensures.quiet
+    c.self.inside.world c.in_ok-world.field-0.world c.deref_mut.result.now.clients.places c.deref_mut.result.now.wire
+    c.receive.new.self _ c.deref_mut.result.now.clients.told c.deref_mut.result.now.clients.told
+    (serving-at g.R.Relation.holds g.R.Relation.takes g.S.Stream.written g.S.Stream.gave g.W.Wire.sent
+    g.W.Wire.heard c.self.inside.world _ _ c.deref_mut.ensures.value c.self.invariant) (refused _ c.in-Refused.is c.in_ok-world.ensures.stays).0 c.in-From.ensures.quiet
     c.in-From.ensures.came refl
 
 pub advance-requires-clause-suits : goal.advance-requires-clause-suits

@@ -3,6 +3,7 @@ use Rattle.std.proofs.Common.{[], refl, ap, ◌∙◌}
 use Rattle.gateway_model.specs.Emissions.{emissions}
 use Rattle.gateway_world.proofs.Running.{takes-rules}
 use Rattle.gateway_loop.proofs.Growing.{grown-none}
+use Rattle.gateway_loop.proofs.Standing.{serving-at}
 use Rattle.gateway_loop.proofs.Stepping.{bare-fits, counted, refused, taken}
 use Rattle.gateway_loop.proofs.Taking.{serving-passes, serving-stays}
 use Rattle.gateway_loop.proofs.gateway.Gateway.pass.Goals as goal
@@ -19,10 +20,11 @@ of-gateway-requires g c =
     g.W.Wire.sent g.W.Wire.heard
     (record { moment = c.args.when.moment; word = c.args.when.word; happening = c.args.happening })
     c.in-Taken.field-0 (emissions c.advance.new.outputs.items)
-    c.self.inside.world c.in_ok-world.field-0.world c.self.inside.clients.places
-    c.deliver.new.clients.places c.self.inside.wire c.deliver.new.wire
-    c.self.inside.clients.told c.deliver.new.clients.told
-    c.self.invariant (taken _ _ c.in-Taken.is c.in_ok-world.ensures.takes)
+    c.self.inside.world c.in_ok-world.field-0.world c.deref_mut.result.now.clients.places
+    c.deliver.new.clients.places c.deref_mut.result.now.wire c.deliver.new.wire
+    c.deref_mut.result.now.clients.told c.deliver.new.clients.told
+    (serving-at g.R.Relation.holds g.R.Relation.takes g.S.Stream.written g.S.Stream.gave g.W.Wire.sent
+    g.W.Wire.heard c.self.inside.world _ _ c.deref_mut.ensures.value c.self.invariant) (taken _ _ c.in-Taken.is c.in_ok-world.ensures.takes)
     (counted _ _ _ _ _ c.in-Taken.is c.in_ok-world.ensures.opened) c.requires.bare
     c.deliver.ensures.given c.deliver.ensures.wire c.deliver.ensures.quiet c.deliver.ensures.told
 
@@ -30,9 +32,10 @@ pub of-gateway-requires-in-Refused : goal.of-gateway-requires-in-Refused
 of-gateway-requires-in-Refused g c =
     serving-stays g.R.Relation.holds g.R.Relation.takes g.S.Stream.written g.S.Stream.gave g.W.Wire.sent
     g.W.Wire.heard
-    c.self.inside.world c.in_ok-world.field-0.world c.self.inside.clients.places c.self.inside.wire
-    c.self.inside.wire [] c.self.inside.clients.told c.self.inside.clients.told
-    c.self.invariant (refused _ c.in-Refused.is c.in_ok-world.ensures.stays).0 (grown-none _)
+    c.self.inside.world c.in_ok-world.field-0.world c.deref_mut.result.now.clients.places c.deref_mut.result.now.wire
+    c.deref_mut.result.now.wire [] c.deref_mut.result.now.clients.told c.deref_mut.result.now.clients.told
+    (serving-at g.R.Relation.holds g.R.Relation.takes g.S.Stream.written g.S.Stream.gave g.W.Wire.sent
+    g.W.Wire.heard c.self.inside.world _ _ c.deref_mut.ensures.value c.self.invariant) (refused _ c.in-Refused.is c.in_ok-world.ensures.stays).0 (grown-none _)
     (grown-none _) refl
 
 pub returns-in-Taken : goal.returns-in-Taken

@@ -1,9 +1,11 @@
 -- A connection is there no more.
 use Rattle.gateway_loop.proofs.Served.{serving-emptied}
+use Rattle.gateway_loop.proofs.Standing.{serving-at}
 use Rattle.gateway_loop.proofs.gateway.Gateway.remove.Goals as goal
 
 pub invariant_of-self : goal.invariant_of-self
 invariant_of-self g c =
     serving-emptied g.R.Relation.holds g.R.Relation.takes g.S.Stream.written g.S.Stream.gave g.W.Wire.sent g.W.Wire.heard
-    c.self.inside.world c.args.number c.self.inside.clients.places c.remove.new.self.places c.self.inside.wire
-    c.self.inside.clients.told c.remove.new.self.told c.self.invariant c.remove.ensures.told c.remove.ensures.ends
+    c.self.inside.world c.args.number c.deref_mut.result.now.clients.places c.remove.new.self.places c.deref_mut.result.now.wire
+    c.deref_mut.result.now.clients.told c.remove.new.self.told (serving-at g.R.Relation.holds g.R.Relation.takes g.S.Stream.written g.S.Stream.gave g.W.Wire.sent
+    g.W.Wire.heard c.self.inside.world _ _ c.deref_mut.ensures.value c.self.invariant) c.remove.ensures.told c.remove.ensures.ends

@@ -7,6 +7,7 @@ use Rattle.gateway_loop.specs.Delivery.{AreGiven}
 use Rattle.gateway_loop.specs.Places.{ClientsValue}
 use Rattle.gateway_loop.specs.Serving.{IsServing}
 use Rattle.gateway_loop.proofs.Growing.{grown-none}
+use Rattle.gateway_loop.proofs.Standing.{serving-at}
 use Rattle.gateway_loop.proofs.Stepping.{counted, pop-last, refused, taken}
 use Rattle.gateway_loop.proofs.Served.{serving-emptied}
 use Rattle.gateway_loop.proofs.Taking.{serving-resumes, serving-stays, serving-turned}
@@ -19,9 +20,10 @@ advance-requires-clause-suits g c = let s = rw (← c.self.view_is) at c.require
 pub of-requires : goal.of-requires
 of-requires g c =
     (serving-emptied g.R.Relation.holds g.R.Relation.takes g.S.Stream.written g.S.Stream.gave g.W.Wire.sent g.W.Wire.heard
-    c.self.inside.world c.args.number c.self.inside.clients.places c.carry.new.self.places
-    c.self.inside.wire
-    c.self.inside.clients.told c.carry.new.self.told c.self.invariant c.carry.ensures.told
+    c.self.inside.world c.args.number c.deref_mut.result.now.clients.places c.carry.new.self.places
+    c.deref_mut.result.now.wire
+    c.deref_mut.result.now.clients.told c.carry.new.self.told (serving-at g.R.Relation.holds g.R.Relation.takes g.S.Stream.written g.S.Stream.gave g.W.Wire.sent
+    g.W.Wire.heard c.self.inside.world _ _ c.deref_mut.ensures.value c.self.invariant) c.carry.ensures.told
     (c.carry.ensures.ended (search rules)))
 
 pub of-requires-in-Taken-Some : goal.of-requires-in-Taken-Some
@@ -31,15 +33,16 @@ of-requires-in-Taken-Some g c =
     (serving-resumes g.R.Relation.holds g.R.Relation.takes g.S.Stream.written g.S.Stream.gave g.W.Wire.sent g.W.Wire.heard
     (record { moment = c.args.when.moment; word = c.args.when.word; happening = H.Open })
     c.in-Taken-Some.field-0 c.in-Taken-Some.opened (emissions c.advance.new.outputs.items)
-    c.self.inside.world c.in_ok-world.field-0.world c.self.inside.clients.places c.carry.new.self.places
+    c.self.inside.world c.in_ok-world.field-0.world c.deref_mut.result.now.clients.places c.carry.new.self.places
     c.deliver.new.clients.places
-    c.self.inside.wire c.deliver.new.wire c.args.number c.self.inside.clients.told
+    c.deref_mut.result.now.wire c.deliver.new.wire c.args.number c.deref_mut.result.now.clients.told
     c.line_up.new.self.told
-    c.self.invariant (taken _ _ c.in-Taken-Some.is c.in_ok-world.ensures.takes)
+    (serving-at g.R.Relation.holds g.R.Relation.takes g.S.Stream.written g.S.Stream.gave g.W.Wire.sent
+    g.W.Wire.heard c.self.inside.world _ _ c.deref_mut.ensures.value c.self.invariant) (taken _ _ c.in-Taken-Some.is c.in_ok-world.ensures.takes)
     (counted _ _ _ _ _ c.in-Taken-Some.is c.in_ok-world.ensures.opened) refl
     (rw (c.in-Taken-Some.is) at c.in-Taken-Some.field-0-is)
     carried c.deliver.ensures.given c.deliver.ensures.wire c.deliver.ensures.quiet
-    (tells-from (emissions c.advance.new.outputs.items) c.self.inside.clients.told c.carry.new.self.told c.line_up.new.self.told c.carry.ensures.told
+    (tells-from (emissions c.advance.new.outputs.items) c.deref_mut.result.now.clients.told c.carry.new.self.told c.line_up.new.self.told c.carry.ensures.told
     (tells-as (emissions c.advance.new.outputs.items) c.carry.new.self.told c.deliver.new.clients.told c.line_up.new.self.told c.line_up.ensures.told c.deliver.ensures.told)))
 
 pub of-requires-in-Taken-None : goal.of-requires-in-Taken-None
@@ -47,14 +50,15 @@ of-requires-in-Taken-None g c =
     let carried = (c.carry.ensures.carried (search rules)) in
     let same = ap (λ (v : ClientsValue _). v.places) c.pop.ensures ∙ pop-last carried.rest c.carry.new.self.places (Some carried.here) carried.next in
     let kept = (serving-emptied g.R.Relation.holds g.R.Relation.takes g.S.Stream.written g.S.Stream.gave g.W.Wire.sent g.W.Wire.heard
-    c.self.inside.world c.args.number c.self.inside.clients.places carried.rest c.self.inside.wire
-    c.self.inside.clients.told c.carry.new.self.told c.self.invariant c.carry.ensures.told carried.emptied) in
+    c.self.inside.world c.args.number c.deref_mut.result.now.clients.places carried.rest c.deref_mut.result.now.wire
+    c.deref_mut.result.now.clients.told c.carry.new.self.told (serving-at g.R.Relation.holds g.R.Relation.takes g.S.Stream.written g.S.Stream.gave g.W.Wire.sent
+    g.W.Wire.heard c.self.inside.world _ _ c.deref_mut.ensures.value c.self.invariant) c.carry.ensures.told carried.emptied) in
     serving-turned g.R.Relation.holds g.R.Relation.takes g.S.Stream.written g.S.Stream.gave
     g.W.Wire.sent g.W.Wire.heard
     (record { moment = c.args.when.moment; word = c.args.when.word; happening = H.Open })
     c.in-Taken-None.field-0 (emissions c.advance.new.outputs.items)
     c.self.inside.world c.in_ok-world.field-0.world carried.rest
-    c.deliver-in-Taken-None.new.clients.places c.self.inside.wire c.deliver-in-Taken-None.new.wire
+    c.deliver-in-Taken-None.new.clients.places c.deref_mut.result.now.wire c.deliver-in-Taken-None.new.wire
     c.carry.new.self.told c.deliver-in-Taken-None.new.clients.told
     kept (taken _ _ c.in-Taken-None.is c.in_ok-world.ensures.takes)
     (counted _ _ _ _ _ c.in-Taken-None.is c.in_ok-world.ensures.opened) refl
@@ -70,11 +74,12 @@ of-requires-in-Refused g c =
     let same = ap (λ (v : ClientsValue _). v.places) c.pop-in-Refused.ensures
     ∙ pop-last carried.rest c.carry.new.self.places (Some carried.here) carried.next in
     let kept = (serving-emptied g.R.Relation.holds g.R.Relation.takes g.S.Stream.written g.S.Stream.gave g.W.Wire.sent g.W.Wire.heard
-    c.self.inside.world c.args.number c.self.inside.clients.places carried.rest c.self.inside.wire
-    c.self.inside.clients.told c.carry.new.self.told c.self.invariant c.carry.ensures.told carried.emptied) in
-    subst (λ ps. IsServing g.R.Relation.holds g.R.Relation.takes g.S.Stream.written g.S.Stream.gave g.W.Wire.sent g.W.Wire.heard c.in_ok-world.field-0.world ps c.self.inside.wire c.pop-in-Refused.new.self.told) (sym same)
+    c.self.inside.world c.args.number c.deref_mut.result.now.clients.places carried.rest c.deref_mut.result.now.wire
+    c.deref_mut.result.now.clients.told c.carry.new.self.told (serving-at g.R.Relation.holds g.R.Relation.takes g.S.Stream.written g.S.Stream.gave g.W.Wire.sent
+    g.W.Wire.heard c.self.inside.world _ _ c.deref_mut.ensures.value c.self.invariant) c.carry.ensures.told carried.emptied) in
+    subst (λ ps. IsServing g.R.Relation.holds g.R.Relation.takes g.S.Stream.written g.S.Stream.gave g.W.Wire.sent g.W.Wire.heard c.in_ok-world.field-0.world ps c.deref_mut.result.now.wire c.pop-in-Refused.new.self.told) (sym same)
     (serving-stays g.R.Relation.holds g.R.Relation.takes g.S.Stream.written g.S.Stream.gave g.W.Wire.sent g.W.Wire.heard
-    c.self.inside.world c.in_ok-world.field-0.world carried.rest c.self.inside.wire c.self.inside.wire
+    c.self.inside.world c.in_ok-world.field-0.world carried.rest c.deref_mut.result.now.wire c.deref_mut.result.now.wire
     [] c.carry.new.self.told c.pop-in-Refused.new.self.told
     kept (refused _ c.in-Refused.is c.in_ok-world.ensures.stays).0 (grown-none _) (grown-none _)
     (ap (λ (v : ClientsValue _). v.told) c.pop-in-Refused.ensures))

@@ -20,8 +20,8 @@ of-gateway-requires g c =
     serving-rotates g.R.Relation.holds g.R.Relation.takes g.S.Stream.written g.S.Stream.gave
     g.W.Wire.sent g.W.Wire.heard
     (rotation_at c.args.when) c.in-Taken.field-0 (emissions c.advance.new.outputs.items)
-    c.self.inside.world c.in_ok-world.field-0.world c.self.inside.clients.places c.self.inside.wire
-    c.self.inside.clients.told
+    c.self.inside.world c.in_ok-world.field-0.world c.self.inside.ends.value.clients.places c.self.inside.ends.value.wire
+    c.self.inside.ends.value.clients.told
     c.self.invariant (taken _ _ c.in-Taken.is c.in_ok-world.ensures.takes)
     (counted _ _ _ _ _ c.in-Taken.is c.in_ok-world.ensures.opened) refl
 
@@ -29,8 +29,8 @@ pub of-gateway-requires-in-Refused : goal.of-gateway-requires-in-Refused
 of-gateway-requires-in-Refused g c =
     serving-stays g.R.Relation.holds g.R.Relation.takes g.S.Stream.written g.S.Stream.gave g.W.Wire.sent
     g.W.Wire.heard
-    c.self.inside.world c.in_ok-world.field-0.world c.self.inside.clients.places c.self.inside.wire
-    c.self.inside.wire [] c.self.inside.clients.told c.self.inside.clients.told
+    c.self.inside.world c.in_ok-world.field-0.world c.self.inside.ends.value.clients.places c.self.inside.ends.value.wire
+    c.self.inside.ends.value.wire [] c.self.inside.ends.value.clients.told c.self.inside.ends.value.clients.told
     c.self.invariant (refused _ c.in-Refused.is c.in_ok-world.ensures.stays).0 (grown-none _)
     (grown-none _) refl
 

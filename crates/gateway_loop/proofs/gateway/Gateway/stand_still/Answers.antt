@@ -2,9 +2,11 @@
 use Rattle.std.proofs.Common.{subst, sym}
 use Rattle.gateway_loop.specs.Places.{ClientsValue}
 use Rattle.gateway_loop.specs.Serving.{IsServing}
+use Rattle.gateway_loop.proofs.Standing.{serving-at}
 use Rattle.gateway_loop.proofs.gateway.Gateway.stand_still.Goals as goal
 
 pub invariant_of-self : goal.invariant_of-self
 invariant_of-self g c =
     subst (λ (v : ClientsValue _). IsServing g.R.Relation.holds g.R.Relation.takes g.S.Stream.written g.S.Stream.gave g.W.Wire.sent g.W.Wire.heard
-    c.self.inside.world v.places c.self.inside.wire v.told) (sym c.park.ensures) c.self.invariant
+    c.self.inside.world v.places c.deref_mut.result.now.wire v.told) (sym c.park.ensures) (serving-at g.R.Relation.holds g.R.Relation.takes g.S.Stream.written g.S.Stream.gave g.W.Wire.sent
+    g.W.Wire.heard c.self.inside.world _ _ c.deref_mut.ensures.value c.self.invariant)
