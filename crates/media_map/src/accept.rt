@@ -185,6 +185,9 @@ pub fn accept_of(
     ensures memory { IsErrOf result MediaFault.Memory
         → (w : Wanted) × (accept_at policy routes.now accept.now ≡ Ok (Some w)) }
 {
+    if let [] = accept {
+        return Ok(None);
+    }
     match decide(accept, policy, routes.as_slice())? {
         Some(pick) => Ok(Some(pick.to_wanted(alloc)?)),
         None => Ok(None),

@@ -1,6 +1,6 @@
 //! Media types as content formats, and back.
 
-ghost use Rattle.std.specs.Prelude.{◌≡◌, ◌<◌, IfOk, IfSome};
+ghost use Rattle.std.specs.Prelude.{◌≡◌, ◌<◌, ◌++◌, codes, decimal, IfOk, IfSome, IsNone};
 ghost use Rattle.media_map.specs.Formats.{media_text, has_charset, is_foreign_text, format_in, table, table_format, number_with, format_number, payload_format as payload, begins as begins_with, ends as ends_with, loose_format as loose, format_at};
 ghost use Rattle.media_map.specs.Views.{named_of, bytes_of};
 ghost use Rattle.std.specs.Option.{option_map};
@@ -37,23 +37,34 @@ pub fn format_of(content_type: &[u8], policy: Policy) -> Result<Option<u16>, Med
     }
 }
 
+/// The media type of a content format that has one of its own.
+#[tactic(auto, unfolding(crate::specs::Formats::media_text))]
+pub fn media_named(format: u16) -> Option<&'static str>
+    ensures named { IfSome result (λ name. name.now ≡ media_text format) }
+    ensures numbered { IsNone result
+        → media_text format ≡ codes "application/coap-payload;cf=" ++ decimal format }
+{
+    match format {
+        0 => Some("text/plain;charset=utf-8"),
+        40 => Some("application/link-format"),
+        41 => Some("application/xml"),
+        42 => Some("application/octet-stream"),
+        47 => Some("application/exi"),
+        50 => Some("application/json"),
+        60 => Some("application/cbor"),
+        _ => None,
+    }
+}
+
 /// The media type of a content format. One without a media type of its own is written by its number
 /// (RFC 8075 section 6.2).
-#[tactic(auto, unfolding(crate::specs::Formats::media_text))]
 pub fn media_of(alloc: Global, format: u16) -> Result<Media, AllocError>
     ensures { IfOk result (λ m. m ≡ media_text format) }
 {
-    let name = match format {
-        0 => "text/plain;charset=utf-8",
-        40 => "application/link-format",
-        41 => "application/xml",
-        42 => "application/octet-stream",
-        47 => "application/exi",
-        50 => "application/json",
-        60 => "application/cbor",
-        _ => return Ok(Media::new(format!(in alloc; "application/coap-payload;cf={format}")?)),
-    };
-    Media::from_str(alloc, name)
+    match media_named(format) {
+        Some(name) => Media::from_str(alloc, name),
+        None => Ok(Media::new(format!(in alloc; "application/coap-payload;cf={format}")?)),
+    }
 }
 
 /// Whether the type is text/plain in a charset that format 0 doesn't stand for.

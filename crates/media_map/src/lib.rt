@@ -24,7 +24,7 @@ mod weight;
 pub use accept::accept_of;
 pub use fault::MediaFault;
 pub use form::{Form, Media};
-pub use formats::{format_of, media_of};
+pub use formats::{format_of, media_named, media_of};
 pub use laws::{best_is_wanted, format_returns, pieces_join, table_returns};
 pub use pick::route_of;
 pub use policy::Policy;
