@@ -2,14 +2,11 @@
 
 ghost use Rattle.std.specs.Prelude.{◌≡◌, ◌≤◌, ◌+◌};
 
-use http_edge::{HttpAnswer, Incoming};
+use http_edge::Incoming;
 use journal_book::Grounds;
 use uri_map::Peer;
 
-/// The field of an answer of the gateway's own.
-const CAUSE: &str = "HC-Cause";
-
-/// What stands before the value of that field among the bytes of an answer.
+/// What begins the second line of an answer of the gateway's own, before the cause.
 const CAUSE_LINE: &[u8] = b"\r\nHC-Cause: ";
 
 /// How many bytes of an answer come before its status: `HTTP/1.1` and a space (RFC 9112 section 4).
@@ -31,17 +28,7 @@ pub struct Given<'a> {
     pub count: Option<usize>,
 }
 
-/// What the answer has of a cause of the gateway's own.
-pub fn cause_of(answer: &HttpAnswer) -> Option<&[u8]> {
-    'each: for field in &answer.fields {
-        if field.name == CAUSE {
-            return Some(field.value.as_slice());
-        }
-    }
-    None
-}
-
-/// What the head of an answer says first.
+/// What an answer says first.
 #[derive(Clone, Copy)]
 pub struct Heading<'a> {
     pub status: u16,
@@ -49,7 +36,8 @@ pub struct Heading<'a> {
     pub cause: Option<&'a [u8]>,
 }
 
-/// What the bytes of an answer's head say: 0 for a status that is no three digits.
+/// What the bytes of an answer say first, of which those of its head suffice: 0 for a status that
+/// is no three digits.
 pub fn heading_of(head: &[u8]) -> Heading<'_> {
     Heading {
         status: status_in(head),
@@ -57,14 +45,10 @@ pub fn heading_of(head: &[u8]) -> Heading<'_> {
     }
 }
 
-/// The cause of the gateway's own, if there is one.
+/// The cause of the gateway's own, if there is one: no field stands before it.
 fn cause_in(head: &[u8]) -> Option<&[u8]> {
-    'each: for at in 0..head.len() {
-        if let Some(rest) = head[at..].strip_prefix(CAUSE_LINE) {
-            return Some(line_of(rest));
-        }
-    }
-    None
+    let fields = head.get(line_of(head).len()..)?;
+    Some(line_of(fields.strip_prefix(CAUSE_LINE)?))
 }
 
 /// What comes before the end of the line.

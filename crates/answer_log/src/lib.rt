@@ -7,5 +7,5 @@
 mod given;
 mod line;
 
-pub use given::{Given, Heading, cause_of, heading_of};
+pub use given::{Given, Heading, heading_of};
 pub use line::Line;

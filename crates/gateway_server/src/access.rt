@@ -1,6 +1,6 @@
 //! The notes of what clients asked and got: a line for each answer.
 
-use answer_log::{Given, Line, cause_of};
+use answer_log::{Given, Line, heading_of};
 use gateway_window::Watch;
 use log::{Log, info};
 use sessions::{Gate, Point, Told};
@@ -87,12 +87,13 @@ impl<W: Wait + Log + Clock> Gate for Access<'_, W> {
 
 /// An answer of a session, as it is noted.
 fn given_by<'a>(told: &Told<'a>) -> Given<'a> {
+    let heading = heading_of(told.bytes);
     Given {
         came: told.came,
         peer: told.peer,
         grounds: told.grounds,
-        status: told.answer.status,
-        cause: cause_of(told.answer),
+        status: heading.status,
+        cause: heading.cause,
         count: told.count,
     }
 }

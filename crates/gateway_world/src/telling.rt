@@ -15,7 +15,7 @@ use crate::engine::Context;
 use exchange_core::Answer;
 use gateway_model::Output;
 use http_edge::Memory;
-use http_mapping::render_bytes;
+use http_mapping::render;
 use std::alloc::Global;
 use transformers::{Bank, Relation};
 
@@ -42,7 +42,7 @@ pub fn answer_told<R: Relation>(
         (given_of answer.now) bytes.items) }
 {
     let age = answer.moment.saturating_sub(answer.heard);
-    let bytes = render_bytes(alloc, bank, &answer.mapped, &answer.finding, age)?;
+    let bytes = render(alloc, bank, &answer.mapped, &answer.finding, age)?;
     Ok(bytes)
 }
 

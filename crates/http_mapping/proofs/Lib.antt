@@ -1,5 +1,4 @@
 pub mod Applies
-pub mod Faults
 pub mod Names
 pub mod Routes
 pub mod Rules

@@ -2,8 +2,6 @@
 use Rattle.std.proofs.Common.{◌≡◌, ℕ, List, codes, Result, Ok, Err, Some, IfOk, subst, inl, inr}
 use Rattle.std.specs.declared.alloc.Global.{Global}
 use Rattle.std.specs.declared.vec.Vec.{Vec}
-use Rattle.http_edge.specs.Answers.{answer_text}
-use Rattle.http_edge.specs.declared.answer.HttpAnswer.{HttpAnswer}
 use Rattle.ask_model.specs.declared.cause.Cause.{Cause}
 use Rattle.ask_model.specs.declared.cause.Cause.TheVariants.{NotUnderstood}
 use Rattle.journal_book.specs.Entries.{Fault}
@@ -12,8 +10,8 @@ use Rattle.media_map.specs.declared.form.Form.{Form}
 use Rattle.media_map.specs.declared.form.Form.TheVariants.{Format, Media}
 use Rattle.history_laws.specs.Responses.{Response}
 use Rattle.reply_reading.specs.Findings.{Found, Tells as TellsOf, Fails}
-use Rattle.http_mapping.specs.Means.{Tells, FailsTo, IsRouted, last_reply, only, content_type}
-use Rattle.http_mapping.specs.Writes.{Writes, WritesWhole, WritesShown}
+use Rattle.http_mapping.specs.Means.{FailsTo, IsRouted, last_reply, only, content_type}
+use Rattle.http_mapping.specs.Writes.{Writes, WritesWhole, WritesShown, WritesOwn}
 
 module _ (routes : List (Form × Form)) (holds : Form → Form → List ℕ → List ℕ → Type 0) (takes : Form → Form → List ℕ → Type 0) {E : Type 0} where
   pub whole_writes : (m : Mapping) (f : Found) (age : ℕ) (w : Response) (n : ℕ) (r : Result (Vec ℕ Global) E)
@@ -24,11 +22,11 @@ module _ (routes : List (Form × Form)) (holds : Form → Form → List ℕ → 
       record { answer = s.answer; means = rw told s.means; text = s.text }
   whole_writes m f age w n (Err e) told last t = tt
 
-  pub fault_writes : (m : Mapping) (f : Found) (age : ℕ) (cause : Cause) (n : ℕ) (a : HttpAnswer) (r : Result (Vec ℕ Global) E)
-      → f.told ≡ Fails cause → f.grounds ≡ Fault cause n → Tells m cause n a → IfOk r (λ out. out.items ≡ answer_text a)
+  pub fault_writes : (m : Mapping) (f : Found) (age : ℕ) (cause : Cause) (n : ℕ) (r : Result (Vec ℕ Global) E)
+      → f.told ≡ Fails cause → f.grounds ≡ Fault cause n → IfOk r (λ bytes. WritesOwn m cause n bytes.items)
       → IfOk r (λ bytes. Writes routes holds takes m f age bytes.items)
-  fault_writes m f age cause n a (Ok v) told grounds t text = record { answer = a; means = rw (told, grounds) t; text = text }
-  fault_writes m f age cause n a (Err e) told grounds t text = tt
+  fault_writes m f age cause n (Ok v) told grounds t = record { answer = t.answer; means = rw (told, grounds) t.tells; text = t.text }
+  fault_writes m f age cause n (Err e) told grounds t = tt
 
   pub same_writes : (m : Mapping) (w : Response) (body : List ℕ) (last age : ℕ) (r : Result (Vec ℕ Global) E) → body ≡ w.body
       → ((format : ℕ) (media : List ℕ) → IsRouted routes m w format media → ⊥)
@@ -48,9 +46,9 @@ module _ (routes : List (Form × Form)) (holds : Form → Form → List ℕ → 
       record { answer = s.answer; means = inr (h.0, media, h.1, inl (other, h.2, s.shows)); text = s.text }
   other_writes m w media body other last age (Err e) same h t = tt
 
-  pub failed_writes : (m : Mapping) (w : Response) (last age : ℕ) (a : HttpAnswer) (r : Result (Vec ℕ Global) E)
+  pub failed_writes : (m : Mapping) (w : Response) (last age : ℕ) (r : Result (Vec ℕ Global) E)
       → (format : ℕ) × (media : List ℕ) × IsRouted routes m w format media × FailsTo holds takes (Format format) (Media media) w.body
-      → Tells m NotUnderstood last a → IfOk r (λ out. out.items ≡ answer_text a)
+      → IfOk r (λ bytes. WritesOwn m NotUnderstood last bytes.items)
       → IfOk r (λ bytes. WritesWhole routes holds takes m w last age bytes.items)
-  failed_writes m w last age a (Ok v) h t text = record { answer = a; means = inr (h.0, h.1, h.2, inr (h.3, t)); text = text }
-  failed_writes m w last age a (Err e) h t text = tt
+  failed_writes m w last age (Ok v) h t = record { answer = t.answer; means = inr (h.0, h.1, h.2, inr (h.3, t.tells)); text = t.text }
+  failed_writes m w last age (Err e) h t = tt

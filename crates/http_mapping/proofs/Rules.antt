@@ -6,7 +6,7 @@ use Rattle.code_map.specs.declared.status.Status.{Status}
 use Rattle.code_map.specs.Statuses.{number_of}
 use Rattle.history_laws.specs.Responses.{Response}
 use Rattle.media_map.specs.Formats.{media_text}
-use Rattle.http_mapping.specs.Means.{only, content_type, cache_control, seconds_left, entity_tag, content_length}
+use Rattle.http_mapping.specs.Means.{only, content_type, cache_control, seconds_left, entity_tag, retry_after, content_length}
 
 pub content_type_of_format : (w : Response) (n : ℕ) (text : List ℕ) → (length w.body == 0) ≡ false → w.format ≡ Some n
     → text ≡ media_text n → content_type w ≡ only (codes "Content-Type") text
@@ -27,6 +27,11 @@ pub entity_tag_of : (w : Response) (tag text : List ℕ) → w.code ≡ 69 → w
 entity_tag_of w tag text code etag is =
     let at : (w.code == 69) ≡ true = eq-eqb w.code 69 code in
     rw (at, etag, is) refl
+
+pub retry_after_of : (w : Response) (n : ℕ) → w.code ≡ 163 → w.max_age ≡ Some n → retry_after w ≡ only (codes "Retry-After") (decimal n)
+retry_after_of w n code seconds =
+    let at : (w.code == 163) ≡ true = eq-eqb w.code 163 code in
+    rw (at, seconds) refl
 
 pub content_length_of : (status : Status) (n : ℕ) (text : List ℕ) → (number_of status == 204) ≡ false
     → text ≡ decimal n → content_length status n ≡ only (codes "Content-Length") text

@@ -1,5 +1,5 @@
 -- A response can be read off its bytes: a status line, the lines of fields, and a body.
-use Rattle.std.proofs.Common.{◌≡◌, ℕ, suc, ◌+◌, ◌^◌, ◌<◌, ◌≤◌, List, [], ◌∷◌, ◌++◌, map, length, codes, refl, sym, ap, ◌∙◌, append_assoc, subst, arith, if◌then◌else◌, Result, Ok, Err, OnOk}
+use Rattle.std.proofs.Common.{◌≡◌, ℕ, ◌+◌, ◌^◌, ◌<◌, ◌≤◌, List, [], ◌∷◌, ◌++◌, map, length, codes, decimal, refl, sym, ap, ◌∙◌, append_assoc, subst, arith, Bool, true, false, if◌then◌else◌, Result, Ok, Err, OnOk}
 use Rattle.std.proofs.lemmas.List.{length-append, append-nil}
 use Rattle.std.proofs.lemmas.List.Concat.{flat_map-append}
 use Rattle.std.specs.List.{flat_map}
@@ -7,64 +7,73 @@ use Rattle.std.specs.declared.alloc.Global.{Global}
 use Rattle.std.specs.declared.vec.Vec.{Vec}
 use Rattle.http_edge.specs.Answers.{body_bytes, field_line, answer_text}
 use Rattle.http_edge.specs.declared.answer.Field.{Field}
-use Rattle.http_edge.specs.declared.answer.Body.{Body}
 use Rattle.http_edge.specs.declared.answer.Body.TheVariants.{Owned}
 use Rattle.http_edge.specs.declared.answer.HttpAnswer.{HttpAnswer}
 use Rattle.code_map.specs.declared.status.Status.{Status}
 use Rattle.code_map.specs.Statuses.{number_of, phrase_of}
+use Rattle.ask_model.specs.declared.cause.Cause.{Cause}
+use Rattle.ask_model.specs.Causes.{cause_text}
 use Rattle.ask_model.specs.Requests.{Came}
 use Rattle.ask_model.specs.Views.{Mapping}
 use Rattle.history_laws.specs.Responses.{Response}
 use Rattle.http_mapping.specs.Located.{located}
-use Rattle.http_mapping.specs.Means.{Pairs, pair_of, only, status_for, caching, value_if, retry_after, connection, content_length, is_head}
-use Rattle.http_mapping.specs.Writes.{line, lines, first_line, WritesShown}
+use Rattle.http_mapping.specs.Means.{Pairs, pair_of, only, IsOwn, told_status, status_for, caching, value_if, retry_after, connection, content_length, is_head}
+use Rattle.http_mapping.specs.Writes.{line, lines, Adds, first_line, WritesShown, WritesOwn}
 
--- a fact of what a call left, said otherwise
-pub then_is : {A E : Type 0} (r : Result A E) (x y z : List ℕ) → OnOk r (x ≡ y) → y ≡ z → OnOk r (x ≡ z)
-then_is (Ok a) x y z h e = h ∙ e
-then_is (Err f) x y z h e = tt
+-- a fact of what a call left, said as lines that it added
+pub then_adds : {A E : Type 0} (r : Result A E) (s t u : List ℕ) (pairs : Pairs) → OnOk r (t ≡ u) → u ++ codes "\r\n" ≡ s ++ codes "\r\n" ++ lines pairs → OnOk r (Adds s t pairs)
+then_adds (Ok a) s t u pairs h e = ap (λ (x : List ℕ). x ++ codes "\r\n") h ∙ e
+then_adds (Err f) s t u pairs h e = tt
 
--- one line more
-pub one_more : (s : List ℕ) (p q : Pairs) → s ++ lines p ++ lines q ≡ s ++ lines (p ++ q)
-one_more s p q = append_assoc s (lines p) (lines q) ∙ ap (λ (t : List ℕ). s ++ t) (sym (flat_map-append line p q))
+-- lines, and behind them more
+pub adds_more : (s t u : List ℕ) (p q : Pairs) → Adds s t p → Adds t u q → Adds s u (p ++ q)
+adds_more s t u p q one more =
+    more ∙ ap (λ (x : List ℕ). x ++ lines q) one ∙ append_assoc (s ++ codes "\r\n") (lines p) (lines q)
+    ∙ ap (λ (x : List ℕ). s ++ codes "\r\n" ++ x) (sym (flat_map-append line p q))
+
+pub then_more : {A E : Type 0} (r : Result A E) (s t u : List ℕ) (p q : Pairs) → Adds s t p → OnOk r (Adds t u q) → OnOk r (Adds s u (p ++ q))
+then_more (Ok a) s t u p q one more = adds_more s t u p q one more
+then_more (Err f) s t u p q one more = tt
 
 behind : (s front value : List ℕ) → s ++ front ++ value ++ codes "\r\n" ≡ s ++ (front ++ value ++ codes "\r\n")
 behind s front value = ap (λ (t : List ℕ). t ++ codes "\r\n") (append_assoc s front value) ∙ append_assoc s (front ++ value) (codes "\r\n")
 
 -- a line by itself
-pub one_line : (s front value name : List ℕ) → front ≡ name ++ codes ": " → s ++ front ++ value ++ codes "\r\n" ≡ s ++ lines (only name value)
+pub one_line : (s front value name : List ℕ) → front ≡ codes "\r\n" ++ name ++ codes ": "
+    → s ++ front ++ value ++ codes "\r\n" ≡ s ++ codes "\r\n" ++ lines (only name value)
 one_line s front value name e =
     behind s front value
     ∙ ap (λ (f : List ℕ). s ++ (f ++ value ++ codes "\r\n")) e
-    ∙ ap (λ (t : List ℕ). s ++ t) (sym (append-nil (line (name, value))))
+    ∙ sym (append_assoc s (codes "\r\n") (line (name, value)))
+    ∙ ap (λ (t : List ℕ). s ++ codes "\r\n" ++ t) (sym (append-nil (line (name, value))))
 
-pub number_line : (s front digits name text : List ℕ) → front ≡ name ++ codes ": " ++ text
-    → s ++ front ++ digits ++ codes "\r\n" ≡ s ++ lines (only name (text ++ digits))
+pub number_line : (s front digits name text : List ℕ) → front ≡ codes "\r\n" ++ name ++ codes ": " ++ text
+    → s ++ front ++ digits ++ codes "\r\n" ≡ s ++ codes "\r\n" ++ lines (only name (text ++ digits))
 number_line s front digits name text e =
     behind s front digits
     ∙ ap (λ (f : List ℕ). s ++ (f ++ digits ++ codes "\r\n")) e
-    ∙ ap (λ (t : List ℕ). s ++ (t ++ codes "\r\n")) (append_assoc (name ++ codes ": ") text digits)
-    ∙ ap (λ (t : List ℕ). s ++ t) (sym (append-nil (line (name, text ++ digits))))
+    ∙ sym (append_assoc s (codes "\r\n") (name ++ codes ": " ++ text ++ digits ++ codes "\r\n"))
+    ∙ ap (λ (t : List ℕ). s ++ codes "\r\n" ++ (t ++ codes "\r\n")) (append_assoc (name ++ codes ": ") text digits)
+    ∙ ap (λ (t : List ℕ). s ++ codes "\r\n" ++ t) (sym (append-nil (line (name, text ++ digits))))
+
+-- the lines of three rules
+pub three_added : (a b c : Pairs) (s t1 t2 t3 : List ℕ) → Adds s t1 a → Adds t1 t2 b → Adds t2 t3 c → Adds s t3 (a ++ b ++ c)
+three_added a b c s t1 t2 t3 h1 h2 h3 = adds_more s t2 t3 (a ++ b) c (adds_more s t1 t2 a b h1 h2) h3
 
 -- the lines of six rules
-pub six_lines : (s : List ℕ) (a b c d e f : Pairs)
-    → s ++ lines a ++ lines b ++ lines c ++ lines d ++ lines e ++ lines f ≡ s ++ lines (a ++ b ++ c ++ d ++ e ++ f)
-six_lines s a b c d e f =
-    let three = ap (λ (t : List ℕ). t ++ lines c) (one_more s a b) ∙ one_more s (a ++ b) c in
-    let four = ap (λ (t : List ℕ). t ++ lines d) three ∙ one_more s (a ++ b ++ c) d in
-    let five = ap (λ (t : List ℕ). t ++ lines e) four ∙ one_more s (a ++ b ++ c ++ d) e in
-    ap (λ (t : List ℕ). t ++ lines f) five ∙ one_more s (a ++ b ++ c ++ d ++ e) f
+pub six_added : (a b c d e f : Pairs) (s t1 t2 t3 t4 t5 t6 : List ℕ) → Adds s t1 a → Adds t1 t2 b → Adds t2 t3 c → Adds t3 t4 d → Adds t4 t5 e → Adds t5 t6 f
+    → Adds s t6 (a ++ b ++ c ++ d ++ e ++ f)
+six_added a b c d e f s t1 t2 t3 t4 t5 t6 h1 h2 h3 h4 h5 h6 =
+    let three = three_added a b c s t1 t2 t3 h1 h2 h3 in
+    let four = adds_more s t3 t4 (a ++ b ++ c) d three h4 in
+    let five = adds_more s t4 t5 (a ++ b ++ c ++ d) e four h5 in
+    adds_more s t5 t6 (a ++ b ++ c ++ d ++ e) f five h6
 
-pub six_added : (s : List ℕ) (a b c d e f : Pairs) (begun t1 t2 t3 t4 t5 t6 : List ℕ) → begun ≡ s
-    → t1 ≡ begun ++ lines a → t2 ≡ t1 ++ lines b → t3 ≡ t2 ++ lines c → t4 ≡ t3 ++ lines d → t5 ≡ t4 ++ lines e → t6 ≡ t5 ++ lines f
-    → t6 ≡ s ++ lines (a ++ b ++ c ++ d ++ e ++ f)
-six_added s a b c d e f begun t1 t2 t3 t4 t5 t6 start e1 e2 e3 e4 e5 e6 =
-    let one : t1 ≡ s ++ lines a = e1 ∙ ap (λ (t : List ℕ). t ++ lines a) start in
-    let two : t2 ≡ s ++ lines a ++ lines b = e2 ∙ ap (λ (t : List ℕ). t ++ lines b) one in
-    let three : t3 ≡ s ++ lines a ++ lines b ++ lines c = e3 ∙ ap (λ (t : List ℕ). t ++ lines c) two in
-    let four : t4 ≡ s ++ lines a ++ lines b ++ lines c ++ lines d = e4 ∙ ap (λ (t : List ℕ). t ++ lines d) three in
-    let five : t5 ≡ s ++ lines a ++ lines b ++ lines c ++ lines d ++ lines e = e5 ∙ ap (λ (t : List ℕ). t ++ lines e) four in
-    e6 ∙ ap (λ (t : List ℕ). t ++ lines f) five ∙ six_lines s a b c d e f
+-- a status line, the lines of fields, and what stands behind the head
+pub all_added : (status : Status) (pairs : Pairs) (begun head out body : List ℕ) → begun ++ codes "\r\n" ≡ first_line status → Adds begun head pairs
+    → out ≡ head ++ codes "\r\n" ++ codes "\r\n" ++ body → out ≡ first_line status ++ lines pairs ++ codes "\r\n" ++ body
+all_added status pairs begun head out body start more is =
+    is ∙ ap (λ (t : List ℕ). t ++ codes "\r\n" ++ body) (more ∙ ap (λ (t : List ℕ). t ++ lines pairs) start)
 
 -- values of these items; where they lie is told of none
 abbrev vec_with : {X : Type 0} → Vec ℕ Global → (items : List X) → length items < 2 ^ 63 → Vec X Global
@@ -156,3 +165,25 @@ shown_so m w typing body age out status came is_status is_came is =
     shown m w typing body age out (subst (λ (k : Came). out.items ≡ first_line (status_for w)
     ++ lines (typing ++ caching k w age ++ location ++ retry_after w ++ connection k ++ content_length (status_for w) (length body))
     ++ codes "\r\n" ++ (if is_head k then [] else body)) is_came so)
+
+whichever : (b : Bool) (x : List ℕ) → (if b then x else x) ≡ x
+whichever true x = refl
+whichever false x = refl
+
+-- The bytes that tell a cause are those of an answer of the proxy's own.
+pub told_so : (m : Mapping) (cause : Cause) (number : ℕ) (out : Vec ℕ Global) (status : Status) (came : Came)
+    → IsOwn (told_status m.sense cause) status → came ≡ m.came
+    → out.items ≡ first_line status
+    ++ lines (only (codes "HC-Cause") (cause_text cause ++ codes " " ++ decimal number) ++ connection came ++ content_length status 0)
+    ++ codes "\r\n" ++ (if is_head came then [] else [])
+    → WritesOwn m cause number out.items
+told_so m cause number out status came own is_came is =
+    let front = only (codes "HC-Cause") (cause_text cause ++ codes " " ++ decimal number) in
+    let bare = is ∙ ap (λ (t : List ℕ). first_line status ++ lines (front ++ connection came ++ content_length status 0) ++ codes "\r\n" ++ t) (whichever (is_head came) []) in
+    let so = subst (λ (k : Came). out.items ≡ first_line status ++ lines (front ++ connection k ++ content_length status 0) ++ codes "\r\n" ++ []) is_came bare in
+    let a = answered out status _ [] so in
+    record {
+      answer = a.answer;
+      tells = record { told = status; is_own = own; status = a.number; phrase = a.phrase; fields = a.fields; body = a.shown };
+      text = a.text;
+    }

@@ -4,7 +4,7 @@ ghost use Rattle.std.specs.Prelude.{ℕ, ◌≡◌, ◌≤◌, ◌<◌, ◌∷�
 ghost use Rattle.sessions.specs.Devices.{Rises, Grown, GrownPartly};
 
 use gateway_desk::Failed;
-use http_edge::{HttpAnswer, Incoming};
+use http_edge::Incoming;
 use journal_book::Grounds;
 use uri_map::Peer;
 
@@ -66,7 +66,8 @@ pub struct Told<'a> {
     pub peer: Option<Peer>,
     /// what the answer rests on
     pub grounds: &'a Grounds,
-    pub answer: &'a HttpAnswer,
+    /// the bytes that tell it
+    pub bytes: &'a [u8],
     /// how many bytes were written; None where a write failed, after a part of them at most
     pub count: Option<usize>,
 }

@@ -268,7 +268,7 @@ fn turn<R: Relation, C: Clock, L: Ledger, S: Stream, N: Wire, G: Gate, W: Wait>(
     let Ok(reply) = reply else {
         return Some(End::Memory);
     };
-    match write_reply(stream, gate, pass, &reply) {
+    match write_reply(stream, gate, pass, reply.as_slice()) {
         Ok(()) => None,
         Err(_) => Some(End::WriteFault),
     }

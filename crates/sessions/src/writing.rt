@@ -6,13 +6,12 @@ ghost use Rattle.transformers.specs.Suits.{Suits};
 ghost use Rattle.ask_model.specs.Views.{Rules};
 ghost use Rattle.exchange_core.specs.Answering.{given_of};
 ghost use Rattle.sessions.specs.Devices.{Rises, Grown, GrownPartly};
-ghost use Rattle.http_edge.specs.Answers.{answer_text};
 ghost use Rattle.sessions.specs.Telling.{SaysAnswer, continue_text};
 
 use crate::devices::{Gate, Stream, Told};
 use exchange_core::Answer;
 use gateway_desk::{Failed, Note, Pass};
-use http_edge::{HttpAnswer, Memory, answer_bytes};
+use http_edge::Memory;
 use http_mapping::render;
 use std::alloc::Global;
 use std::sync::ledger::Ledger;
@@ -21,58 +20,46 @@ use transformers::{Bank, Relation};
 /// What a client that waits with its body is told (RFC 9110 section 10.1.1).
 const CONTINUE: &str = "HTTP/1.1 100 Continue\r\n\r\n";
 
-/// An answer as HTTP has it, and its bytes.
-#[derive(Drop)]
-pub struct Reply {
-    pub answer: HttpAnswer,
-    pub bytes: Vec<u8>,
-    ghost spelled: { bytes.items ≡ answer_text answer },
-}
-
-/// The reply that tells an answer.
+/// The bytes of the reply that tells an answer.
 pub fn reply_of<R: Relation>(
     alloc: Global,
     bank: &Bank<R>,
     answer: &Answer<R>,
-) -> Result<Reply, Memory>
+) -> Result<Vec<u8>, Memory>
     requires keep { AllKeep R.holds R.takes bank.now.stored.items }
     ensures { (rules : Rules) → Suits R.holds R.takes rules.routes bank.now
-        → IfOk result (λ reply.
-        SaysAnswer R.holds R.takes rules (given_of answer.now) reply.bytes.items) }
+        → IfOk result (λ bytes.
+        SaysAnswer R.holds R.takes rules (given_of answer.now) bytes.items) }
 {
     let age = answer.moment.saturating_sub(answer.heard);
-    let rendered = render(alloc, bank, &answer.mapped, &answer.finding, age)?;
-    let bytes = answer_bytes(alloc, &rendered)?;
-    Ok(Reply {
-        answer: rendered,
-        bytes,
-    })
+    let bytes = render(alloc, bank, &answer.mapped, &answer.finding, age)?;
+    Ok(bytes)
 }
 
-/// Writes the reply to the request that is answered last in the pass, and tells the gate of it.
+/// Writes these bytes as the reply to the request that is answered last in the pass, and tells the gate of it.
 pub fn write_reply<R: Relation, L: Ledger, S: Stream, G: Gate>(
     stream: &mut S,
     gate: &mut G,
     pass: &Pass<R, L>,
-    reply: &Reply,
+    bytes: &[u8],
 ) -> Result<(), Failed>
     ensures quiet { Grown (S.gave stream.old) (S.gave stream.new) [] }
     ensures ok { OnOk result (
-        Grown (S.written stream.old) (S.written stream.new) reply.now.bytes.items
+        Grown (S.written stream.old) (S.written stream.new) bytes.now
         × (S.count stream.new ≡ S.count stream.old)) }
     ensures err { OnErr result (
-        GrownPartly (S.written stream.old) (S.written stream.new) reply.now.bytes.items
+        GrownPartly (S.written stream.old) (S.written stream.new) bytes.now
         × Rises (S.count stream.old) (S.count stream.new)) }
     ensures same { G.nays gate.new ≡ G.nays gate.old }
 {
-    let written = stream.write(reply.bytes.as_slice());
+    let written = stream.write(bytes);
     if let Some(Note::Got(receipt)) = pass.notes().last() {
         gate.told(&Told {
             came: receipt.answer.mapped.came(),
             peer: receipt.answer.mapped.peer(),
             grounds: receipt.answer.finding.grounds(),
-            answer: &reply.answer,
-            count: written.is_ok().then_some(reply.bytes.len()),
+            bytes,
+            count: written.is_ok().then_some(bytes.len()),
         });
     }
     written
