@@ -153,13 +153,17 @@ impl Inbox {
         Ok(())
     }
 
-    /// What the bytes that wait ask next: nothing after the last request.
+    /// What the bytes that wait ask next: nothing where there are none, and after the last request.
     pub fn next(&mut self) -> Result<Next, Memory>
         ensures reads { ReadsInlet result self.old.current self.new.current }
         ensures marked { self.new.marked ≡ self.old.marked }
         ensures sound { IsSound self.new.current }
     {
         if self.closing {
+            return Ok(Next::Nothing);
+        }
+        if self.reader.len() == 0 {
+            self.unread = 0;
             return Ok(Next::Nothing);
         }
         let found = self.reader.read();

@@ -1,14 +1,14 @@
 -- After an input each connection waits for an answer, or for bytes.
-use Rattle.std.proofs.Common.{◌≡◌, ◌≢◌, ◌⊎◌, inl, inr, ℕ, ◌<◌, Bool, true, false, List, [], ◌∷◌, ◌++◌, length, Option, Some, None, Err, refl, sym, ap, ◌∙◌, subst, arith, length-append}
+use Rattle.std.proofs.Common.{◌≡◌, ◌≢◌, ◌⊎◌, inl, inr, ℕ, Bool, true, false, List, [], ◌∷◌, ◌++◌, Option, Some, None, Err, refl, sym, ap, ◌∙◌, subst}
 use Rattle.std.specs.Prelude.{flat_map}
 use Rattle.std.specs.List.{AllByRecursion}
 use Rattle.std.proofs.lemmas.Bool.{both_ways}
 use Rattle.uri_map.specs.declared.peer.Peer.{Peer}
-use Rattle.http_edge.proofs.Heading.{head_is_some}
 use Rattle.http_edge.specs.Edges.{Expects, LeavesBytes}
 use Rattle.journal_book.specs.Entries.{Opens as Opened, Asks as Asked}
 use Rattle.history_claims.specs.Headline.{IsEntry}
 use Rattle.gateway_connections.specs.Reads.{IsIdle}
+use Rattle.gateway_connections.proofs.Nothing.{expects-nothing, leaves-nothing}
 use Rattle.exchange_model.specs.State.{State}
 use Rattle.exchange_model.specs.Steps.{opens}
 use Rattle.exchange_model.specs.Resting.{HasConn}
@@ -301,15 +301,6 @@ rested-after s none h = record {
     by c x (inr y) = inr y
 
 -- a connection is opened
-
-some-text : (a b : List ℕ) → [] ≡ a ++ b → 0 < length a → ⊥
-some-text a b e lt = let whole = ap length e ∙ length-append a b in omega (arith, whole, lt)
-
-expects-nothing : Expects [] → ⊥
-expects-nothing x = some-text _ x.behind x.begins.reads.1 (head_is_some x.head)
-
-leaves-nothing : LeavesBytes [] 0
-leaves-nothing = ([], inl ((λ h rest x. some-text _ rest x.1 (head_is_some h)), refl), refl)
 
 opened-rests : (M : Terms) (w : When) (c : ℕ) (old : Served) (out : List Emission) (new : Served)
     → Does M w (Opens c) old out new → new.core.untaken ≡ [] → AllServed old → AllRest new

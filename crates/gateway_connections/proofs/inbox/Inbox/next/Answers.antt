@@ -1,13 +1,26 @@
 -- Where nothing is read, more is awaited.
-use Rattle.std.proofs.Common.{ℕ, List, ◌≡◌, ◌∙◌, Ok, inr, refl, sym, ap, subst}
+use Rattle.std.proofs.Common.{ℕ, List, [], ◌≡◌, ◌∙◌, Ok, inl, inr, refl, sym, ap, subst}
 use Rattle.http_edge.specs.Edges.{Expects, IsUnread, LeavesBytes}
 use Rattle.gateway_connections.specs.Inlets.{IsSound}
 use Rattle.gateway_connections.specs.Inboxes.{inlet_of}
 use Rattle.gateway_connections.specs.Reads.{IsIdle}
 use Rattle.gateway_connections.specs.Readers.{text_of}
 use Rattle.gateway_connections.proofs.Holding.{idle-text}
+use Rattle.gateway_connections.proofs.Nothing.{no-bytes, expects-nothing, leaves-nothing}
 use Rattle.gateway_connections.proofs.inbox.Inbox.next.Goals.{else-wants_continue-via-then-wants_continue+else-not-self, else-wants_continue-via-else-wants_continue}
 use Rattle.gateway_connections.proofs.inbox.Inbox.next.Goals as goal
+
+pub returns-then-len-eq0-clause-reads : goal.returns-then-len-eq0-clause-reads
+returns-then-len-eq0-clause-reads c =
+    let none : text_of c.self.inside.reader ≡ [] = no-bytes _ (sym c.len.ensures ∙ c.if-len-eq0.true) in
+    rw (← c.self.view_is) (record {
+      why = inr (record {
+        idle = inl none;
+        told = λ e. absurd (expects-nothing (subst Expects none e));
+        counted = subst (λ (u : List ℕ). LeavesBytes u 0) (sym none) leaves-nothing;
+      });
+      left = refl;
+    })
 
 pub returns-then-not-self-clause-reads : goal.returns-then-not-self-clause-reads
 returns-then-not-self-clause-reads c =
