@@ -24,10 +24,10 @@ use Rattle.transformers.specs.Told.{IsInRange, IsBelow, IsSound, AreSound, AreSo
 
 -- ---- the order of keys
 
-above : (k l : List ℕ) → slice_cmp nat_cmp k l ≡ Greater → slice_cmp nat_cmp l k ≡ Less
+pub above : (k l : List ℕ) → slice_cmp nat_cmp k l ≡ Greater → slice_cmp nat_cmp l k ≡ Less
 above k l e = nat_list_cmp_total.antisymm l k ∙ ap ordering_reverse e
 
-below_all : (k l : List ℕ) (ms : Members) → slice_cmp nat_cmp k l ≡ Less → IsBelow l ms → IsBelow k ms
+pub below_all : (k l : List ℕ) (ms : Members) → slice_cmp nat_cmp k l ≡ Less → IsBelow l ms → IsBelow k ms
 below_all k l no_members lt h = tt
 below_all k l (member m d ms) lt h = (nat_list_cmp_total.trans k l m lt h.0, below_all k l ms lt h.1)
 
@@ -37,7 +37,7 @@ chosen P Less x y z p q r = p
 chosen P Equal x y z p q r = q
 chosen P Greater x y z p q r = r
 
-below_put : (l k : List ℕ) (d : Data) (ms : Members) → slice_cmp nat_cmp l k ≡ Less → IsBelow l ms → IsBelow l (put k d ms)
+pub below_put : (l k : List ℕ) (d : Data) (ms : Members) → slice_cmp nat_cmp l k ≡ Less → IsBelow l ms → IsBelow l (put k d ms)
 below_put l k d no_members lt h = (lt, tt)
 below_put l k d (member m e ms) lt h =
     chosen (λ (r : Members). IsBelow l r) (slice_cmp nat_cmp k m) (member k d (member m e ms)) (member m d ms) (member m e (put k d ms)) (lt, h) h (h.0, below_put l k d ms lt h.1)
@@ -54,27 +54,27 @@ put_sound k d (member l e ms) text one all = put_sound_at (slice_cmp nat_cmp k l
 
 -- ---- members that go in one after another, in the order of their keys
 
-abbrev joined : Members → Members → Members
+abbrev pub joined : Members → Members → Members
 joined no_members ms = ms
 joined (member k d found) ms = member k d (joined found ms)
 
-joined_end : (found : Members) → joined found no_members ≡ found
+pub joined_end : (found : Members) → joined found no_members ≡ found
 joined_end no_members = refl
 joined_end (member k d found) = ap (member k d) (joined_end found)
 
-joined_on : (found : Members) (k : List ℕ) (d : Data) (ms : Members) → joined (joined found (member k d no_members)) ms ≡ joined found (member k d ms)
+pub joined_on : (found : Members) (k : List ℕ) (d : Data) (ms : Members) → joined (joined found (member k d no_members)) ms ≡ joined found (member k d ms)
 joined_on no_members k d ms = refl
 joined_on (member l e found) k d ms = ap (member l e) (joined_on found k d ms)
 
-below_at : (l : List ℕ) (found : Members) (k : List ℕ) (d : Data) (ms : Members) → IsBelow l (joined found (member k d ms)) → slice_cmp nat_cmp l k ≡ Less
+pub below_at : (l : List ℕ) (found : Members) (k : List ℕ) (d : Data) (ms : Members) → IsBelow l (joined found (member k d ms)) → slice_cmp nat_cmp l k ≡ Less
 below_at l no_members k d ms h = h.0
 below_at l (member m e found) k d ms h = below_at l found k d ms h.1
 
-sound_at : (found : Members) (k : List ℕ) (d : Data) (ms : Members) → AreSoundMembers (joined found (member k d ms)) → IsSound d
+pub sound_at : (found : Members) (k : List ℕ) (d : Data) (ms : Members) → AreSoundMembers (joined found (member k d ms)) → IsSound d
 sound_at no_members k d ms h = h.2
 sound_at (member l e found) k d ms h = sound_at found k d ms h.3
 
-put_end : (found : Members) (k : List ℕ) (d : Data) (ms : Members) → AreSoundMembers (joined found (member k d ms)) → put k d found ≡ joined found (member k d no_members)
+pub put_end : (found : Members) (k : List ℕ) (d : Data) (ms : Members) → AreSoundMembers (joined found (member k d ms)) → put k d found ≡ joined found (member k d no_members)
 put_end no_members k d ms h = refl
 put_end (member l e found) k d ms h =
     let greater : slice_cmp nat_cmp k l ≡ Greater = nat_list_cmp_total.antisymm k l ∙ ap ordering_reverse (below_at l found k d ms h.1) in

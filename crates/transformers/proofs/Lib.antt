@@ -11,4 +11,8 @@ pub mod Shorter
 pub mod Telling
 pub mod Compact
 pub mod Told
+pub mod Standing
+pub mod Putting
+pub mod Placing
+pub mod Made
 pub mod Outputs

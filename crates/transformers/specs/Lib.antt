@@ -3,6 +3,7 @@ pub mod Suits
 pub mod Item
 pub mod Passing
 pub mod Told
+pub mod Puts
 pub mod Shortest
 pub mod ReadBack
 pub mod Kinds

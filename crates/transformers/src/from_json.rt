@@ -1,27 +1,57 @@
-ghost use Rattle.std.specs.Prelude.{◌≡◌, Some, None, Err, IfOk};
-ghost use Rattle.serde_json.specs.Read.{read};
-ghost use Rattle.serde_json.specs.View.{view};
-ghost use Rattle.std.specs.Str.{IsUtf8};
+ghost use Rattle.std.specs.Prelude.{◌≡◌, [], None, Err, IfOk, IsSome};
+ghost use Rattle.json.specs.Value.{value_view};
+ghost use Rattle.serde_json.specs.Read.{of_json, read};
 ghost use Rattle.transformers.specs.Keeps.{Fits};
 ghost use Rattle.transformers.specs.Kinds.{JsonToCbor, TakesJson};
+ghost use Rattle.transformers.specs.Puts.{PutsItem, RefusesItem};
 ghost use Rattle.transformers.specs.declared.refused.Refused.TheVariants.{Content};
 
 use crate::item::DEEPEST;
-use crate::profile::is_within;
+use crate::readable::is_readable;
 use crate::refused::Refused;
 use crate::write::put;
-use serde_json::Value;
+use json::{Error, Reader, Scratch, Value};
 use std::alloc::Global;
+use std::str;
 
-fn value_of(alloc: Global, input: &[u8]) -> Result<Value, Refused>
-    ensures ok { IfOk result (λ v. IsUtf8 input.now × (read input.now ≡ Some (view v))) }
-    ensures content { result ≡ Err Content → IsUtf8 input.now → read input.now ≡ None }
+// How many arrays and objects `serde_json` reads within one another.
+const DEEPEST_READ: usize = 127;
+
+// The value of a text, where it is one of `serde_json`. Its texts are borrowed.
+fn value_of<'a>(
+    alloc: Global,
+    text: &'a str,
+    scratch: &'a mut Scratch,
+) -> Result<Value<'a>, Refused>
+    ensures is { IfOk result (λ v. of_json (value_view v) ≡ read text.now) }
+    ensures some { IfOk result (λ v. IsSome (of_json (value_view v))) }
+    ensures content { result ≡ Err Content → read text.now ≡ None }
 {
-    match Value::from_slice(alloc, input) {
-        Ok(value) => Ok(value),
-        Err(e) if e.is_memory() => Err(Refused::Memory),
-        Err(_) => Err(Refused::Content),
+    let mut reader = Reader::new(text, scratch)?;
+    let value = match Value::read(alloc, &mut reader, DEEPEST_READ) {
+        Ok(value) => value,
+        Err(Error::Invalid) => return Err(Refused::Content),
+        Err(_) => return Err(Refused::Memory),
+    };
+    if let Some(_more) = reader.next() {
+        return Err(Refused::Content);
     }
+    if !is_readable(&value) {
+        return Err(Refused::Content);
+    }
+    Ok(value)
+}
+
+// The item for the value of a text.
+fn cbor_of(alloc: Global, text: &str) -> Result<Vec<u8>, Refused>
+    ensures ok { IfOk result (λ v. PutsItem 32 (read text.now) [] v.items) }
+    ensures content { result ≡ Err Content → RefusesItem 32 (read text.now) }
+{
+    let mut scratch = Scratch::new(alloc);
+    let value = value_of(alloc, text, &mut scratch)?;
+    let mut out = Vec::new(alloc);
+    put(alloc, &mut out, DEEPEST, &value)?;
+    Ok(out)
 }
 
 /// A CBOR item (RFC 8949) for the value of a JSON text (RFC 8259), with the shortest heads and with
@@ -34,11 +64,8 @@ fn value_of(alloc: Global, input: &[u8]) -> Result<Value, Refused>
 pub fn json_cbor(alloc: Global, input: &[u8]) -> Result<Vec<u8>, Refused>
     ensures fits { Fits (JsonToCbor input.now) (TakesJson input.now) result }
 {
-    let value = value_of(alloc, input)?;
-    if !is_within(DEEPEST, &value) {
-        return Err(Refused::Content);
+    match str::from_utf8(input) {
+        Ok(text) => cbor_of(alloc, text),
+        Err(_) => Err(Refused::Content),
     }
-    let mut out = Vec::new(alloc);
-    put(&mut out, &value)?;
-    Ok(out)
 }

@@ -1,10 +1,19 @@
-ghost use Rattle.std.specs.Prelude.{◌≡◌, ◌++◌, ◌*◌, OnOk, string_bytes};
-ghost use Rattle.serde_json.specs.View.{items_view, members_view, number_view, view};
-ghost use Rattle.transformers.specs.Shortest.{eight_bytes, four_bytes, items_bytes, members_bytes, number_bytes, number_of, shortest, shortest_head, text_bytes, two_bytes};
+ghost use Rattle.std.specs.Prelude.{◌≡◌, ◌≢◌, ◌++◌, ◌*◌, Some, Err, OnOk, IsSome, IsUtf8};
+ghost use Rattle.json.specs.Json.{number};
+ghost use Rattle.json.specs.Value.{items_view, members_view, value_view};
+ghost use Rattle.serde_json.specs.Data.{Members, no_members, string};
+ghost use Rattle.serde_json.specs.Read.{of_items, of_json, of_members};
+ghost use Rattle.transformers.specs.Item.{simple_data};
+ghost use Rattle.transformers.specs.Puts.{ArePlaced, HasKeys, PutsFront, PutsItem, PutsItems, PutsMember, PutsMembers, RefusesItem, RefusesItems, RefusesMembers};
+ghost use Rattle.transformers.specs.Shortest.{eight_bytes, four_bytes, number_of, shortest, shortest_head, text_bytes, two_bytes};
+ghost use Rattle.transformers.specs.declared.refused.Refused.TheVariants.{Content};
 
 use crate::head::Major;
-use serde_json::{Map, Number, Value};
-use std::alloc::AllocError;
+use crate::number::{Number, number_in};
+use crate::places::{Places, places_of};
+use crate::refused::Refused;
+use json::Value;
+use std::alloc::{AllocError, Global};
 
 // The number of a major type, in the three high bits of a byte.
 fn major_bits(major: Major) -> u8
@@ -72,82 +81,158 @@ fn put_head(out: &mut Vec<u8>, major: Major, n: u64) -> Result<(), AllocError>
 
 #[tactic(auto, unfolding(crate::specs::Shortest::text_bytes))]
 fn put_text(out: &mut Vec<u8>, text: &str) -> Result<(), AllocError>
-    ensures { OnOk result (out.new.items ≡ out.old.items ++ text_bytes text.now) }
+    ensures ok { OnOk result (out.new.items ≡ out.old.items ++ text_bytes text.now) }
+    ensures utf8 { IsUtf8 text.now }
 {
-    put_head(out, Major::Text, text.len() as u64)?;
-    out.extend_from_slice(text.as_bytes())?;
+    let bytes = text.as_bytes();
+    put_head(out, Major::Text, bytes.len() as u64)?;
+    out.extend_from_slice(bytes)?;
     Ok(())
 }
 
-// A whole number. A float has no text.
-fn put_number(out: &mut Vec<u8>, number: &Number) -> Result<(), AllocError>
-    ensures { OnOk result (out.new.items ≡ out.old.items ++ number_bytes (number_view number.now)) }
+// A number that is whole.
+fn put_number(out: &mut Vec<u8>, levels: u8, text: &str) -> Result<(), Refused>
+    ensures ok { OnOk result (PutsItem levels (of_json (number text.now))
+        out.old.items out.new.items) }
+    ensures content { result ≡ Err Content → RefusesItem levels (of_json (number text.now)) }
 {
-    if let Some(n) = number.as_u64() {
-        put_head(out, Major::Unsigned, n)
-    } else if let Some(z) = number.as_i64() {
-        put_head(out, Major::Negative, (-1 - z) as u64)
-    } else {
-        Ok(())
+    match number_in(text) {
+        Some(Number::Unsigned(n)) => Ok(put_head(out, Major::Unsigned, n)?),
+        Some(Number::Negative(n)) => Ok(put_head(out, Major::Negative, n)?),
+        Some(Number::Float(_)) | None => Err(Refused::Content),
     }
 }
 
-// The value as an item, without its floats.
+// Null, false or true.
+fn put_word(out: &mut Vec<u8>, levels: u8, simple: Option<bool>) -> Result<(), Refused>
+    ensures ok { OnOk result (PutsItem levels (Some (simple_data simple))
+        out.old.items out.new.items) }
+    ensures content { result ≢ Err Content }
+{
+    match simple {
+        None => out.push(0xf6)?,
+        Some(false) => out.push(0xf4)?,
+        Some(true) => out.push(0xf5)?,
+    }
+    Ok(())
+}
+
+fn put_string(out: &mut Vec<u8>, levels: u8, text: &str) -> Result<(), Refused>
+    ensures ok { OnOk result (PutsItem levels (Some (string text.now))
+        out.old.items out.new.items) }
+    ensures content { result ≢ Err Content }
+{
+    Ok(put_text(out, text)?)
+}
+
+// The value as an item, with at most so many arrays and objects within each other.
 #[cycle(put)]
-pub(crate) fn put(out: &mut Vec<u8>, value: &Value) -> Result<(), AllocError>
-    ensures { OnOk result (out.new.items ≡ out.old.items ++ shortest (view value.now)) }
+pub(crate) fn put(
+    alloc: Global,
+    out: &mut Vec<u8>,
+    levels: u8,
+    value: &Value<'_>,
+) -> Result<(), Refused>
+    requires { IsSome (of_json (value_view value.now)) }
+    ensures ok { OnOk result (PutsItem levels (of_json (value_view value.now))
+        out.old.items out.new.items) }
+    ensures content { result ≡ Err Content
+        → RefusesItem levels (of_json (value_view value.now)) }
 {
     match value {
-        Value::Null => {
-            out.push(0xf6)?;
-            Ok(())
-        }
-        Value::Bool(b) => {
-            out.push(if *b { 0xf5 } else { 0xf4 })?;
-            Ok(())
-        }
-        Value::Number(number) => put_number(out, number),
-        Value::String(text) => put_text(out, text.as_str()),
-        Value::Array(items) => {
-            put_head(out, Major::Array, items.len() as u64)?;
-            put_items(out, items)
-        }
-        Value::Object(members) => {
-            put_head(out, Major::Map, members.len() as u64)?;
-            put_members(out, members)
-        }
+        Value::Null => put_word(out, levels, None),
+        Value::Bool(b) => put_word(out, levels, Some(*b)),
+        Value::Number(text) => put_number(out, levels, text),
+        Value::String(text) => put_string(out, levels, text),
+        Value::Array(items) if levels > 0 => put_items(alloc, out, levels - 1, items),
+        Value::Object(members) if levels > 0 => put_members(alloc, out, levels - 1, members),
+        Value::Array(_) | Value::Object(_) => Err(Refused::Content),
     }
 }
 
 #[cycle(put)]
-fn put_items(out: &mut Vec<u8>, items: &Vec<Value>) -> Result<(), AllocError>
-    ensures { OnOk result (out.new.items
-        ≡ out.old.items ++ items_bytes (items_view items.now.items)) }
+fn put_items(
+    alloc: Global,
+    out: &mut Vec<u8>,
+    levels: u8,
+    items: &Vec<Value<'_>>,
+) -> Result<(), Refused>
+    requires { IsSome (of_items (items_view items.now.items)) }
+    ensures ok { OnOk result (PutsItems levels (of_items (items_view items.now.items))
+        out.old.items out.new.items) }
+    ensures content { result ≡ Err Content
+        → RefusesItems levels (of_items (items_view items.now.items)) }
 {
+    put_head(out, Major::Array, items.len() as u64)?;
     'each: for item in items {
-        put(out, item)?;
+        put(alloc, out, levels, item)?;
     }
     Ok(())
 }
 
+// A member: its key, and its value.
 #[cycle(put)]
-#[tactic(auto, using(crate::proofs::Writing::member_written))]
-fn put_members(out: &mut Vec<u8>, members: &Map<String, Value>) -> Result<(), AllocError>
-    ensures { OnOk result (out.new.items
-        ≡ out.old.items ++ members_bytes (members_view members.now.entries)) }
+fn put_member(
+    alloc: Global,
+    out: &mut Vec<u8>,
+    levels: u8,
+    key: &str,
+    value: &Value<'_>,
+) -> Result<(), Refused>
+    requires { IsSome (of_json (value_view value.now)) }
+    ensures ok { OnOk result (PutsMember key.now levels (of_json (value_view value.now))
+        out.old.items out.new.items) }
+    ensures content { result ≡ Err Content
+        → RefusesItem levels (of_json (value_view value.now)) }
 {
-    let mut left = members.iter();
-    'each: while let Some((key, member)) = left.next() {
-        put_member(out, key, member)?;
-    }
-    Ok(())
+    put_text(out, key)?;
+    put(alloc, out, levels, value)
 }
 
+// An object: of equal keys the last counts.
 #[cycle(put)]
-fn put_member(out: &mut Vec<u8>, key: &String, member: &Value) -> Result<(), AllocError>
-    ensures { OnOk result (out.new.items
-        ≡ out.old.items ++ (text_bytes (string_bytes key.now) ++ shortest (view member.now))) }
+fn put_members<'a>(
+    alloc: Global,
+    out: &mut Vec<u8>,
+    levels: u8,
+    members: &Vec<(&'a str, Value<'a>)>,
+) -> Result<(), Refused>
+    requires { IsSome (of_members (members_view members.now.items) no_members) }
+    ensures ok { OnOk result (PutsMembers levels
+        (of_members (members_view members.now.items) no_members)
+        out.old.items out.new.items) }
+    ensures content { result ≡ Err Content
+        → RefusesMembers levels (of_members (members_view members.now.items) no_members) }
 {
-    put_text(out, key.as_str())?;
-    put(out, member)
+    if members.len() == 1 {
+        put_head(out, Major::Map, 1)?;
+        let only = &members[0];
+        return put_member(alloc, out, levels, only.0, &only.1);
+    }
+    let places = places_of(alloc, members)?;
+    put_head(out, Major::Map, places.len() as u64)?;
+    put_placed(alloc, out, levels, members, &places)
+}
+
+// The members that count, in the order of their keys.
+#[cycle(put)]
+fn put_placed<'a>(
+    alloc: Global,
+    out: &mut Vec<u8>,
+    levels: u8,
+    members: &Vec<(&'a str, Value<'a>)>,
+    places: &Places<'a>,
+) -> Result<(), Refused>
+    requires { (ms : Members) × ArePlaced members.now.items places.now.entries ms × HasKeys ms }
+    ensures ok { OnOk result ((ms : Members) → ArePlaced members.now.items places.now.entries ms
+        → HasKeys ms → PutsFront levels ms out.old.items out.new.items) }
+    ensures content { result ≡ Err Content → (ms : Members)
+        → ArePlaced members.now.items places.now.entries ms → HasKeys ms
+        → RefusesMembers levels (Some ms) }
+{
+    let mut left = places.iter();
+    'each: while let Some((key, place)) = left.next() {
+        put_member(alloc, out, levels, *key, &members[*place].1)?;
+    }
+    Ok(())
 }
