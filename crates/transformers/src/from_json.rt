@@ -1,4 +1,4 @@
-ghost use Rattle.std.specs.Prelude.{◌≡◌, [], None, Err, IfOk, IsSome};
+ghost use Rattle.std.specs.Prelude.{◌≡◌, [], None, Err, IfOk};
 ghost use Rattle.json.specs.Value.{value_view};
 ghost use Rattle.serde_json.specs.Read.{of_json, read};
 ghost use Rattle.transformers.specs.Keeps.{Fits};
@@ -7,7 +7,6 @@ ghost use Rattle.transformers.specs.Puts.{PutsItem, RefusesItem};
 ghost use Rattle.transformers.specs.declared.refused.Refused.TheVariants.{Content};
 
 use crate::item::DEEPEST;
-use crate::readable::is_readable;
 use crate::refused::Refused;
 use crate::write::put;
 use json::{Error, Reader, Scratch, Value};
@@ -17,14 +16,13 @@ use std::str;
 // How many arrays and objects `serde_json` reads within one another.
 const DEEPEST_READ: usize = 127;
 
-// The value of a text, where it is one of `serde_json`. Its texts are borrowed.
+// The value of a text. Its texts are borrowed, and its numbers may be out of range.
 fn value_of<'a>(
     alloc: Global,
     text: &'a str,
     scratch: &'a mut Scratch,
 ) -> Result<Value<'a>, Refused>
     ensures is { IfOk result (λ v. of_json (value_view v) ≡ read text.now) }
-    ensures some { IfOk result (λ v. IsSome (of_json (value_view v))) }
     ensures content { result ≡ Err Content → read text.now ≡ None }
 {
     let mut reader = Reader::new(text, scratch)?;
@@ -34,9 +32,6 @@ fn value_of<'a>(
         Err(_) => return Err(Refused::Memory),
     };
     if let Some(_more) = reader.next() {
-        return Err(Refused::Content);
-    }
-    if !is_readable(&value) {
         return Err(Refused::Content);
     }
     Ok(value)
@@ -50,7 +45,7 @@ fn cbor_of(alloc: Global, text: &str) -> Result<Vec<u8>, Refused>
     let mut scratch = Scratch::new(alloc);
     let value = value_of(alloc, text, &mut scratch)?;
     let mut out = Vec::new(alloc);
-    put(alloc, &mut out, DEEPEST, &value)?;
+    put(alloc, &mut out, DEEPEST, false, &value)?;
     Ok(out)
 }
 

@@ -1,14 +1,14 @@
 //! Whether a JSON value stands for one of `serde_json`: whether its numbers are in range.
-ghost use Rattle.std.specs.Prelude.{◌≡◌, is_some};
+ghost use Rattle.std.specs.Prelude.{◌≡◌, is_some, IsSome, IsTrue};
 ghost use Rattle.json.specs.Value.{items_view, members_view, value_view};
-ghost use Rattle.serde_json.specs.Data.{Members};
+ghost use Rattle.serde_json.specs.Data.{Members, no_members};
 ghost use Rattle.serde_json.specs.Read.{of_items, of_json, of_members};
 
 use crate::number::number_in;
 use json::Value;
 
 #[cycle(is_readable)]
-pub(crate) fn is_readable(value: &Value<'_>) -> bool
+fn is_readable(value: &Value<'_>) -> bool
     ensures { result ≡ is_some (of_json (value_view value.now)) }
 {
     match value {
@@ -42,4 +42,16 @@ fn members_are_readable(members: &Vec<(&str, Value<'_>)>) -> bool
         }
     }
     true
+}
+
+/// Whether the numbers of an object's members are in range, where that isn't known.
+pub(crate) fn are_known(known: bool, members: &Vec<(&str, Value<'_>)>) -> bool
+    requires { IsTrue known → IsSome (of_members (members_view members.now.items) no_members) }
+    ensures { result ≡ is_some (of_members (members_view members.now.items) no_members) }
+{
+    if known {
+        true
+    } else {
+        members_are_readable(members)
+    }
 }

@@ -1,4 +1,4 @@
-ghost use Rattle.std.specs.Prelude.{◌≡◌, ◌≢◌, ◌++◌, ◌*◌, Some, Err, OnOk, IsSome, IsUtf8};
+ghost use Rattle.std.specs.Prelude.{◌≡◌, ◌≢◌, ◌++◌, ◌*◌, Some, Err, OnOk, IsSome, IsTrue, IsUtf8};
 ghost use Rattle.json.specs.Json.{number};
 ghost use Rattle.json.specs.Value.{items_view, members_view, value_view};
 ghost use Rattle.serde_json.specs.Data.{Members, no_members, string};
@@ -11,6 +11,7 @@ ghost use Rattle.transformers.specs.declared.refused.Refused.TheVariants.{Conten
 use crate::head::Major;
 use crate::number::{Number, number_in};
 use crate::places::{Places, places_of};
+use crate::readable::are_known;
 use crate::refused::Refused;
 use json::Value;
 use std::alloc::{AllocError, Global};
@@ -125,15 +126,17 @@ fn put_string(out: &mut Vec<u8>, levels: u8, text: &str) -> Result<(), Refused>
     Ok(put_text(out, text)?)
 }
 
-// The value as an item, with at most so many arrays and objects within each other.
+// The value as an item, with at most so many arrays and objects within each other. It may be known
+// that its numbers are in range.
 #[cycle(put)]
 pub(crate) fn put(
     alloc: Global,
     out: &mut Vec<u8>,
     levels: u8,
+    known: bool,
     value: &Value<'_>,
 ) -> Result<(), Refused>
-    requires { IsSome (of_json (value_view value.now)) }
+    requires { IsTrue known → IsSome (of_json (value_view value.now)) }
     ensures ok { OnOk result (PutsItem levels (of_json (value_view value.now))
         out.old.items out.new.items) }
     ensures content { result ≡ Err Content
@@ -144,8 +147,10 @@ pub(crate) fn put(
         Value::Bool(b) => put_word(out, levels, Some(*b)),
         Value::Number(text) => put_number(out, levels, text),
         Value::String(text) => put_string(out, levels, text),
-        Value::Array(items) if levels > 0 => put_items(alloc, out, levels - 1, items),
-        Value::Object(members) if levels > 0 => put_members(alloc, out, levels - 1, members),
+        Value::Array(items) if levels > 0 => put_items(alloc, out, levels - 1, known, items),
+        Value::Object(members) if levels > 0 => {
+            put_members(alloc, out, levels - 1, known, members)
+        }
         Value::Array(_) | Value::Object(_) => Err(Refused::Content),
     }
 }
@@ -155,9 +160,10 @@ fn put_items(
     alloc: Global,
     out: &mut Vec<u8>,
     levels: u8,
+    known: bool,
     items: &Vec<Value<'_>>,
 ) -> Result<(), Refused>
-    requires { IsSome (of_items (items_view items.now.items)) }
+    requires { IsTrue known → IsSome (of_items (items_view items.now.items)) }
     ensures ok { OnOk result (PutsItems levels (of_items (items_view items.now.items))
         out.old.items out.new.items) }
     ensures content { result ≡ Err Content
@@ -165,7 +171,7 @@ fn put_items(
 {
     put_head(out, Major::Array, items.len() as u64)?;
     'each: for item in items {
-        put(alloc, out, levels, item)?;
+        put(alloc, out, levels, known, item)?;
     }
     Ok(())
 }
@@ -176,28 +182,30 @@ fn put_member(
     alloc: Global,
     out: &mut Vec<u8>,
     levels: u8,
+    known: bool,
     key: &str,
     value: &Value<'_>,
 ) -> Result<(), Refused>
-    requires { IsSome (of_json (value_view value.now)) }
+    requires { IsTrue known → IsSome (of_json (value_view value.now)) }
     ensures ok { OnOk result (PutsMember key.now levels (of_json (value_view value.now))
         out.old.items out.new.items) }
     ensures content { result ≡ Err Content
         → RefusesItem levels (of_json (value_view value.now)) }
 {
     put_text(out, key)?;
-    put(alloc, out, levels, value)
+    put(alloc, out, levels, known, value)
 }
 
-// An object: of equal keys the last counts.
+// An object: of equal keys the last counts. The numbers of the others have to be in range too.
 #[cycle(put)]
 fn put_members<'a>(
     alloc: Global,
     out: &mut Vec<u8>,
     levels: u8,
+    known: bool,
     members: &Vec<(&'a str, Value<'a>)>,
 ) -> Result<(), Refused>
-    requires { IsSome (of_members (members_view members.now.items) no_members) }
+    requires { IsTrue known → IsSome (of_members (members_view members.now.items) no_members) }
     ensures ok { OnOk result (PutsMembers levels
         (of_members (members_view members.now.items) no_members)
         out.old.items out.new.items) }
@@ -207,7 +215,10 @@ fn put_members<'a>(
     if members.len() == 1 {
         put_head(out, Major::Map, 1)?;
         let only = &members[0];
-        return put_member(alloc, out, levels, only.0, &only.1);
+        return put_member(alloc, out, levels, known, only.0, &only.1);
+    }
+    if !are_known(known, members) {
+        return Err(Refused::Content);
     }
     let places = places_of(alloc, members)?;
     put_head(out, Major::Map, places.len() as u64)?;
@@ -232,7 +243,7 @@ fn put_placed<'a>(
 {
     let mut left = places.iter();
     'each: while let Some((key, place)) = left.next() {
-        put_member(alloc, out, levels, *key, &members[*place].1)?;
+        put_member(alloc, out, levels, true, *key, &members[*place].1)?;
     }
     Ok(())
 }

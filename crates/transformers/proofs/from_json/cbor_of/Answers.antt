@@ -1,7 +1,10 @@
-use Rattle.std.proofs.Common.{arith, sym}
+use Rattle.std.proofs.Common.{arith, sym, true≢false}
 use Rattle.transformers.proofs.Made.{put_alone, nothing_refused}
 use Rattle.transformers.proofs.Putting.{as_refused}
 use Rattle.transformers.proofs.from_json.cbor_of.Goals as goal
+
+pub put-requires : goal.put-requires
+put-requires c h = absurd (true≢false (sym h))
 
 pub returns-in_err-value-clause-content : goal.returns-in_err-value-clause-content
 returns-in_err-value-clause-content c said = nothing_refused _ (c.value_of.ensures.content (grind arith))

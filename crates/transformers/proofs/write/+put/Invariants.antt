@@ -1,4 +1,4 @@
-use Rattle.std.proofs.Common.{◌≡◌, ◌+◌, ◌*◌, Some, drop, length}
+use Rattle.std.proofs.Common.{◌≡◌, ◌+◌, ◌*◌, Some, is_some, drop, length}
 use Rattle.json.specs.Value.{items_view}
 use Rattle.serde_json.specs.Data.{Items, Members}
 use Rattle.serde_json.specs.Read.{of_items}
@@ -24,7 +24,8 @@ decreases-put_members l = 4 * l.levels + 3
 
 abbrev pub invariant-put_items-each : goal.invariant-put_items-each
 invariant-put_items-each l =
-    (all : Items) × (of_items (items_view l.item-items) ≡ Some all) × ItemsLeft l.levels (drop l.item-index l.item-items) all l.initial.out.items l.out.items
+    (is_some (of_items (items_view l.item-items)) ≡ is_some (of_items (items_view (drop l.item-index l.item-items))))
+    × ((all : Items) → of_items (items_view l.item-items) ≡ Some all → ItemsLeft l.levels (drop l.item-index l.item-items) all l.initial.out.items l.out.items)
 
 abbrev pub decreases-put_placed-each : goal.decreases-put_placed-each
 decreases-put_placed-each l = length l.left
