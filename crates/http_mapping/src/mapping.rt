@@ -63,9 +63,9 @@ pub fn map_request<R: Relation>(
         Incoming::Request(_) => return bad_mapped(settings, BadKind::Large),
         Incoming::Bad(kind) => return bad_mapped(settings, *kind),
     };
+    let kept = Arc::try_clone(settings)?;
     let meant = request_meant(alloc, settings, bank, request)?;
-    let settings = Arc::try_clone(settings)?;
-    Ok(Mapped::new(came, meant.meaning, meant.wanted, settings))
+    Ok(Mapped::new(came, meant.meaning, meant.wanted, kept))
 }
 
 /// What is mapped of bytes that are no request.

@@ -11,6 +11,7 @@ ghost use Rattle.http_mapping.specs.Typings.{typing_shown, IsAlong};
 
 use ask_model::Settings;
 use http_edge::{Memory, Request};
+use http_header::{ACCEPT, HeaderName};
 use media_map::{Form, MediaFault, Policy, Wanted, accept_of, format_of, route_of};
 use std::alloc::Global;
 
@@ -108,8 +109,7 @@ fn put_value(all: &mut Vec<u8>, begun: bool, value: &[u8]) -> Result<(), Memory>
 }
 
 /// The values of all fields of that name, with a comma between each two (RFC 9110, section 5.3).
-fn one_value(alloc: Global, request: &Request, name: &'static str) -> Result<Vec<u8>, Memory>
-    requires { lowercase name.now ≡ name.now }
+fn one_value(alloc: Global, request: &Request, name: &HeaderName) -> Result<Vec<u8>, Memory>
     ensures { IfOk result (λ v. v.items ≡ one_value_of name.now (content request.now)) }
 {
     let mut all = Vec::new(alloc);
@@ -133,7 +133,7 @@ pub fn wanted_by(
     ensures fault { IfErr result (λ e. e ≢ MediaFault.Memory
         → accepted_of (rules_of settings.now) (content request.now) ≡ Err e) }
 {
-    match one_value(alloc, request, "accept") {
+    match one_value(alloc, request, &ACCEPT) {
         Ok(value) => accept_of(alloc, &value, settings.policy, &settings.routes),
         Err(Memory) => Err(MediaFault::Memory),
     }
