@@ -43,6 +43,7 @@ mod Heeds
 mod HeardSteps
 mod Idles
 mod Restoring
+mod Empty
 mod Watched
 mod Notified
 mod Started

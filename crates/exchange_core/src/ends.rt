@@ -1,6 +1,6 @@
 //! An exchange that ends by its reply, and leaves all that is observed as it is.
 
-ghost use Rattle.std.specs.Prelude.{ℕ, ◌≡◌, ◌≤◌, ◌+◌, ◌++◌, [], IsTrue, OnErr, OnOk, false, is_some, length, sum_by, true};
+ghost use Rattle.std.specs.Prelude.{ℕ, ◌≡◌, ◌≤◌, ◌+◌, ◌∷◌, ◌++◌, [], IsTrue, OnErr, OnOk, false, is_some, length, sum_by, true};
 ghost use Rattle.std.specs.List.{AllByRecursion};
 ghost use Rattle.limits.specs.declared.TheConstants.{LAST_MOMENT, MAX_ENTRIES};
 ghost use Rattle.ask_model.specs.Sizes.{capped};
@@ -9,7 +9,7 @@ ghost use Rattle.message_layer.specs.Prepared.{MayHeed};
 ghost use Rattle.endpoint_table.specs.Tables.{link_at};
 ghost use Rattle.observe_share.specs.declared.notice.Notice.{Notice};
 ghost use Rattle.exchange_model.specs.State.{link_of};
-ghost use Rattle.exchange_model.specs.Matters.{IsDigested, Matter as ModelMatter, asked_in};
+ghost use Rattle.exchange_model.specs.Matters.{IsDigested, Matter as ModelMatter, asked_in, left_by};
 ghost use Rattle.exchange_model.specs.Hearing.{Numbers};
 ghost use Rattle.exchange_model.specs.Watching.{is_written_by, tokens_of};
 ghost use Rattle.exchange_model.specs.Entering.{Effect};
@@ -36,7 +36,8 @@ use crate::storing::{Put, make_room_for, put_ended, settle};
 use crate::watching::retire;
 use exchange_model::Exchange;
 use exchange_progress::Ended;
-use exchange_table::asked;
+use exchange_table::{Exchanges, asked};
+use journal_book::Journal;
 use message_layer::Heeding;
 use std::alloc::{AllocError, Global};
 use transformers::Relation;
@@ -102,6 +103,19 @@ fn draft_end<R: Relation>(
     Ok(())
 }
 
+/// Where the exchange that has ended was a write, it outran the others of its place. Where there
+/// are no others, its request isn't looked at.
+fn outrun<R: Relation>(exchanges: &mut Exchanges, journal: &Journal<R>, ended: &Exchange)
+    requires { AllByRecursion (IsDigested journal.now.entries) exchanges.old.exchanges }
+    ensures { exchanges.new.exchanges
+        ≡ left_by journal.now.entries (ended.now ∷ []) exchanges.old.exchanges }
+{
+    if exchanges.as_slice().is_empty() {
+        return;
+    }
+    exchanges.outrun(journal, ended);
+}
+
 /// The tables after the end of the exchange.
 fn change_tables<R: Relation>(
     s: &mut State<R>,
@@ -130,7 +144,7 @@ fn change_tables<R: Relation>(
     let number = s.journal.len() as u32;
     settle(&mut s.store, &s.journal, exchange, put);
     s.exchanges.remove(&exchange.token);
-    s.exchanges.outrun(&s.journal, exchange);
+    outrun(&mut s.exchanges, &s.journal, exchange);
     retire(&mut s.watches, &s.journal, exchange);
     note_next(
         &mut s.exchanges,

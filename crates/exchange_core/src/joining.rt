@@ -41,6 +41,9 @@ pub fn find_joined<R: Relation>(
     ensures { result
         ≡ find (is_joined_by journal.now.entries mapped.now.sense) exchanges.now.exchanges }
 {
+    if exchanges.as_slice().is_empty() {
+        return None;
+    }
     exchanges.joined(journal, mapped).copied()
 }
 

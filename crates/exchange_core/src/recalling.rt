@@ -35,6 +35,9 @@ pub fn find_stored<R: Relation>(
 ) -> Result<Option<StoredResponse>, AllocError>
     ensures { IfOk result (λ o. o ≡ served_for mapped.now.sense moment store.now.pairs) }
 {
+    if store.is_empty() {
+        return Ok(None);
+    }
     let Some(sought) = mapped.lookup() else {
         return Ok(None);
     };

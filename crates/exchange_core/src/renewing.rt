@@ -97,6 +97,9 @@ pub fn find_stale<R: Relation>(
     ensures { IfOk result (λ o. o
         ≡ stale_for mapped.now.sense moment journal.now.entries store.now.pairs) }
 {
+    if store.is_empty() {
+        return Ok(None);
+    }
     let Some(sought) = mapped.lookup() else {
         return Ok(None);
     };

@@ -266,6 +266,9 @@ fn retire<R: Relation>(store: &mut Store, journal: &Journal<R>, ended: &Exchange
     ensures { store.new.pairs
         ≡ settled journal.now.entries (Some ended.now) None store.old.pairs }
 {
+    if store.is_empty() {
+        return;
+    }
     let Some(mapped) = asked(journal, ended.ask) else {
         return;
     };
@@ -288,6 +291,9 @@ fn outdate<R: Relation>(store: &mut Store, journal: &Journal<R>, ended: &Exchang
     ensures { store.new.pairs
         ≡ outdated_under (key_ended journal.now.entries (Some ended.now)) store.old.pairs }
 {
+    if store.is_empty() {
+        return;
+    }
     if let Some(sought) = sought_in(journal, ended) {
         store.outdate(&sought);
     }

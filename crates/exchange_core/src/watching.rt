@@ -65,6 +65,9 @@ pub fn tokens_renewed<R: Relation>(
         (λ v. v.items ≡ tokens_of (is_renewed_for mapped.now.sense) watches.now.standing) }
 {
     let mut tokens = Vec::new(alloc);
+    if watches.is_empty() {
+        return Ok(tokens);
+    }
     let Some(reading) = mapped.reading() else {
         return Ok(tokens);
     };
@@ -77,6 +80,9 @@ pub fn renew<R: Relation>(watches: &mut Watch, mapped: &Mapped<R>)
     ensures watches { watches.new.standing
         ≡ without (is_renewed_for mapped.now.sense) watches.old.standing }
 {
+    if watches.is_empty() {
+        return;
+    }
     if let Some(reading) = mapped.reading() {
         watches.forget(&reading);
     }
@@ -124,6 +130,9 @@ pub fn retire<R: Relation>(watches: &mut Watch, journal: &Journal<R>, ended: &Ex
     ensures { watches.new.standing ≡ without
         (is_written_by (asked_in journal.now.entries ended.now.ask)) watches.old.standing }
 {
+    if watches.is_empty() {
+        return;
+    }
     let Some(mapped) = asked(journal, ended.ask) else {
         return;
     };

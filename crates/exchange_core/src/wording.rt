@@ -36,6 +36,9 @@ fn observing<R: Relation>(
     ensures { IfOk result (λ o. AsksToObserve mapped.now token.now (state_of s.now) o) }
 {
     let _body = mapped.body();
+    if mapped.settings().observed.is_empty() {
+        return Ok(None);
+    }
     if !may_watch(&s.watches, mapped) {
         return Ok(None);
     }

@@ -23,8 +23,8 @@ returns-clause-state g c = λ x ended k is.
     let n = length S.entries in
     tables-by c.args.moment c.args.peer h e ended x S k _ _ _ _ _ _
     (c.note_next.ensures
-    ∙ (ap (λ (j : ℕ). note_next j h.next c.outrun.new.self.exchanges) (c.first_number.ensures ∙ ap (λ (m : ℕ). first_number m h) c.len-number.ensures)
-    ∙ ap (λ (es : List Exchange). note_next (first_number n h) h.next es) (c.outrun.ensures.exchanges ∙ ap (λ (es : List Exchange). left_by S.entries (e ∷ []) es) c.remove.ensures)))
+    ∙ (ap (λ (j : ℕ). note_next j h.next c.outrun.new.exchanges.exchanges) (c.first_number.ensures ∙ ap (λ (m : ℕ). first_number m h) c.len-number.ensures)
+    ∙ ap (λ (es : List Exchange). note_next (first_number n h) h.next es) (c.outrun.ensures ∙ ap (λ (es : List Exchange). left_by S.entries (e ∷ []) es) c.remove.ensures)))
     c.drop_of.ensures.pieces c.drop_of-2.ensures.stales c.retire.ensures
     (c.settle.ensures ∙ stored-over n c.args.moment S.entries x.numbers e ended x.matter c.args.put S.store k.matter is)
     c.heed.ensures

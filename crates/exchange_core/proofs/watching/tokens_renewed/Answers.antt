@@ -3,8 +3,15 @@ use Rattle.std.specs.Prelude.{option_map}
 use Rattle.cache_key.specs.Keys.{key_of}
 use Rattle.observe_share.specs.Watches.{is_of}
 use Rattle.exchange_model.specs.Watching.{tokens_of}
+use Rattle.exchange_core.specs.Watching.{is_renewed_for}
+use Rattle.exchange_core.proofs.Empty.{no-tokens}
 use Rattle.exchange_core.proofs.Watched.{renewed-none, renewed-some}
 use Rattle.exchange_core.proofs.watching.tokens_renewed.Goals as goal
+
+pub returns-then-is_empty : goal.returns-then-is_empty
+returns-then-is_empty g c =
+    c.new-tokens.ensures.items
+    ∙ no-tokens (is_renewed_for c.args.mapped.now.sense) c.args.watches.now.standing (sym c.is_empty.ensures ∙ c.if-is_empty.true)
 
 pub returns-in_default : goal.returns-in_default
 returns-in_default g c =
