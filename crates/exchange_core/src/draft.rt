@@ -260,7 +260,10 @@ impl<R: Relation> Draft<R> {
                 timeout,
             },
         })?;
-        self.parts.sends.push_back(Datagram { peer, bytes })?;
+        self.parts.sends.reserve(1)?;
+        self.parts
+            .sends
+            .push_back_reserved(Datagram { peer, bytes });
         Ok(())
     }
 
@@ -295,7 +298,8 @@ impl<R: Relation> Draft<R> {
                 grounds,
             },
         })?;
-        self.parts.answers.push_back(answer)?;
+        self.parts.answers.reserve(1)?;
+        self.parts.answers.push_back_reserved(answer);
         Ok(())
     }
 }
