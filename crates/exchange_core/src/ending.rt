@@ -212,6 +212,30 @@ fn found_for(ended: Ended, reader: &Reader) -> Finding
     }
 }
 
+/// All who wait for the exchange are told how it ended. Apart, so that one who waits alone needs no
+/// room for it.
+#[inline(never)]
+fn tell_all<R: Relation>(
+    alloc: Global,
+    draft: &mut Draft<R>,
+    journal: &Journal<R>,
+    readers: &Readers,
+    exchange: &Exchange,
+    ended: Ended,
+    moment: u64,
+) -> Result<(), AllocError>
+    requires room { draft.old.next + length readers.now.items ≤ 4294967295 }
+    requires told { TellsAll journal.now.entries draft.old.entries moment exchange.now ended
+        readers.now.items }
+    ensures { (S : CoreState) (ds : List Deed) (n : ℕ) (how : Ending) → IsEnded n ended how
+        → S.entries ≡ journal.now.entries → IsDrafted moment S ds draft.old
+        → OnOk result (IsDrafted moment S
+        (ds ++ map deed_of (readers_told how n exchange.now readers.now.items)) draft.new) }
+{
+    let told = readers_told(alloc, exchange, &ended, readers)?;
+    draft_tellings(draft, journal, told, moment)
+}
+
 /// All who wait for the exchange are told how it ended. One alone is given what was found.
 pub fn tell_readers<R: Relation>(
     alloc: Global,
@@ -231,8 +255,7 @@ pub fn tell_readers<R: Relation>(
         (ds ++ map deed_of (readers_told how n exchange.now readers.now.items)) draft.new) }
 {
     let [reader] = readers.of(exchange.opening) else {
-        let told = readers_told(alloc, exchange, &ended, readers)?;
-        return draft_tellings(draft, journal, told, moment);
+        return tell_all(alloc, draft, journal, readers, exchange, ended, moment);
     };
     let telling = Telling {
         reader: *reader,

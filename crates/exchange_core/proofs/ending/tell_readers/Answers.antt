@@ -7,12 +7,10 @@ use Rattle.history_laws.specs.Progress.{Ending}
 use Rattle.exchange_model.specs.declared.kept.Exchange.{Exchange}
 use Rattle.exchange_model.specs.declared.kept.Reader.{Reader}
 use Rattle.exchange_model.specs.Calls.{is_reader_of}
-use Rattle.exchange_model.specs.Matters.{Over}
 use Rattle.exchange_progress.specs.Coming.{found_for, renews}
 use Rattle.exchange_core.specs.declared.ending.Telling.{Telling}
 use Rattle.exchange_core.specs.Ending.{IsTold}
 use Rattle.exchange_core.specs.Matters.{readers_told, telling_for}
-use Rattle.exchange_core.proofs.Tolds.{told-few}
 use Rattle.exchange_core.proofs.ending.tell_readers.Goals as goal
 
 -- The first who waits is told so.
@@ -31,14 +29,6 @@ telling-is : (how : Ending) (n : ℕ) (sending : Option ℕ) (r : Reader) (f : F
 telling-is how n sending r f b e d =
     ap (λ (g : Found). record { reader = r; finding = g; renewed = b }) e
     ∙ ap (λ (c : Bool). record { reader = r; finding = found_for how n sending r; renewed = c }) d
-
-pub draft_tellings-requires-clause-room : goal.draft_tellings-requires-clause-room
-draft_tellings-requires-clause-room g c =
-    let k = c.requires.told in
-    let count = ap (λ (xs : List Telling). length xs) (c.in_ok-told.ensures k.number k.how k.is) in
-    let most = told-few k.number (Over c.args.exchange.now k.how) c.args.readers.now.items in
-    let room = c.requires.room in
-    omega (arith, count, most, room)
 
 pub draft_telling-requires-clause-told : goal.draft_telling-requires-clause-told
 draft_telling-requires-clause-told g c =
