@@ -11,8 +11,6 @@ pub fn token_of(issued: u32, word: u64) -> Token
     ensures number { token_number result ≡ issued }
     ensures word { token_number (drop 4 result) ≡ word / 2 ^ 32 }
 {
-    let high = (word >> 32) as u32;
-    let [a, b, c, d] = issued.to_be_bytes();
-    let [e, f, g, h] = high.to_be_bytes();
-    Token::new(&[a, b, c, d, e, f, g, h])
+    let number = u64::from(issued) * 4_294_967_296 + (word >> 32);
+    Token::new(&number.to_be_bytes())
 }
