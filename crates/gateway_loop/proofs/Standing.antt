@@ -20,11 +20,11 @@ use Rattle.gateway_loop.proofs.Tellings.{last-none}
 module _ (holds : Form → Form → List ℕ → List ℕ → Type 0) (takes : Form → Form → List ℕ → Type 0)
     {S W : Type 0} (written gave : S → Option (List ℕ)) (sent heard : W → Option (List Outgoing)) where
   -- what holds of the ends of a world holds of equal ones
-  pub serving-at : (w : WorldValue) (a b : Ends S W) → b ≡ a
+  pub serving-at : {R : Type 0} (w : WorldValue) (a b : Ends R S W) → b ≡ a
       → IsServing holds takes written gave sent heard w a.clients.places a.wire a.clients.told
       → IsServing holds takes written gave sent heard w b.clients.places b.wire b.clients.told
   serving-at w a b same h =
-      subst (λ (x : Ends _ _). IsServing holds takes written gave sent heard w x.clients.places x.wire x.clients.told)
+      subst (λ (x : Ends _ _ _). IsServing holds takes written gave sent heard w x.clients.places x.wire x.clients.told)
       (sym same) h
 
   serving-only : (w : WorldValue) (n : ℕ) (a b : List (Option (ClientValue S))) (m : W) (n0 n1 : NotesValue)

@@ -58,35 +58,35 @@ impl<R: Relation, S: Stream + Drop, W: Wire + Drop> Gateway<R, S, W> {
         ensures rules { IfOk result (λ g. g.world.rules ≡ self.world.rules) }
     {
         let next = self.next_number();
-        let Gateway {
-            world,
-            mut outputs,
-            mut ends,
-        } = self;
-        let Ends { clients, wire } = &mut *ends;
+        let Gateway { world, mut ends } = self;
+        let Ends {
+            clients,
+            wire,
+            outputs,
+        } = &mut *ends;
         if !clients.carry(number, host, next) {
-            return Ok(Gateway::of(world, outputs, ends));
+            return Ok(Gateway::of(world, ends));
         }
         let input = Input {
             moment: when.moment,
             word: when.word,
             happening: Happening::Open,
         };
-        let Advanced { world, step } = world.advance(bank, input, &mut outputs)?;
+        let Advanced { world, step } = world.advance(bank, input, outputs)?;
         match step {
             Step::Taken(Some(opened)) => {
-                deliver(&mut outputs, clients, wire);
+                deliver(outputs, clients, wire);
                 clients.line_up(opened);
-                Ok(Gateway::of(world, outputs, ends))
+                Ok(Gateway::of(world, ends))
             }
             Step::Taken(None) => {
                 clients.pop();
-                deliver(&mut outputs, clients, wire);
-                Ok(Gateway::of(world, outputs, ends))
+                deliver(outputs, clients, wire);
+                Ok(Gateway::of(world, ends))
             }
             Step::Refused => {
                 clients.pop();
-                Ok(Gateway::of(world, outputs, ends))
+                Ok(Gateway::of(world, ends))
             }
         }
     }

@@ -20,12 +20,9 @@ impl<R: Relation, S: Stream + Drop, W: Wire + Drop> Gateway<R, S, W> {
         requires idle { MayAsk number self }
         ensures rules { IfOk result (λ g. g.world.rules ≡ self.world.rules) }
     {
-        let Gateway {
-            world,
-            mut outputs,
-            mut ends,
-        } = self;
-        let piece = ends.clients.piece(number);
+        let Gateway { world, mut ends } = self;
+        let inside: &mut Ends<R, S, W> = &mut *ends;
+        let piece = inside.clients.piece(number);
         let count = piece.len();
         let input = Input {
             moment: when.moment,
@@ -33,16 +30,20 @@ impl<R: Relation, S: Stream + Drop, W: Wire + Drop> Gateway<R, S, W> {
             happening: Happening::Bytes(number, piece),
         };
         if world.is_too_much(input.happening) {
-            let gateway = Gateway::of(world, outputs, ends);
+            let gateway = Gateway::of(world, ends);
             return gateway.end(bank, when, number);
         }
-        let Advanced { world, step } = world.advance(bank, input, &mut outputs)?;
+        let Advanced { world, step } = world.advance(bank, input, &mut inside.outputs)?;
         match step {
             Step::Taken(_) => {
-                let Ends { clients, wire } = &mut *ends;
+                let Ends {
+                    clients,
+                    wire,
+                    outputs,
+                } = inside;
                 clients.feed(number, count);
-                deliver(&mut outputs, clients, wire);
-                Ok(Gateway::of(world, outputs, ends))
+                deliver(outputs, clients, wire);
+                Ok(Gateway::of(world, ends))
             }
             // What a connection brings is never refused: where memory is, that is given up.
             Step::Refused => unreachable!(),

@@ -22,19 +22,19 @@ const MOST_OUTPUTS: usize = 2048;
 /// What a world is driven by, and to whom it gives out: the connections by their numbers, and the
 /// wire.
 #[derive(Drop)]
-pub struct Ends<S: Stream, W: Wire> {
+pub struct Ends<R: Relation, S: Stream, W: Wire> {
     pub(crate) clients: Clients<S>,
     pub(crate) wire: W,
+    /// What an input gives out, until it is delivered.
+    pub(crate) outputs: Vec<Output<R>>,
 }
 
 /// A world and its ends.
 #[derive(Drop)]
 pub struct Gateway<R: Relation, S: Stream, W: Wire> {
     pub(crate) world: World<R>,
-    /// What an input gives out, until it is delivered.
-    pub(crate) outputs: Vec<Output<R>>,
     /// In a place of their own, so that who hands a gateway on moves little.
-    pub(crate) ends: Box<Ends<S, W>>,
+    pub(crate) ends: Box<Ends<R, S, W>>,
 }
 
 impl<R: Relation, S: Stream, W: Wire> Model for Gateway<R, S, W> {
@@ -66,30 +66,22 @@ impl<R: Relation, S: Stream + Drop, W: Wire + Drop> Gateway<R, S, W> {
         let ends = Ends {
             clients: Clients::new(alloc),
             wire,
+            outputs,
         };
         Ok(Gateway {
             world: World::new(alloc, settings)?,
-            outputs,
             ends: Box::new(alloc, ends)?,
         })
     }
 
     /// The gateway of these.
-    pub(crate) fn of(
-        world: World<R>,
-        outputs: Vec<Output<R>>,
-        ends: Box<Ends<S, W>>,
-    ) -> Gateway<R, S, W>
+    pub(crate) fn of(world: World<R>, ends: Box<Ends<R, S, W>>) -> Gateway<R, S, W>
         requires { IsServing R.holds R.takes S.written S.gave W.sent W.heard
             world ends.value.clients.places ends.value.wire ends.value.clients.told }
         ensures { result
             ≡ record { world = world; clients = ends.value.clients; wire = ends.value.wire } }
     {
-        Gateway {
-            world,
-            outputs,
-            ends,
-        }
+        Gateway { world, ends }
     }
 
     /// Where memory is taken.

@@ -32,16 +32,16 @@ impl<R: Relation, S: Stream + Drop, W: Wire + Drop> Gateway<R, S, W> {
         ensures none { IfOk result (λ x. x.heard ≡ false → W.spent x.gateway.wire ≡ true) }
         ensures length { length buffer.new ≡ length buffer.old }
     {
-        let Gateway {
-            world,
-            mut outputs,
-            mut ends,
-        } = self;
-        let Ends { clients, wire } = &mut *ends;
+        let Gateway { world, mut ends } = self;
+        let Ends {
+            clients,
+            wire,
+            outputs,
+        } = &mut *ends;
         let (count, peer) = match wire.receive(buffer) {
             Received::From(count, peer) => (count, peer),
             Received::Later => {
-                let gateway = Gateway::of(world, outputs, ends);
+                let gateway = Gateway::of(world, ends);
                 return Ok(Listened {
                     gateway,
                     heard: false,
@@ -53,18 +53,18 @@ impl<R: Relation, S: Stream + Drop, W: Wire + Drop> Gateway<R, S, W> {
             word: when.word,
             happening: Happening::Datagram(peer, &buffer[..count]),
         };
-        let Advanced { world, step } = world.advance(bank, input, &mut outputs)?;
+        let Advanced { world, step } = world.advance(bank, input, outputs)?;
         match step {
             Step::Taken(_) => {
-                deliver(&mut outputs, clients, wire);
-                let gateway = Gateway::of(world, outputs, ends);
+                deliver(outputs, clients, wire);
+                let gateway = Gateway::of(world, ends);
                 Ok(Listened {
                     gateway,
                     heard: true,
                 })
             }
             Step::Refused => {
-                let gateway = Gateway::of(world, outputs, ends);
+                let gateway = Gateway::of(world, ends);
                 Ok(Listened {
                     gateway,
                     heard: true,

@@ -31,35 +31,35 @@ impl<R: Relation, S: Stream + Drop, W: Wire + Drop> Gateway<R, S, W> {
         requires gave { Are (S.gave stream) [] }
         ensures rules { IfOk result (λ g. g.world.rules ≡ self.world.rules) }
     {
-        let Gateway {
-            world,
-            mut outputs,
-            mut ends,
-        } = self;
-        let Ends { clients, wire } = &mut *ends;
+        let Gateway { world, mut ends } = self;
+        let Ends {
+            clients,
+            wire,
+            outputs,
+        } = &mut *ends;
         match clients.push(stream) {
             Ok(()) => {}
-            Err(_) => return Ok(Gateway::of(world, outputs, ends)),
+            Err(_) => return Ok(Gateway::of(world, ends)),
         }
         let input = Input {
             moment: when.moment,
             word: when.word,
             happening: Happening::Open,
         };
-        let Advanced { world, step } = world.advance(bank, input, &mut outputs)?;
+        let Advanced { world, step } = world.advance(bank, input, outputs)?;
         match step {
             Step::Taken(Some(_)) => {
-                deliver(&mut outputs, clients, wire);
-                Ok(Gateway::of(world, outputs, ends))
+                deliver(outputs, clients, wire);
+                Ok(Gateway::of(world, ends))
             }
             Step::Taken(None) => {
                 clients.pop();
-                deliver(&mut outputs, clients, wire);
-                Ok(Gateway::of(world, outputs, ends))
+                deliver(outputs, clients, wire);
+                Ok(Gateway::of(world, ends))
             }
             Step::Refused => {
                 clients.pop();
-                Ok(Gateway::of(world, outputs, ends))
+                Ok(Gateway::of(world, ends))
             }
         }
     }
@@ -94,29 +94,29 @@ impl<R: Relation, S: Stream + Drop, W: Wire + Drop> Gateway<R, S, W> {
         requires bare { IsBare happening }
         ensures rules { IfOk result (λ p. p.gateway.world.rules ≡ self.world.rules) }
     {
-        let Gateway {
-            world,
-            mut outputs,
-            mut ends,
-        } = self;
-        let Ends { clients, wire } = &mut *ends;
+        let Gateway { world, mut ends } = self;
+        let Ends {
+            clients,
+            wire,
+            outputs,
+        } = &mut *ends;
         let input = Input {
             moment: when.moment,
             word: when.word,
             happening,
         };
-        let Advanced { world, step } = world.advance(bank, input, &mut outputs)?;
+        let Advanced { world, step } = world.advance(bank, input, outputs)?;
         match step {
             Step::Taken(_) => {
-                deliver(&mut outputs, clients, wire);
-                let gateway = Gateway::of(world, outputs, ends);
+                deliver(outputs, clients, wire);
+                let gateway = Gateway::of(world, ends);
                 Ok(Passed {
                     gateway,
                     taken: true,
                 })
             }
             Step::Refused => {
-                let gateway = Gateway::of(world, outputs, ends);
+                let gateway = Gateway::of(world, ends);
                 Ok(Passed {
                     gateway,
                     taken: false,

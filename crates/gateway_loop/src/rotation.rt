@@ -76,16 +76,16 @@ impl<R: Relation, S: Stream + Drop, W: Wire + Drop> Gateway<R, S, W> {
         requires suits { Suits R.holds R.takes self.world.rules.routes bank.now }
         ensures rules { IfOk result (λ x. x.gateway.world.rules ≡ self.world.rules) }
     {
-        let Gateway {
-            world,
-            mut outputs,
-            mut ends,
-        } = self;
-        let Ends { clients, wire } = &mut *ends;
+        let Gateway { world, mut ends } = self;
+        let Ends {
+            clients,
+            wire,
+            outputs,
+        } = &mut *ends;
         match clients.push_nobody() {
             Ok(()) => {}
             Err(_) => {
-                let gateway = Gateway::of(world, outputs, ends);
+                let gateway = Gateway::of(world, ends);
                 return Ok(Padded {
                     gateway,
                     number: None,
@@ -97,11 +97,11 @@ impl<R: Relation, S: Stream + Drop, W: Wire + Drop> Gateway<R, S, W> {
             word: when.word,
             happening: Happening::Open,
         };
-        let Advanced { world, step } = world.advance(bank, input, &mut outputs)?;
+        let Advanced { world, step } = world.advance(bank, input, outputs)?;
         match step {
             Step::Taken(Some(number)) => {
-                deliver(&mut outputs, clients, wire);
-                let gateway = Gateway::of(world, outputs, ends);
+                deliver(outputs, clients, wire);
+                let gateway = Gateway::of(world, ends);
                 Ok(Padded {
                     gateway,
                     number: Some(number),
@@ -109,8 +109,8 @@ impl<R: Relation, S: Stream + Drop, W: Wire + Drop> Gateway<R, S, W> {
             }
             Step::Taken(None) => {
                 clients.pop();
-                deliver(&mut outputs, clients, wire);
-                let gateway = Gateway::of(world, outputs, ends);
+                deliver(outputs, clients, wire);
+                let gateway = Gateway::of(world, ends);
                 Ok(Padded {
                     gateway,
                     number: None,
@@ -118,7 +118,7 @@ impl<R: Relation, S: Stream + Drop, W: Wire + Drop> Gateway<R, S, W> {
             }
             Step::Refused => {
                 clients.pop();
-                let gateway = Gateway::of(world, outputs, ends);
+                let gateway = Gateway::of(world, ends);
                 Ok(Padded {
                     gateway,
                     number: None,
@@ -134,25 +134,22 @@ impl<R: Relation, S: Stream + Drop, W: Wire + Drop> Gateway<R, S, W> {
         ensures rules { IfOk result (λ x. x.gateway.world.rules ≡ self.world.rules) }
         ensures turns { IfOk result (λ x. TurnsOrStays when self.world x.told x.gateway.world) }
     {
-        let Gateway {
-            world,
-            mut outputs,
-            ends,
-        } = self;
+        let Gateway { world, mut ends } = self;
+        let outputs = &mut ends.outputs;
         let input = Input {
             moment: when.moment,
             word: when.word,
             happening: Happening::Rotate,
         };
-        let Advanced { world, step } = world.advance(bank, input, &mut outputs)?;
+        let Advanced { world, step } = world.advance(bank, input, outputs)?;
         match step {
             Step::Taken(_) => {
-                let told = take_only(&mut outputs);
-                let gateway = Gateway::of(world, outputs, ends);
+                let told = take_only(outputs);
+                let gateway = Gateway::of(world, ends);
                 Ok(Rotated { gateway, told })
             }
             Step::Refused => {
-                let gateway = Gateway::of(world, outputs, ends);
+                let gateway = Gateway::of(world, ends);
                 Ok(Rotated {
                     gateway,
                     told: None,

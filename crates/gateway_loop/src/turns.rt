@@ -64,6 +64,10 @@ pub(crate) struct Rest<R: Relation> {
     pub(crate) moment: u64,
     /// Before which moment time doesn't go on, since memory was refused for it.
     pub(crate) again: u64,
+    /// The moment of the next tick that has something to do, as the last turn left it.
+    due: Option<u64>,
+    /// Datagrams may have come in.
+    wire: bool,
     /// Clients may want connections, and nobody is taken before that moment.
     clients: bool,
     resumes: u64,
@@ -88,8 +92,6 @@ pub(crate) struct Rest<R: Relation> {
 #[derive(Drop)]
 pub struct Loop<R: Relation, S: Stream, W: Wire> {
     pub(crate) gateway: Gateway<R, S, W>,
-    /// Datagrams may have come in.
-    wire: bool,
     /// In a place of its own, so that who hands a loop on moves little.
     pub(crate) rest: Box<Rest<R>>,
 }
@@ -106,6 +108,8 @@ impl<R: Relation, S: Stream + Drop, W: Wire + Drop> Loop<R, S, W> {
             buffer: vec![in alloc; 0u8; ROOM]?,
             moment: 0,
             again: 0,
+            due: None,
+            wire: true,
             clients: true,
             resumes: 0,
             idle,
@@ -118,7 +122,6 @@ impl<R: Relation, S: Stream + Drop, W: Wire + Drop> Loop<R, S, W> {
         };
         Ok(Loop {
             gateway,
-            wire: true,
             rest: Box::new(alloc, rest).map_err(AllocError::from)?,
         })
     }
@@ -150,10 +153,15 @@ impl<R: Relation, S: Stream + Drop, W: Wire + Drop> Loop<R, S, W> {
         let mut it = self;
         it.rest.given_up.clear();
         it.take_signs(host);
-        if it.may_take() {
-            return it.take_all(bank, host);
+        let it = it.take_all(bank, host)?;
+        let it = it.hear_all(bank, host)?;
+        let mut it = it.go_on(bank, host)?;
+        it.rest.due = it.gateway.next_due();
+        // Mostly that is all, and then the loop isn't handed on to whoever would only look.
+        if it.is_over() {
+            return Ok(it);
         }
-        it.serve_all(bank, host)
+        it.end_turn(bank, host)
     }
 
     /// Whether there may be connections to be taken.
@@ -164,34 +172,21 @@ impl<R: Relation, S: Stream + Drop, W: Wire + Drop> Loop<R, S, W> {
         wanted || self.may_resume()
     }
 
-    /// Goes on with the connections that were parked, takes those that are there, and then lets all go
-    /// on.
+    /// Goes on with the connections that were parked, and takes those that are there.
     fn take_all<H: Host<S>>(self, bank: &Bank<R>, host: &mut H) -> Result<Loop<R, S, W>, Memory>
         requires suits { Suits R.holds R.takes self.gateway.world.rules.routes bank.now }
         ensures rules { IfOk result (λ l. l.gateway.world.rules ≡ self.gateway.world.rules) }
     {
-        let it = self.resume_all(bank, host)?;
-        let it = it.take_clients(bank, host)?;
-        it.serve_all(bank, host)
-    }
-
-    /// Hears what came in, and lets connections go on. Mostly nothing else is due, and then the loop
-    /// isn't handed on to whoever would only look.
-    fn serve_all<H: Host<S>>(self, bank: &Bank<R>, host: &mut H) -> Result<Loop<R, S, W>, Memory>
-        requires suits { Suits R.holds R.takes self.gateway.world.rules.routes bank.now }
-        ensures rules { IfOk result (λ l. l.gateway.world.rules ≡ self.gateway.world.rules) }
-    {
-        let it = self.hear_all(bank, host)?;
-        let it = it.go_on(bank, host)?;
-        if it.is_over() {
-            return Ok(it);
+        if !self.may_take() {
+            return Ok(self);
         }
-        it.end_turn(bank, host)
+        let it = self.resume_all(bank, host)?;
+        it.take_clients(bank, host)
     }
 
     /// Whether nothing else is due in this turn.
     fn is_over(&self) -> bool {
-        let is_due = match self.gateway.next_due() {
+        let is_due = match self.rest.due {
             Some(due) => due.max(self.rest.again) <= self.rest.moment,
             None => false,
         };
@@ -210,14 +205,16 @@ impl<R: Relation, S: Stream + Drop, W: Wire + Drop> Loop<R, S, W> {
         let it = self.end_farewells(bank, host)?;
         let it = it.pass(bank, host)?;
         let it = it.sweep(bank, host)?;
-        it.see_to_journal(bank, host)
+        let mut it = it.see_to_journal(bank, host)?;
+        it.rest.due = it.gateway.next_due();
+        Ok(it)
     }
 
     /// How long to wait: not at all where something is left to do, else until the next tick is due,
     /// a farewell is over, clients are taken again, or connections are looked at whose journal is
     /// turned over.
     fn longest_wait(&self) -> Option<u64> {
-        if self.wire || self.gateway.have_turns() || self.may_resume() {
+        if self.rest.wire || self.gateway.have_turns() || self.may_resume() {
             return Some(0);
         }
         let resumes = match self.rest.turning {
@@ -230,7 +227,7 @@ impl<R: Relation, S: Stream + Drop, W: Wire + Drop> Loop<R, S, W> {
         } else {
             None
         };
-        let due = self.gateway.next_due().map(|due| due.max(self.rest.again));
+        let due = self.rest.due.map(|due| due.max(self.rest.again));
         let until = sooner(due, self.rest.farewells.next_due());
         let until = sooner(until, sweeps);
         let until = sooner(until, resumes)?;
@@ -244,7 +241,7 @@ impl<R: Relation, S: Stream + Drop, W: Wire + Drop> Loop<R, S, W> {
         'each: for _ in 0..SIGNS {
             match host.sign() {
                 Some(Sign::Clients) => self.rest.clients = true,
-                Some(Sign::Wire) => self.wire = true,
+                Some(Sign::Wire) => self.rest.wire = true,
                 Some(Sign::Ready(number)) => self.gateway.wake(number, false),
                 Some(Sign::Ended(number)) => self.gateway.wake(number, true),
                 None => return,
@@ -307,11 +304,11 @@ impl<R: Relation, S: Stream + Drop, W: Wire + Drop> Loop<R, S, W> {
     fn hear_all<H: Host<S>>(self, bank: &Bank<R>, host: &mut H) -> Result<Loop<R, S, W>, Memory>
         requires suits { Suits R.holds R.takes self.gateway.world.rules.routes bank.now }
         ensures rules { IfOk result (λ l. l.gateway.world.rules ≡ self.gateway.world.rules) }
-        ensures all { IfOk result (λ l. l.wire ≡ false
-            → (self.wire ≡ false) ⊎ (W.spent l.gateway.wire ≡ true)) }
+        ensures all { IfOk result (λ l. l.rest.value.wire ≡ false
+            → (self.rest.value.wire ≡ false) ⊎ (W.spent l.gateway.wire ≡ true)) }
     {
         let mut it = self;
-        if !it.wire {
+        if !it.rest.wire {
             return Ok(it);
         }
         'each: for _ in 0..AT_ONCE {
@@ -319,10 +316,12 @@ impl<R: Relation, S: Stream + Drop, W: Wire + Drop> Loop<R, S, W> {
             let Listened { gateway, heard } = it.gateway.hear(bank, when, &mut it.rest.buffer)?;
             it.gateway = gateway;
             if !heard {
-                it.wire = false;
+                it.rest.wire = false;
                 return Ok(it);
             }
         }
+        // There may be more.
+        it.rest.wire = true;
         Ok(it)
     }
 

@@ -1,12 +1,10 @@
 -- The first of what was read of the connection is an input.
-use Rattle.std.proofs.Common.{ap, refl, subst, sym, ◌∙◌}
+use Rattle.std.proofs.Common.{ap, refl, ◌∙◌}
 use Rattle.std.specs.Prelude.{slice_get}
 use Rattle.std.proofs.lemmas.Result.{IfOk-weaker}
 use Rattle.gateway_model.specs.declared.input.Happening.TheVariants as H
 use Rattle.gateway_model.specs.Emissions.{emissions}
 use Rattle.gateway_world.proofs.Running.{takes-rules}
-use Rattle.gateway_loop.specs.declared.gateway.Ends.{Ends}
-use Rattle.gateway_loop.specs.Places.{IsPiece}
 use Rattle.gateway_loop.proofs.Standing.{serving-at}
 use Rattle.gateway_loop.proofs.Stepping.{counted, not-refused, taken}
 use Rattle.gateway_loop.proofs.Taking.{piece-unfed, serving-feeds}
@@ -15,27 +13,25 @@ use Rattle.gateway_loop.proofs.gateway.Gateway.feed.Goals as goal
 
 pub feed-requires : goal.feed-requires
 feed-requires g c =
-    piece-unfed (slice_get c.deref_mut.result.now.clients.places c.args.number)
+    piece-unfed (slice_get c.deref_mut-inside.result.now.clients.places c.args.number)
     c.piece-piece.result.now
-    (subst (λ (x : Ends _ _). IsPiece (slice_get x.clients.places c.args.number) c.piece-piece.result.now)
-    (c.deref.ensures ∙ sym c.deref_mut.ensures.value) c.piece-piece.ensures)
+    c.piece-piece.ensures
 
 pub of-requires : goal.of-requires
 of-requires g c =
     serving-feeds g.R.Relation.holds g.R.Relation.takes g.S.Stream.written g.S.Stream.gave g.W.Wire.sent
     g.W.Wire.heard
     (record { moment = c.args.when.moment; word = c.args.when.word; happening = H.Bytes c.args.number c.piece-piece.result }) c.in-Taken.field-0 (emissions c.advance.new.outputs.items)
-    c.self.inside.world c.in_ok-world.field-0.world c.deref_mut.result.now.clients.places c.feed.new.self.places
-    c.deliver.new.clients.places c.deref_mut.result.now.wire c.deliver.new.wire
-    c.args.number c.piece-piece.result.now c.deref_mut.result.now.clients.told c.deliver.new.clients.told
+    c.self.inside.world c.in_ok-world.field-0.world c.deref_mut-inside.result.now.clients.places c.feed.new.self.places
+    c.deliver.new.clients.places c.deref_mut-inside.result.now.wire c.deliver.new.wire
+    c.args.number c.piece-piece.result.now c.deref_mut-inside.result.now.clients.told c.deliver.new.clients.told
     (serving-at g.R.Relation.holds g.R.Relation.takes g.S.Stream.written g.S.Stream.gave g.W.Wire.sent
-    g.W.Wire.heard c.self.inside.world _ _ c.deref_mut.ensures.value c.self.invariant) (taken _ _ c.in-Taken.is c.in_ok-world.ensures.takes)
+    g.W.Wire.heard c.self.inside.world _ _ c.deref_mut-inside.ensures.value c.self.invariant) (taken _ _ c.in-Taken.is c.in_ok-world.ensures.takes)
     (counted _ _ _ _ _ c.in-Taken.is c.in_ok-world.ensures.opened) (refl, refl)
-    (subst (λ (x : Ends _ _). IsPiece (slice_get x.clients.places c.args.number) c.piece-piece.result.now)
-    (c.deref.ensures ∙ sym c.deref_mut.ensures.value) c.piece-piece.ensures)
+    c.piece-piece.ensures
     c.feed.ensures.feeds
     c.deliver.ensures.given c.deliver.ensures.wire c.deliver.ensures.quiet
-    (tells-from (emissions c.advance.new.outputs.items) c.deref_mut.result.now.clients.told c.feed.new.self.told c.deliver.new.clients.told
+    (tells-from (emissions c.advance.new.outputs.items) c.deref_mut-inside.result.now.clients.told c.feed.new.self.told c.deliver.new.clients.told
     c.feed.ensures.told c.deliver.ensures.told)
 
 pub returns : goal.returns
@@ -48,7 +44,9 @@ returns g c = record {
 }
 
 pub of-gateway-requires : goal.of-gateway-requires
-of-gateway-requires g c = c.self.invariant
+of-gateway-requires g c =
+    serving-at g.R.Relation.holds g.R.Relation.takes g.S.Stream.written g.S.Stream.gave g.W.Wire.sent
+    g.W.Wire.heard c.self.inside.world _ _ c.deref_mut-inside.ensures.value c.self.invariant
 
 pub end-requires : goal.end-requires
 end-requires g c = let s = rw (← c.self.view_is) at c.requires.suits in record

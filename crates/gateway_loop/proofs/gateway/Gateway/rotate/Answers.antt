@@ -8,6 +8,7 @@ use Rattle.gateway_world.specs.Worlds.{served_in, when_in}
 use Rattle.gateway_loop.specs.Gateways.{rotation_at}
 use Rattle.gateway_loop.proofs.Growing.{grown-none}
 use Rattle.gateway_loop.proofs.Rotating.{just-rotates, one-told, serving-rotates}
+use Rattle.gateway_loop.proofs.Standing.{serving-at}
 use Rattle.gateway_loop.proofs.Stepping.{counted, refused, taken, turns-told}
 use Rattle.gateway_loop.proofs.Taking.{serving-stays}
 use Rattle.gateway_loop.proofs.gateway.Gateway.rotate.Goals as goal
@@ -20,18 +21,20 @@ of-gateway-requires g c =
     serving-rotates g.R.Relation.holds g.R.Relation.takes g.S.Stream.written g.S.Stream.gave
     g.W.Wire.sent g.W.Wire.heard
     (rotation_at c.args.when) c.in-Taken.field-0 (emissions c.advance.new.outputs.items)
-    c.self.inside.world c.in_ok-world.field-0.world c.self.inside.ends.value.clients.places c.self.inside.ends.value.wire
-    c.self.inside.ends.value.clients.told
-    c.self.invariant (taken _ _ c.in-Taken.is c.in_ok-world.ensures.takes)
+    c.self.inside.world c.in_ok-world.field-0.world c.deref_mut.result.now.clients.places c.deref_mut.result.now.wire
+    c.deref_mut.result.now.clients.told
+    (serving-at g.R.Relation.holds g.R.Relation.takes g.S.Stream.written g.S.Stream.gave g.W.Wire.sent
+    g.W.Wire.heard c.self.inside.world _ _ c.deref_mut.ensures.value c.self.invariant) (taken _ _ c.in-Taken.is c.in_ok-world.ensures.takes)
     (counted _ _ _ _ _ c.in-Taken.is c.in_ok-world.ensures.opened) refl
 
 pub of-gateway-requires-in-Refused : goal.of-gateway-requires-in-Refused
 of-gateway-requires-in-Refused g c =
     serving-stays g.R.Relation.holds g.R.Relation.takes g.S.Stream.written g.S.Stream.gave g.W.Wire.sent
     g.W.Wire.heard
-    c.self.inside.world c.in_ok-world.field-0.world c.self.inside.ends.value.clients.places c.self.inside.ends.value.wire
-    c.self.inside.ends.value.wire [] c.self.inside.ends.value.clients.told c.self.inside.ends.value.clients.told
-    c.self.invariant (refused _ c.in-Refused.is c.in_ok-world.ensures.stays).0 (grown-none _)
+    c.self.inside.world c.in_ok-world.field-0.world c.deref_mut.result.now.clients.places c.deref_mut.result.now.wire
+    c.deref_mut.result.now.wire [] c.deref_mut.result.now.clients.told c.deref_mut.result.now.clients.told
+    (serving-at g.R.Relation.holds g.R.Relation.takes g.S.Stream.written g.S.Stream.gave g.W.Wire.sent
+    g.W.Wire.heard c.self.inside.world _ _ c.deref_mut.ensures.value c.self.invariant) (refused _ c.in-Refused.is c.in_ok-world.ensures.stays).0 (grown-none _)
     (grown-none _) refl
 
 pub returns-in-Taken-clause-turns : goal.returns-in-Taken-clause-turns

@@ -1,6 +1,5 @@
 -- The rules stay, step by step.
-use Rattle.std.proofs.Common.{◌≡◌, ◌∙◌}
-use Rattle.std.proofs.lemmas.Result.{IfOk-weaker}
+use Rattle.std.proofs.Common.{◌∙◌}
 use Rattle.gateway_loop.proofs.turns.Loop.end_turn.Goals as goal
 
 pub pass-requires : goal.pass-requires
@@ -15,7 +14,7 @@ see_to_journal-requires g c = record {
 }
 
 pub returns : goal.returns
-returns g c =
-    let same : c.in_ok-it-3.it.gateway.world.rules ≡ c.args.self.gateway.world.rules =
-    c.in_ok-it-3.ensures.rules ∙ (c.in_ok-it-2.ensures.rules ∙ c.in_ok-it.ensures.rules) in
-    record { rules = IfOk-weaker c.see_to_journal.result _ _ (λ l e. e ∙ same) c.see_to_journal.ensures.rules }
+returns g c = record {
+  rules = c.in_ok-it-4.ensures.rules
+      ∙ (c.in_ok-it-3.ensures.rules ∙ (c.in_ok-it-2.ensures.rules ∙ c.in_ok-it.ensures.rules));
+}

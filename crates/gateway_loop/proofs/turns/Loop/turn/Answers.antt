@@ -1,5 +1,5 @@
 -- The rules stay, step by step.
-use Rattle.std.proofs.Common.{ap, ◌∙◌}
+use Rattle.std.proofs.Common.{◌≡◌, ap, ◌∙◌}
 use Rattle.std.proofs.lemmas.Result.{IfOk-weaker}
 use Rattle.gateway_world.specs.Worlds.{WorldValue}
 use Rattle.gateway_loop.proofs.turns.Loop.turn.Goals as goal
@@ -7,15 +7,28 @@ use Rattle.gateway_loop.proofs.turns.Loop.turn.Goals as goal
 pub take_all-requires : goal.take_all-requires
 take_all-requires g c = record { suits = rw c.take_signs.ensures c.requires.suits }
 
-pub serve_all-requires : goal.serve_all-requires
-serve_all-requires g c = record { suits = rw c.take_signs.ensures c.requires.suits }
+pub hear_all-requires : goal.hear_all-requires
+hear_all-requires g c = record { suits = rw (c.in_ok-it.ensures.rules, c.take_signs.ensures) c.requires.suits }
 
-pub returns-then-may_take : goal.returns-then-may_take
-returns-then-may_take g c =
-    let same = ap (λ (w : WorldValue). w.rules) c.take_signs.ensures in
-    record { rules = IfOk-weaker c.take_all.result _ _ (λ l e. e ∙ same) c.take_all.ensures.rules }
+pub go_on-requires : goal.go_on-requires
+go_on-requires g c = record {
+  suits = rw (c.in_ok-it-2.ensures.rules, c.in_ok-it.ensures.rules, c.take_signs.ensures) c.requires.suits;
+}
+
+pub end_turn-requires : goal.end_turn-requires
+end_turn-requires g c = record {
+  suits = rw (c.in_ok-it-3.ensures.rules, c.in_ok-it-2.ensures.rules, c.in_ok-it.ensures.rules, c.take_signs.ensures) c.requires.suits;
+}
+
+pub returns-then-is_over : goal.returns-then-is_over
+returns-then-is_over g c = record {
+  rules = c.in_ok-it-3.ensures.rules
+      ∙ (c.in_ok-it-2.ensures.rules ∙ (c.in_ok-it.ensures.rules ∙ ap (λ (w : WorldValue). w.rules) c.take_signs.ensures));
+}
 
 pub returns : goal.returns
 returns g c =
-    let same = ap (λ (w : WorldValue). w.rules) c.take_signs.ensures in
-    record { rules = IfOk-weaker c.serve_all.result _ _ (λ l e. e ∙ same) c.serve_all.ensures.rules }
+    let same : c.in_ok-it-3.it.gateway.world.rules ≡ c.args.self.gateway.world.rules =
+    c.in_ok-it-3.ensures.rules
+    ∙ (c.in_ok-it-2.ensures.rules ∙ (c.in_ok-it.ensures.rules ∙ ap (λ (w : WorldValue). w.rules) c.take_signs.ensures)) in
+    record { rules = IfOk-weaker c.end_turn.result _ _ (λ l e. e ∙ same) c.end_turn.ensures.rules }
