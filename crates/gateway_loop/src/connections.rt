@@ -59,6 +59,13 @@ impl<R: Relation, S: Stream + Drop, W: Wire + Drop> Gateway<R, S, W> {
         self.ends.clients.next()
     }
 
+    /// The connection has nothing to do: where it stands in the line as the last, it does no more.
+    pub(crate) fn leave_line(&mut self, number: u32)
+        ensures { self.new.world ≡ self.old.world }
+    {
+        self.ends.clients.leave_line(number);
+    }
+
     /// How far the connection is, if it is there.
     pub fn stage(&self, number: u32) -> Option<Stage> {
         self.ends.clients.stage(number)

@@ -48,6 +48,20 @@ impl<S: Stream + Drop> Clients<S> {
         self.line.pop_front()
     }
 
+    /// The connection has nothing to do: where it stands in the line as the last, it does no more.
+    pub fn leave_line(&mut self, number: u32)
+        ensures places { self.new.places ≡ self.old.places }
+        ensures told { self.new.told ≡ self.old.told }
+    {
+        let is_last = match self.line.back() {
+            Some(last) => *last == number,
+            None => false,
+        };
+        if is_last {
+            self.line.pop_back();
+        }
+    }
+
     /// A sign tells that the connection may give or take bytes, or that its client sends no more.
     pub fn wake(&mut self, number: u32, ended: bool)
         ensures places { self.new.places ≡ self.old.places }

@@ -71,7 +71,11 @@ impl<R: Relation, S: Stream + Drop, W: Wire + Drop> Loop<R, S, W> {
         let mut it = self;
         'each: for _ in 0..STEPS {
             match it.gateway.serve(number, &mut it.rest.buffer) {
-                Due::Nothing => return Ok(it),
+                Due::Nothing => {
+                    // An answer that it was given in this step, and that is written, lined it up.
+                    it.gateway.leave_line(number);
+                    return Ok(it);
+                }
                 Due::Piece => {
                     let when = it.when(host);
                     it.gateway = it.gateway.feed(bank, when, number)?;
