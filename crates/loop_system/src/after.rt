@@ -70,7 +70,9 @@ impl<'a, A: Archive<Profile> + Drop + Send + Sync + 'static> After<'a, A> {
     )
         ensures { it.new.gateway.world ≡ it.old.gateway.world }
     {
-        self.shelf.look(rt, it.is_turning());
+        if it.is_turning() {
+            self.shelf.look(rt);
+        }
         let journal = it.take_journal();
         self.note(rt, it, arrivals, journal);
         it.forget_told();
@@ -91,7 +93,11 @@ impl<'a, A: Archive<Profile> + Drop + Send + Sync + 'static> After<'a, A> {
                 self.notes.begin_anew();
                 self.shelf.keep(rt, &self.archive, journal);
             }
-            None => self.notes.look(rt, it, arrivals, it.core().journal()),
+            None => {
+                if self.notes.wants(it, arrivals) {
+                    self.notes.look(rt, it, arrivals, it.core().journal());
+                }
+            }
         }
     }
 

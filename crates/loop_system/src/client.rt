@@ -46,6 +46,7 @@ impl Stream for Client {
 }
 
 /// What a call on a socket that doesn't wait came to. Such a call isn't broken off by a signal.
+#[inline(always)]
 fn told(outcome: io::Result<usize>) -> Moved
     ensures { (most : _) → IfOk outcome (λ n. n ≤ most) → moved result ≤ most }
 {

@@ -13,7 +13,7 @@ use std::io::{self, ErrorKind};
 use std::net::{Net, SocketAddr};
 use std::random::RandomSource;
 use std::rt::Clock;
-use std::time::{Duration, Instant};
+use std::time::Duration;
 
 /// How many signs are told of at once.
 const SIGNS: usize = 1024;
@@ -47,7 +47,8 @@ pub struct System<W: Clock + RandomSource + Drop> {
     signs: Vec<Sign>,
     /// Who came since that was looked at.
     pub(crate) arrivals: Vec<Arrival>,
-    begin: Instant,
+    /// the clock's milliseconds when it began
+    begin: u64,
     words: Words,
 }
 
@@ -70,13 +71,13 @@ pub fn waker_of(poll: &Poll) -> io::Result<Waker> {
 }
 
 impl<W: Clock + RandomSource + Drop> System<W> {
-    /// A system whose time counts from this moment.
+    /// A system whose time counts from this reading of the clock.
     pub fn new(
         rt: W,
         alloc: Global,
         poll: Poll,
         listener: TcpListener,
-        begin: Instant,
+        begin: Duration,
     ) -> Result<System<W>, std::alloc::AllocError> {
         Ok(System {
             rt,
@@ -85,7 +86,7 @@ impl<W: Clock + RandomSource + Drop> System<W> {
             events: Events::with_capacity(alloc, SIGNS)?,
             signs: Vec::with_capacity(alloc, SIGNS)?,
             arrivals: Vec::new(alloc),
-            begin,
+            begin: millis(begin),
             words: Words::new(),
         })
     }
@@ -101,6 +102,11 @@ impl<W: Clock + RandomSource + Drop> System<W> {
         };
         self.arrivals.push(arrival).is_ok()
     }
+}
+
+/// So many whole milliseconds.
+fn millis(time: Duration) -> u64 {
+    u64::try_from(time.as_millis()).unwrap_or(u64::MAX)
 }
 
 /// Which signs are wanted of a connection, and under which name.
@@ -170,8 +176,8 @@ impl<W: Clock + RandomSource + Drop> Host<Client> for System<W> {
     }
 
     fn moment(&mut self) -> Option<u64> {
-        match self.begin.elapsed(&self.rt) {
-            Ok(gone) => Some(u64::try_from(gone.as_millis()).unwrap_or(u64::MAX)),
+        match self.rt.monotonic() {
+            Ok(time) => Some(millis(time).saturating_sub(self.begin)),
             Err(_) => None,
         }
     }

@@ -61,6 +61,11 @@ impl<'a> Notes<'a> {
         self.access || self.watch.is_some()
     }
 
+    /// Whether anything is to be noted or counted of the last turn, in which these came.
+    pub fn wants<R: Relation>(&self, it: &Loop<R, Client, Devices>, arrivals: &[Arrival]) -> bool {
+        self.wants_told() || !arrivals.is_empty() || !it.given_up().is_empty()
+    }
+
     /// Notes what was done since it looked last, of which this journal tells.
     pub fn look<R: Relation, V: Wait + Log + Clock>(
         &mut self,

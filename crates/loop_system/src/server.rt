@@ -26,7 +26,6 @@ use std::random::RandomSource;
 use std::rt::Clock;
 use std::sync::{Arc, Wait};
 use std::thread::{self, Threads};
-use std::time::Instant;
 use transformers::{Bank, Stored};
 
 /// Runs the gateway at these ports, as the options say, until the clock fails, signs can't be waited
@@ -112,7 +111,7 @@ fn run_on<
         Err(_) => return Err(ServeFault::Stopped),
     };
     let glass = glass_for(rt, alloc, &poll, window, options)?;
-    let begin = match Instant::now(&rt) {
+    let begin = match rt.monotonic() {
         Ok(begin) => begin,
         Err(error) => return Err(ServeFault::Clock(error)),
     };

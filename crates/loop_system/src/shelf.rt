@@ -40,15 +40,15 @@ impl Shelf {
         }
     }
 
-    /// Notes that the journal is to be turned over, where that wasn't noted, and that it isn't yet
+    /// The journal is to be turned over: notes that, where that wasn't noted, and that it isn't yet
     /// where that takes long.
-    pub fn look<V: Log + Clock>(&mut self, rt: &V, turning: bool) {
-        if turning && !self.noted {
+    pub fn look<V: Log + Clock>(&mut self, rt: &V) {
+        if !self.noted {
             let number = self.number;
             info!(rt; target: "hcproxy", "journal {number} is nearly full: no connection is taken");
             self.noted = true;
             self.begin = Instant::now(rt).ok();
-        } else if turning && !self.waiting {
+        } else if !self.waiting {
             self.note_waiting(rt);
         }
     }
@@ -83,7 +83,7 @@ impl Shelf {
     ) {
         // It may have been turned over within one turn of the loop.
         if !self.noted {
-            self.look(rt, true);
+            self.look(rt);
         }
         self.note(rt, &journal);
         self.await_keeper(rt);
