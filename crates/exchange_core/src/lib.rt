@@ -45,6 +45,7 @@ mod taking;
 mod ticking;
 mod timeouts;
 mod turns;
+mod updates;
 mod watching;
 mod wording;
 

@@ -2,7 +2,7 @@ use Rattle.std.proofs.Common.{subst}
 use Rattle.message_layer.specs.Sending.{IsRefused}
 use Rattle.exchange_model.specs.State.{link_of}
 use Rattle.exchange_core.proofs.Started.{both-places, no-number, no-place}
-use Rattle.exchange_core.proofs.notifying.has_link_place.Goals as goal
+use Rattle.exchange_core.proofs.updates.has_link_place.Goals as goal
 
 pub returns-in-Ok : goal.returns-in-Ok
 returns-in-Ok g c =

@@ -9,7 +9,7 @@ use Rattle.exchange_core.specs.Matters.{IsPrepared}
 use Rattle.exchange_core.specs.Notifying.{matter_told}
 use Rattle.exchange_core.specs.States.{state_of}
 use Rattle.exchange_core.proofs.Notified.{told-watch}
-use Rattle.exchange_core.proofs.notifying.matter_told.Goals as goal
+use Rattle.exchange_core.proofs.updates.matter_told.Goals as goal
 
 pub returns-in-Response : goal.returns-in-Response
 returns-in-Response g c =

@@ -11,7 +11,7 @@ use Rattle.exchange_core.specs.declared.matter.Matter.{Matter as RustMatter}
 use Rattle.exchange_core.specs.Matters.{IsPrepared}
 use Rattle.exchange_core.specs.States.{state_of}
 use Rattle.exchange_core.proofs.Notified.{alone-counting, counted-watched, other-prepared}
-use Rattle.exchange_core.proofs.notifying.tells.Goals as goal
+use Rattle.exchange_core.proofs.updates.tells.Goals as goal
 
 pub update-requires-clause-asked : goal.update-requires-clause-asked
 update-requires-clause-asked g c =

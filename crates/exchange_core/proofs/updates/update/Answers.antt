@@ -9,7 +9,7 @@ use Rattle.exchange_core.specs.States.{state_of}
 use Rattle.exchange_core.proofs.Notified.{full-prepared, renewed-unfound, turned-unfound, unfound-prepared, whole-prepared}
 use Rattle.exchange_core.proofs.Settling.{ended-told}
 use Rattle.exchange_core.proofs.Started.{begins-prepared, some-asked}
-use Rattle.exchange_core.proofs.notifying.update.Goals as goal
+use Rattle.exchange_core.proofs.updates.update.Goals as goal
 
 pub returns-in-Ends-Found : goal.returns-in-Ends-Found
 returns-in-Ends-Found g c = λ v.

@@ -4,7 +4,7 @@ use Rattle.message_layer.specs.declared.prepared.Submission.{Submission}
 use Rattle.endpoint_table.specs.Tables.{link_at}
 use Rattle.exchange_core.specs.Matters.{IsNextFor}
 use Rattle.exchange_core.proofs.Started.{starts-as}
-use Rattle.exchange_core.proofs.notifying.start.Goals as goal
+use Rattle.exchange_core.proofs.updates.start.Goals as goal
 
 pub returns : goal.returns
 returns g c = λ q asked.
