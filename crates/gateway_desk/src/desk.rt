@@ -4,7 +4,6 @@ ghost use Rattle.std.specs.Prelude.{◌≡◌, ◌≢◌, ◌+◌, ◌≤◌, �
 ghost use Rattle.std.specs.Arc.{arc_value};
 ghost use Rattle.std.specs.List.{All};
 ghost use Rattle.history_laws.specs.Justified.{Stands};
-ghost use Rattle.exchange_core.specs.Answering.{given_of};
 ghost use Rattle.gateway_desk.specs.Ledgers.{asks_of};
 ghost use Rattle.gateway_desk.specs.Lines.{Slip, made, got};
 ghost use Rattle.gateway_desk.specs.Settled.{IsJustified, AreApart, answered};
@@ -20,7 +19,7 @@ use crate::shop::Shop;
 use crate::turning::TurnFault;
 use crate::wire::{Inbound, Unsent};
 use ask_model::Mapped;
-use exchange_core::{Answer, AskFault, OpenFault, Ticket};
+use exchange_core::{AskFault, OpenFault, Ticket};
 use http_edge::Memory;
 use journal_book::Journal;
 use limits::MAX_EXCHANGES;
@@ -55,26 +54,6 @@ pub struct LockedDesk<R: Relation, C: Clock, L: Ledger> {
     turned: Condvar,
     /// how many journals were turned over: it is changed under the lock
     turns: AtomicU64,
-}
-
-/// The receipt of a ticket: its number and its request, and the answer.
-fn receipt_of<R: Relation>(ticket: Ticket<R>, answer: Answer<R>) -> Receipt<R>
-    ensures number { result.number ≡ ticket.number }
-    ensures given { given_of result.answer
-        ≡ record (given_of answer) { mapping = arc_value ticket.mapped } }
-{
-    Receipt {
-        number: ticket.number,
-        answer: Answer {
-            conn: answer.conn,
-            ask: answer.ask,
-            number: answer.number,
-            mapped: ticket.mapped,
-            moment: answer.moment,
-            heard: answer.heard,
-            finding: answer.finding,
-        },
-    }
 }
 
 impl<R: Relation, C: Clock, L: Ledger> LockedDesk<R, C, L> {
@@ -262,7 +241,7 @@ impl<R: Relation, C: Clock, L: Ledger> LockedDesk<R, C, L> {
         for _ in rt.forever() {
             let state = &mut *guard;
             if let Some(answer) = state.collect(&ticket) {
-                return Some(receipt_of(ticket, answer));
+                return Some(Receipt::of(ticket, answer));
             }
             if state.is_shut() || bell.has_let_go(conn) {
                 return None;
