@@ -1,8 +1,10 @@
 //! Connections that take leave: the client has a while to read its last answer, and what it sends is
 //! dropped meanwhile (RFC 9112 section 9.6).
 
-ghost use Rattle.std.specs.Prelude.{◌≡◌, ◌++◌, ◌∷◌, [], None, IfSome, OnOk};
-ghost use Rattle.gateway_loop.specs.Farewells.{end_of, IsOver, NoneIsOver};
+ghost use Rattle.std.specs.Prelude.{◌≡◌, ◌++◌, ◌∷◌, [], true, false, None, IfSome, OnOk};
+ghost use Rattle.std.specs.Prelude.{drop, length};
+ghost use Rattle.gateway_loop.specs.Farewells.{end_of, BeginsWith, IsOver, NoneIsOver};
+ghost use Rattle.gateway_loop.specs.Farewells.{SomeIsOver};
 
 use std::alloc::{AllocError, Global};
 use std::collections::VecDeque;
@@ -63,16 +65,47 @@ impl Farewells {
         Some(self.all.front()?.until)
     }
 
+    /// How many take leave.
+    pub fn len(&self) -> usize
+        ensures { result ≡ length self.now }
+    {
+        self.all.len()
+    }
+
+    /// The number of the first.
+    pub fn first(&self) -> Option<u32>
+        ensures some { IfSome result (λ n. BeginsWith n self.now) }
+        ensures none { result ≡ None → self.now ≡ [] }
+    {
+        Some(self.all.front()?.number)
+    }
+
+    /// The first is there no more.
+    pub fn forget_first(&mut self)
+        ensures { self.new ≡ drop 1 self.old }
+    {
+        self.all.pop_front();
+    }
+
+    /// Whether the time of one is over at this moment, or there are too many.
+    pub fn any_over(&self, moment: u64) -> bool
+        ensures none { result ≡ false → NoneIsOver moment self.now }
+        ensures some { result ≡ true → SomeIsOver moment self.now }
+    {
+        match self.all.front() {
+            Some(first) => first.until <= moment || self.all.len() > MOST_FAREWELLS,
+            None => false,
+        }
+    }
+
     /// One that is over at this moment, or the first where there are too many.
     pub fn next_over(&mut self, moment: u64) -> Option<u32>
         ensures over { IfSome result (λ n. IsOver n moment self.old self.new) }
         ensures none { result ≡ None → NoneIsOver moment self.new }
     {
-        let first = *self.all.front()?;
-        if moment < first.until && self.all.len() <= MOST_FAREWELLS {
+        if !self.any_over(moment) {
             return None;
         }
-        self.all.pop_front();
-        Some(first.number)
+        Some(self.all.pop_front()?.number)
     }
 }

@@ -108,7 +108,22 @@ impl<R: Relation, S: Stream + Drop, W: Wire + Drop> Loop<R, S, W> {
         let mut it = self;
         let when = it.when(host);
         it.gateway = it.gateway.end(bank, when, number)?;
+        it.forget_farewells();
         Ok(it)
+    }
+
+    /// Keeps nothing of the farewells before the first of a connection that is there.
+    fn forget_farewells(&mut self)
+        ensures { self.new.gateway ≡ self.old.gateway }
+    {
+        'each: for _ in 0..self.rest.farewells.len() {
+            match self.rest.farewells.first() {
+                Some(number) if self.gateway.stage(number).is_none() => {
+                    self.rest.farewells.forget_first();
+                }
+                _ => return,
+            }
+        }
     }
 
     /// Ends the connections whose time to take leave is over, some of them.

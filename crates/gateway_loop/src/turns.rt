@@ -194,7 +194,7 @@ impl<R: Relation, S: Stream + Drop, W: Wire + Drop> Loop<R, S, W> {
         !is_due
             && !waits
             && self.rest.moment < self.rest.sweeps
-            && self.rest.farewells.next_due().is_none()
+            && !self.rest.farewells.any_over(self.rest.moment)
     }
 
     /// Does what else is due.
