@@ -78,6 +78,12 @@ impl<R: Relation, S: Stream + Drop, W: Wire + Drop> Gateway<R, S, W> {
         self.ends.clients.leave(number);
     }
 
+    /// Whether the connection takes leave, and the world, which closed it before, has nothing more to
+    /// do with it.
+    pub(crate) fn has_left(&self, number: u32) -> bool {
+        self.ends.clients.stage(number) == Some(Stage::Leaving) && !self.world.is_idle(number)
+    }
+
     /// The connection is there no more, with what is left for it.
     pub(crate) fn remove(&mut self, number: u32)
         ensures { self.new.world ≡ self.old.world }

@@ -106,8 +106,12 @@ impl<R: Relation, S: Stream + Drop, W: Wire + Drop> Loop<R, S, W> {
         ensures rules { IfOk result (λ l. l.gateway.world.rules ≡ self.gateway.world.rules) }
     {
         let mut it = self;
-        let when = it.when(host);
-        it.gateway = it.gateway.end(bank, when, number)?;
+        if it.gateway.has_left(number) {
+            it.gateway.remove(number);
+        } else {
+            let when = it.when(host);
+            it.gateway = it.gateway.end(bank, when, number)?;
+        }
         it.forget_farewells();
         Ok(it)
     }
