@@ -146,10 +146,10 @@ impl<R: Relation, S: Stream + Drop, W: Wire + Drop> Loop<R, S, W> {
             return Ok(it);
         }
         it.rest.sweeps = it.rest.moment.saturating_add(SWEEP);
+        it.gateway.forget();
         'each: for number in it.gateway.first_number()..it.gateway.next_number() {
             it = it.look_at(bank, host, number)?;
         }
-        it.gateway.forget();
         Ok(it)
     }
 
