@@ -2,7 +2,7 @@
 //! order.
 //!
 //! Tried is what no contract says: that each client gets all that it asked for, also where a
-//! journal is turned over meanwhile. Nothing stands on this crate.
+//! journal is turned over meanwhile, and for what the loop waits. Nothing stands on this crate.
 #![tactic(auto)]
 
 #[cfg(test)]
@@ -11,6 +11,8 @@ mod callers;
 mod chance;
 #[cfg(test)]
 mod fakes;
+#[cfg(test)]
+mod leaving;
 #[cfg(test)]
 mod refused;
 #[cfg(test)]
