@@ -1,5 +1,6 @@
 pub mod Fronts
 pub mod Chunking
+pub mod Parting
 pub mod Readings
 pub mod Framings
 pub mod Cutting

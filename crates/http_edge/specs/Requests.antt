@@ -1,5 +1,5 @@
 -- A request as plain data, and what its head says of it.
-use Rattle.std.specs.Prelude.{ℕ, ◌≤◌, List, [], length, All, map, Bool, ◌==◌, ◌&&◌, ◌||◌, codes, if◌then◌else◌}
+use Rattle.std.specs.Prelude.{ℕ, ◌≤◌, List, [], length, All, map, flat_map, Bool, ◌==◌, ◌&&◌, ◌||◌, codes, if◌then◌else◌}
 use Rattle.http_header.specs.FieldValue.{FieldValue, plain_value}
 use Rattle.http_header.specs.HeaderMap.{append_all}
 use Rattle.http_header.specs.Token.{lowercase}
@@ -37,6 +37,10 @@ version_of minor = if minor == 0 then Http10 else Http11
 -- Fields as the map of them: appended in order, names in lower case.
 abbrev pub fields_from : List (List ℕ × List ℕ) → List (List ℕ × List FieldValue)
 fields_from fields = append_all [] (map (λ f. (lowercase f.0, plain_value f.1)) fields)
+
+-- Their values, one after the other.
+abbrev pub values_in : List (List ℕ × List ℕ) → List ℕ
+values_in fields = flat_map (λ f. f.1) fields
 
 -- The connection is closed after the answer (RFC 9112, section 9.3).
 abbrev pub closes_of : ℕ → List (List ℕ × List ℕ) → Bool

@@ -1,12 +1,8 @@
 //! The head that unread bytes begin with.
 
-ghost use Rattle.std.specs.Prelude.{◌≡◌, ◌≤◌, ℕ, List, [], length, IfOk, OnOk, MatchResult, All, map};
-ghost use Rattle.httparse.specs.Grammar.{IsToken, AllPass, is_value_byte};
+ghost use Rattle.std.specs.Prelude.{◌≡◌, ◌≤◌, ℕ, List, [], length, IfOk, MatchResult, All, map};
 ghost use Rattle.httparse.specs.Spans.{IsHeaderWithin, IsWithin, header_bytes, span_bytes};
-ghost use Rattle.http_header.specs.HeaderMap.{append};
-ghost use Rattle.http_header.specs.Token.{lowercase};
-ghost use Rattle.http_header.specs.FieldValue.{plain_value};
-ghost use Rattle.http_edge.specs.Requests.{content, fields_from, request_from, expects_of, AreFields};
+ghost use Rattle.http_edge.specs.Requests.{content, request_from, expects_of, AreFields};
 ghost use Rattle.http_edge.specs.Framing.{IsFound};
 ghost use Rattle.http_edge.specs.Bodies.{SoFar};
 ghost use Rattle.http_edge.specs.Reading.{NeverTakes};
@@ -14,10 +10,10 @@ ghost use Rattle.http_edge.specs.Edges.{IsStart};
 
 use crate::begun::Begun;
 use crate::body::Left;
+use crate::field_map::fields_of;
 use crate::framing::{Found, Framing, found_in, framing_by};
 use crate::memory::Memory;
 use crate::request::{BadKind, Request, Version};
-use http_header::{HeaderMap, HeaderName, HeaderNameError, HeaderValue, HeaderValueError};
 use httparse::Status;
 use httparse::spans::{EMPTY_HEADER_SPAN, HeaderSpan, RequestSpans, parse_request};
 use std::alloc::Global;
@@ -123,49 +119,4 @@ fn request_of(
         body: Vec::with_capacity(alloc, room)?,
         close: head.version == 0 || found.closes,
     })
-}
-
-/// The fields, in order.
-fn fields_of(alloc: Global, unread: &[u8], spans: &[HeaderSpan]) -> Result<HeaderMap, Memory>
-    requires within { All (IsHeaderWithin (length unread.now)) spans.now }
-    requires fields { AreFields unread.now spans.now }
-    ensures { IfOk result (λ m. m ≡ fields_from (map (header_bytes unread.now) spans.now)) }
-{
-    let mut fields = HeaderMap::new(alloc);
-    if fields.reserve(spans.len()).is_err() {
-        return Err(Memory);
-    }
-    'each: for span in spans {
-        add_field(
-            alloc,
-            &mut fields,
-            span.name.of(unread),
-            span.value.of(unread),
-        )?;
-    }
-    Ok(fields)
-}
-
-/// Adds a field after the others.
-fn add_field(alloc: Global, fields: &mut HeaderMap, name: &[u8], value: &[u8]) -> Result<(), Memory>
-    requires name { IsToken name.now }
-    requires len { length name.now ≤ 8192 }
-    requires value { AllPass is_value_byte value.now }
-    ensures { OnOk result (fields.new
-        ≡ append fields.old (lowercase name.now) (plain_value value.now)) }
-{
-    let name = match HeaderName::from_bytes(alloc, name) {
-        Ok(name) => name,
-        Err(HeaderNameError::Invalid) => unreachable!(),
-        Err(HeaderNameError::OutOfMemory) => return Err(Memory),
-    };
-    let value = match HeaderValue::from_bytes(alloc, value) {
-        Ok(value) => value,
-        Err(HeaderValueError::Invalid) => unreachable!(),
-        Err(HeaderValueError::OutOfMemory) => return Err(Memory),
-    };
-    match fields.append(name, value) {
-        Ok(_) => Ok(()),
-        Err(_) => Err(Memory),
-    }
 }

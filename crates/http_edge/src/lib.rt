@@ -14,6 +14,7 @@ mod answer;
 mod begun;
 mod body;
 mod edge;
+mod field_map;
 mod framing;
 mod head;
 mod laws;

@@ -1,6 +1,6 @@
 use Rattle.std.proofs.Common.{refl}
 use Rattle.http_edge.proofs.Fields.{IsFieldName_from_token}
-use Rattle.http_edge.proofs.head.add_field.Goals as goal
+use Rattle.http_edge.proofs.field_map.add_field.Goals as goal
 
 pub unreachable-requires : goal.unreachable-requires
 unreachable-requires c =
