@@ -1,8 +1,8 @@
 //! The command line: what its words ask for, the lines of scripts and stories, the rules that
 //! settings give, and how a failure is reported.
 //!
-//! The one contract: each kind of failure ends the program with a status of its own, and a run or
-//! the gateway goes by the rules of the settings.
+//! The one contract: each kind of failure has its exit status, and a run or the gateway goes by the
+//! rules of the settings.
 #![tactic(auto)]
 
 mod command;

@@ -241,8 +241,8 @@ impl<R: Relation> Core<R> {
 
     /// Gives the sealed journal out at this moment, where nobody is connected and no exchange is
     /// open, and goes on with one that begins with copies: of the first sendings whose message IDs
-    /// are in use (RFC 7252 section 4.4), and of the messages that may still be repeated (section
-    /// 4.5). Numbers of tokens and connections go on.
+    /// are in use (RFC 7252 section 4.4), of the messages that may still be repeated (section 4.5),
+    /// and of what the responses rest on that stay stored. Numbers of tokens and connections go on.
     pub fn rotate(&mut self, moment: u64) -> Result<Journal<R>, RotateFault>
         ensures turned { IfOk result (λ given.
             IsTurned (now self.old.state.moment moment) given.entries self.old self.new) }

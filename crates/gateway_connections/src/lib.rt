@@ -5,7 +5,8 @@
 //! section 10.1.1), and after the last request of a connection it keeps no bytes. It can go back to
 //! what it held at its mark, which takes no memory.
 //!
-//! It knows nothing of what a request means, nor who waits for an answer. Nobody stands on it yet.
+//! It knows nothing of what a request means, nor who waits for an answer. `gateway_model` stands on
+//! it.
 #![tactic(auto)]
 
 mod changed;

@@ -3,7 +3,7 @@
 //!
 //! The definitions stand in `specs/`, to be read in this order: `Unasked`, `Emissions`, `Acts`,
 //! `Orders`, `Tellings`, `Waiting`, `Going`, `Told`, `Asking`, `Resting`, `Hearing`, `Closing`,
-//! `Continuing`, and `Rotating`, of the one input without acts.
+//! `Continuing`, `Backlog`, and `Rotating`, of the one input without acts.
 //! Whoever shows that an input leads to acts in that order has what holds of all such acts, by the
 //! laws of this crate.
 #![tactic(auto)]

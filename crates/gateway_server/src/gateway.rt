@@ -228,8 +228,8 @@ fn count_taken<W: Clock + RandomSource + Drop, L: Ledger>(shared: &Shared<W, L>,
 }
 
 /// The pass of one more connection, if it may be opened. While the journal is turned over this
-/// waits; where 256 connections are open, the one that has been idle longest is closed to make
-/// room. Why it may not be opened is logged.
+/// waits; where 256 connections are open, one whose client left is closed to make room, or else the
+/// one that has been idle longest. Why it may not be opened is logged.
 fn pass_for<W: Wait + Log + Clock + RandomSource + Drop, L: Ledger>(
     rt: &W,
     shared: &Shared<W, L>,

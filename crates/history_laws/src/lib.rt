@@ -12,8 +12,8 @@
 //! 7959); `Confirmations`, which ACK or RST answers a datagram; `Causes`, which causes refuse a
 //! request; `Numbering`, the number that a token bears. What a history is: `Readings`,
 //! `Connections`, `Progress`, `Transmissions`, `Exchanges`, `Joining`, `Observing`, `Storing`,
-//! `Hearing`, `Confirming`, `Sealing`, `Justified`; then the worked journals, and `Laws`, which
-//! says what follows.
+//! `Hearing`, `Carrying`, `Confirming`, `Sealing`, `Justified`; then the worked journals, and
+//! `Laws` and `Grounds`, which say what follows.
 #![tactic(auto)]
 
 mod laws;

@@ -8,7 +8,7 @@
 //! through once for each of these things, and never for one entry or one response.
 //!
 //! The definitions stand in `specs/`, to be read in this order: `Sources`, `Knowing`, `Marking`,
-//! `Copying`; `Lines`, `Tracing`; `Carrying`.
+//! `Copying`; `Lines`, `Tracing`; `Carrying`; and `Equal` and `EqualLines`, laws that types need.
 #![tactic(auto)]
 
 mod copies;

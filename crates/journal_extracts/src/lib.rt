@@ -3,7 +3,8 @@
 //!
 //! One contract: what is copied are the journal's entries under their numbers, 256 at most. Those
 //! that tell of a request are found in rounds of 4,096 entries each. `gateway_desk` makes each copy
-//! and each round under its lock, so a viewer holds up the gateway no longer than that.
+//! and each round under its lock, and the loop between two turns, so a viewer holds up the gateway
+//! no longer than that.
 #![tactic(auto)]
 
 mod extract;

@@ -1,8 +1,8 @@
 //! The line of an entry of a journal, as it is printed, written to files and shown.
 //!
 //! One contract: where payloads are hidden, the line of a datagram has the message with `*` for
-//! each byte of its payload; bytes that are no message become as many `*`. `script_runs`, the
-//! window of `gateway_server` and the program write their lines by it.
+//! each byte of its payload; bytes that are no message become as many `*`. `script_runs`,
+//! `gateway_window` and the program write their lines by it.
 #![tactic(auto)]
 
 mod hiding;

@@ -52,7 +52,7 @@ pub const MAX_EXCHANGES: usize = 256;
 /// and 40 for the header, the token, the other options and the payload marker.
 pub const MAX_MESSAGE_LEN: usize = 2024;
 
-/// What the entry of an answer counts, whatever it tells.
+/// What the entry of an answer counts at most.
 pub const MAX_ANSWER_SIZE: u64 = 90_000;
 
 /// How many entries a journal has.

@@ -4,8 +4,8 @@
 //! under its token, and no more than 64 stand. `newer` is the formula of RFC 7641 section 3.4, and
 //! `newest_wins` says what it is good for: of notifications that came in any order, the last one
 //! sent is the one that is kept. Only a registration wants memory, and room for it can be made
-//! before (`Watch::make_room`). Who shares one observation among many readers is to stand on it;
-//! the program doesn't use it yet.
+//! before (`Watch::make_room`). A history says by it which notifications count, and the core keeps
+//! its watches by it.
 #![tactic(auto)]
 
 mod fault;
