@@ -1,23 +1,37 @@
 # Completion of hcproxy's words for bash.
 _hcproxy() {
   local word=${COMP_WORDS[COMP_CWORD]} command=${COMP_WORDS[1]-} before=${COMP_WORDS[COMP_CWORD-1]}
-  local words files
+  local words='' paths='' given=" ${COMP_WORDS[*]:1:COMP_CWORD-1} " each
   if [ "$COMP_CWORD" = 1 ]; then
     words="demo serve replay draw story check origin --help --version"
   else
     case $command in
-      serve) if [ "$before" = --journals ]; then files=1; elif [ "$before" != --idle ] && [ "$before" != --status ]; then words="--journals --access --idle --status --status-bodies --loop --threads" files=1; fi ;;
-      origin | story) [ "$COMP_CWORD" = 2 ] && files=1 ;;
-      check) if [ "$COMP_CWORD" = 2 ]; then words=--origin files=1; elif [ "$before" = --origin ]; then files=1; fi ;;
-      replay) if [ "$before" = --settings ]; then files=1; else words="--journal --settings"; fi ;;
+      serve)
+        case $before in
+          --journals) paths=-d ;;
+          --idle | --status | :) ;;
+          *)
+            words="--journals --access --idle --status --loop --threads" paths=-f
+            [[ $given != *" --status "* ]] || words+=" --status-bodies"
+            [[ $given != *" --threads "* && $given != *" --loop "* ]] || words=${words/ --loop --threads/}
+            ;;
+        esac
+        ;;
+      origin | story) [ "$COMP_CWORD" != 2 ] || paths=-f ;;
+      check) if [ "$COMP_CWORD" = 2 ]; then words=--origin paths=-f; elif [ "$before" = --origin ]; then paths=-f; fi ;;
+      replay) if [ "$before" = --settings ]; then paths=-f; else words="--journal --settings"; fi ;;
     esac
   fi
   COMPREPLY=()
-  [ -z "$words" ] || mapfile -t COMPREPLY < <(compgen -W "$words" -- "$word")
-  if [ -n "$files" ]; then
+  # what stands there already has no place a second time
+  for each in $words; do
+    if [[ $each == "$word"* && $given != *" $each "* ]]; then COMPREPLY+=("$each"); fi
+  done
+  # names of files and folders alone, where no word is begun
+  if [ -n "$paths" ] && [[ $word != -* ]]; then
     compopt -o filenames 2>/dev/null
     local found
-    mapfile -t found < <(compgen -f -- "$word")
+    mapfile -t found < <(compgen "$paths" -- "$word")
     COMPREPLY+=("${found[@]}")
   fi
 }
