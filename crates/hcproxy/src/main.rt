@@ -14,6 +14,7 @@ mod looping;
 mod notes;
 mod replaying;
 mod serving;
+mod standard;
 mod storying;
 
 use command_line::{Command, Hint, Report, USAGE, command_of};
@@ -26,6 +27,7 @@ use looping::serve_loop;
 use proxy_settings::Part;
 use replaying::replay_input;
 use serving::serve_threads;
+use standard::filled;
 use std::net::{Net, TcpListener, TcpStream};
 use std::process::ExitCode;
 use std::random::RandomSource;
@@ -147,6 +149,7 @@ fn tell<R: Eprint>(rt: &R, report: Report<'_>) -> u8 {
 }
 
 fn main(rt: HostRuntime) -> ExitCode {
+    let _standard = (filled(&rt), filled(&rt), filled(&rt));
     let status = match words(&rt) {
         Err(report) => tell(&rt, report),
         Ok(words) => match run(rt, rt, &words) {
