@@ -36,6 +36,7 @@ setup_failure file.Memory = failure.Memory
 abbrev pub serve_failure : ServeFault → Failure
 serve_failure (serve.Listen address error) = failure.Device
 serve_failure (serve.Udp address error) = failure.Device
+serve_failure (serve.Window address error) = failure.Device
 serve_failure (serve.Clock error) = failure.Device
 serve_failure serve.Thread = failure.Device
 serve_failure serve.Stopped = failure.Device

@@ -1,7 +1,7 @@
 //! What the arguments ask for.
 
-use crate::report::Hint;
 use crate::serving::{Serving, serving_of};
+use crate::wrong::Wrong;
 use proxy_settings::Part;
 use uri_map::{Peer, peer_at};
 
@@ -40,43 +40,76 @@ pub enum Command<'a> {
 }
 
 /// What the words after the program's name ask for.
-pub fn command_of(words: &[String]) -> Result<Command<'_>, Hint<'static>> {
+pub fn command_of(words: &[String]) -> Result<Command<'_>, Wrong<'_>> {
     for word in words {
         if matches!(word.as_str(), "--help" | "-h") {
             return Ok(Command::Help);
         }
     }
     let Some((name, rest)) = words.split_first() else {
-        return Err(Hint::SeeHelp);
+        return Err(Wrong::Nothing);
     };
-    match (name.as_str(), rest) {
-        ("--version" | "-V", []) => Ok(Command::Version),
-        ("demo", []) => Ok(Command::Demo { listen: None }),
-        ("demo", [at]) => match peer_at(at.as_bytes()) {
-            Some(peer) => Ok(Command::Demo { listen: Some(peer) }),
-            None => Err(Hint::SeeHelp),
-        },
-        ("serve", rest) => match serving_of(rest) {
-            Some(serving) => Ok(Command::Serve(serving)),
-            None => Err(Hint::SeeHelp),
-        },
-        ("origin", []) => Ok(Command::Origin { settings: None }),
-        ("origin", [file]) => Ok(Command::Origin {
-            settings: Some(file.as_str()),
+    match name.as_str() {
+        "--version" | "-V" => nothing(Command::Version, rest),
+        "demo" => demo_of(rest),
+        "serve" => Ok(Command::Serve(serving_of(rest)?)),
+        "origin" => Ok(Command::Origin {
+            settings: file_in(rest)?,
         }),
-        ("draw", []) => Ok(Command::Draw),
-        ("story", []) => Ok(Command::Story { file: None }),
-        ("story", [file]) => Ok(Command::Story {
-            file: Some(file.as_str()),
+        "draw" => nothing(Command::Draw, rest),
+        "story" => Ok(Command::Story {
+            file: file_in(rest)?,
         }),
-        ("replay", rest) => replay_of(rest).ok_or(Hint::SeeHelp),
-        ("check", rest) => check_of(rest).ok_or(Hint::SeeHelp),
-        _ => Err(Hint::SeeHelp),
+        "replay" => replay_of(rest),
+        "check" => check_of(rest),
+        name => Err(Wrong::Command(name)),
+    }
+}
+
+/// The command, after which nothing comes.
+fn nothing<'a>(command: Command<'a>, words: &'a [String]) -> Result<Command<'a>, Wrong<'a>> {
+    match words.first() {
+        None => Ok(command),
+        Some(word) => Err(Wrong::Word(word.as_str())),
+    }
+}
+
+/// The file that the words name, if there are any: `[FILE]`.
+fn file_in(words: &[String]) -> Result<Option<&str>, Wrong<'_>> {
+    match words {
+        [] => Ok(None),
+        [file] => Ok(Some(path_in(file.as_str())?)),
+        [file, word, ..] => {
+            path_in(file.as_str())?;
+            Err(Wrong::Word(word.as_str()))
+        }
+    }
+}
+
+/// A path that a word names. One that begins with two hyphens is none, but a flag that isn't known.
+pub(crate) fn path_in(word: &str) -> Result<&str, Wrong<'_>> {
+    if word.starts_with("--") {
+        Err(Wrong::Word(word))
+    } else {
+        Ok(word)
+    }
+}
+
+/// What the words after `demo` ask for: `[ADDRESS:PORT]`.
+fn demo_of(words: &[String]) -> Result<Command<'_>, Wrong<'_>> {
+    let at = match words {
+        [] => return Ok(Command::Demo { listen: None }),
+        [at] => at.as_str(),
+        [_, word, ..] => return Err(Wrong::Word(word.as_str())),
+    };
+    match peer_at(at.as_bytes()) {
+        Some(peer) => Ok(Command::Demo { listen: Some(peer) }),
+        None => Err(Wrong::Address(at)),
     }
 }
 
 /// What the words after `replay` ask for: `[--journal] [--settings FILE]`, in any order.
-fn replay_of(words: &[String]) -> Option<Command<'_>> {
+fn replay_of(words: &[String]) -> Result<Command<'_>, Wrong<'_>> {
     let (journal, rest) = match words {
         [flag, rest @ ..] if flag.as_str() == "--journal" => (true, rest),
         [rest @ .., flag] if flag.as_str() == "--journal" => (true, rest),
@@ -85,20 +118,23 @@ fn replay_of(words: &[String]) -> Option<Command<'_>> {
     let settings = match rest {
         [] => None,
         [name, file] if name.as_str() == "--settings" => Some(file.as_str()),
-        _ => return None,
+        [name] if name.as_str() == "--settings" => return Err(Wrong::After("--settings")),
+        [name, _, word, ..] if name.as_str() == "--settings" => {
+            return Err(Wrong::Word(word.as_str()));
+        }
+        [word, ..] => return Err(Wrong::Word(word.as_str())),
     };
-    Some(Command::Replay { journal, settings })
+    Ok(Command::Replay { journal, settings })
 }
 
 /// What the words after `check` ask for: `[--origin] FILE`.
-fn check_of(words: &[String]) -> Option<Command<'_>> {
-    let (part, file) = match words {
-        [file] => (Part::Serve, file),
-        [flag, file] if flag.as_str() == "--origin" => (Part::Origin, file),
-        _ => return None,
+fn check_of(words: &[String]) -> Result<Command<'_>, Wrong<'_>> {
+    let (part, rest) = match words {
+        [flag, rest @ ..] if flag.as_str() == "--origin" => (Part::Origin, rest),
+        _ => (Part::Serve, words),
     };
-    Some(Command::Check {
-        part,
-        file: file.as_str(),
-    })
+    match file_in(rest)? {
+        Some(file) => Ok(Command::Check { part, file }),
+        None => Err(Wrong::After("check")),
+    }
 }

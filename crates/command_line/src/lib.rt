@@ -13,6 +13,7 @@ mod script;
 mod serving;
 mod settings;
 mod story;
+mod wrong;
 
 pub use command::{Command, command_of};
 pub use demo::{COAP_PORT, DEVICE, Demonstration, GATEWAY, WEB_PORT, WINDOW_PORT, loopback};
@@ -22,3 +23,4 @@ pub use script::{Event, Line, LineFault, line_of};
 pub use serving::Serving;
 pub use settings::{demonstration, followed};
 pub use story::{StoryFault, StoryLine, StoryTurn, story_line_of};
+pub use wrong::Wrong;

@@ -4,12 +4,13 @@ ghost use Rattle.std.specs.Prelude.{◌≡◌};
 ghost use Rattle.command_line.specs.Failures.{exit_status, setup_failure, serve_failure, device_failure};
 
 use crate::fault::{Reason, ReplayFault};
+use crate::wrong::Wrong;
 use journal_picture::PictureFault;
 use proxy_settings::FileFault;
 use server_faults::{DeviceFault, ServeFault};
 use std::alloc::{AllocError, AllocFailed};
 use std::fmt;
-use std::io::ErrorKind;
+use std::io::{self, ErrorKind};
 
 /// The first line of what `--help` prints, and what wrong arguments are told.
 pub const USAGE: &str = "usage: hcproxy replay [--journal] | hcproxy serve | hcproxy origin";
@@ -60,6 +61,7 @@ impl Failure {
         match fault {
             ServeFault::Listen(_, _)
             | ServeFault::Udp(_, _)
+            | ServeFault::Window(_, _)
             | ServeFault::Clock(_)
             | ServeFault::Thread
             | ServeFault::Stopped => Failure::Device,
@@ -96,11 +98,15 @@ impl fmt::Display for Failure {
 #[derive(Clone, Copy)]
 pub enum Hint<'a> {
     SeeHelp,
+    /// What is wrong with the words after the program's name.
+    Arguments(Wrong<'a>),
     Because(Reason),
     /// There is no file of that path.
     NoFile(&'a str),
     /// What is wrong with the file of that path.
     File(&'a str, FileFault),
+    /// Why journals can't be written into the folder of that path.
+    Folder(&'a str, io::Error),
     /// Why the gateway doesn't run, or runs no more.
     Serve(ServeFault),
     /// Why the demonstration device doesn't run, or runs no more.
@@ -111,9 +117,16 @@ impl fmt::Display for Hint<'_> {
     fn fmt<W: fmt::Write>(&self, f: &mut fmt::Formatter<W>) -> fmt::Result {
         match self {
             Hint::SeeHelp => f.write_str("hcproxy: --help says more"),
+            Hint::Arguments(wrong) => write!(f, "hcproxy: {wrong}; --help says more"),
             Hint::Because(reason) => write!(f, "hcproxy: {reason}"),
             Hint::NoFile(path) => write!(f, "hcproxy: {path}: no such file"),
             Hint::File(path, fault) => write!(f, "hcproxy: {path}: {fault}"),
+            Hint::Folder(path, error) => {
+                write!(
+                    f,
+                    "hcproxy: {path}: no journal can be written there: {error}"
+                )
+            }
             Hint::Serve(fault) => write!(f, "hcproxy: {fault}"),
             Hint::Origin(fault) => write!(f, "hcproxy: {fault}"),
         }
@@ -134,6 +147,11 @@ impl<'a> Report<'a> {
             failure: Failure::Usage,
             hint: Some(hint),
         }
+    }
+
+    /// Wrong arguments, in which this is wrong.
+    pub fn arguments(wrong: Wrong<'a>) -> Report<'a> {
+        Report::usage(Hint::Arguments(wrong))
     }
 
     /// A run that failed.
@@ -176,6 +194,14 @@ impl<'a> Report<'a> {
         Report {
             failure: Failure::of_file(fault),
             hint,
+        }
+    }
+
+    /// A folder into which no journal can be written.
+    pub fn folder(path: &'a str, error: io::Error) -> Report<'a> {
+        Report {
+            failure: Failure::Device,
+            hint: Some(Hint::Folder(path, error)),
         }
     }
 

@@ -1,5 +1,7 @@
 //! What the words after `serve` ask for.
 
+use crate::command::path_in;
+use crate::wrong::Wrong;
 use uri_map::{Peer, peer_at};
 
 /// How long a client may stand still at most, in seconds: a day.
@@ -33,6 +35,17 @@ enum Flag {
     Status,
 }
 
+impl Flag {
+    /// The word.
+    fn word(self) -> &'static str {
+        match self {
+            Flag::Journals => "--journals",
+            Flag::Idle => "--idle",
+            Flag::Status => "--status",
+        }
+    }
+}
+
 /// How the gateway serves its connections.
 #[derive(Clone, Copy, PartialEq, Eq)]
 enum Form {
@@ -58,14 +71,14 @@ struct Words<'a> {
 }
 
 impl<'a> Words<'a> {
-    /// These and one more. None where it has no place there.
-    fn with(self, word: &'a str) -> Option<Words<'a>> {
+    /// These and one more, if it has a place there.
+    fn with(self, word: &'a str) -> Result<Words<'a>, Wrong<'a>> {
         let mut words = self;
         words.flag = None;
         match (self.flag, word) {
             (Some(Flag::Journals), _) => words.journals = Some(word),
             (Some(Flag::Idle), _) => words.idle = Some(seconds_of(word)?),
-            (Some(Flag::Status), _) => words.status = Some(peer_at(word.as_bytes())?),
+            (Some(Flag::Status), _) => words.status = Some(address_of(word)?),
             (None, "--journals") if self.journals.is_none() => words.flag = Some(Flag::Journals),
             (None, "--idle") if self.idle.is_none() => words.flag = Some(Flag::Idle),
             (None, "--status") if self.status.is_none() => words.flag = Some(Flag::Status),
@@ -73,27 +86,33 @@ impl<'a> Words<'a> {
             (None, "--status-bodies") if !self.bodies => words.bodies = true,
             (None, "--loop") if self.form.is_none() => words.form = Some(Form::Loop),
             (None, "--threads") if self.form.is_none() => words.form = Some(Form::Threads),
-            (None, "--journals" | "--idle" | "--status" | "--status-bodies" | "--access") => {
-                return None;
-            }
-            (None, "--loop" | "--threads") => return None,
-            (None, _) if self.settings.is_none() => words.settings = Some(word),
-            (None, _) => return None,
+            (None, _) if self.settings.is_none() => words.settings = Some(path_in(word)?),
+            (None, _) => return Err(Wrong::Word(word)),
         }
-        Some(words)
+        Ok(words)
+    }
+}
+
+/// An address and a port.
+fn address_of(word: &str) -> Result<Peer, Wrong<'_>> {
+    match peer_at(word.as_bytes()) {
+        Some(peer) => Ok(peer),
+        None => Err(Wrong::Address(word)),
     }
 }
 
 /// A number of seconds: from one to those of a day.
-fn seconds_of(word: &str) -> Option<u64> {
-    let seconds = word.parse::<u64>().ok()?;
-    (1..=LONGEST_IDLE).contains(&seconds).then_some(seconds)
+fn seconds_of(word: &str) -> Result<u64, Wrong<'_>> {
+    match word.parse::<u64>() {
+        Ok(seconds) if (1..=LONGEST_IDLE).contains(&seconds) => Ok(seconds),
+        _ => Err(Wrong::Idle(word)),
+    }
 }
 
 /// What the words after `serve` ask for: `[FILE] [--journals FOLDER] [--access] [--idle SECONDS]
 /// [--status ADDRESS:PORT [--status-bodies]] [--loop | --threads]`, in any order. Where no form is
 /// named, it is the loop.
-pub fn serving_of(words: &[String]) -> Option<Serving<'_>> {
+pub fn serving_of(words: &[String]) -> Result<Serving<'_>, Wrong<'_>> {
     let mut so_far = Words {
         settings: None,
         journals: None,
@@ -107,10 +126,13 @@ pub fn serving_of(words: &[String]) -> Option<Serving<'_>> {
     'each: for word in words {
         so_far = so_far.with(word.as_str())?;
     }
-    if so_far.flag.is_some() || (so_far.bodies && so_far.status.is_none()) {
-        return None;
+    if let Some(flag) = so_far.flag {
+        return Err(Wrong::After(flag.word()));
     }
-    Some(Serving {
+    if so_far.bodies && so_far.status.is_none() {
+        return Err(Wrong::Alone("--status-bodies", "--status"));
+    }
+    Ok(Serving {
         settings: so_far.settings,
         journals: so_far.journals,
         access: so_far.access,

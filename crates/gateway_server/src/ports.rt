@@ -43,7 +43,7 @@ impl Ports {
     ) -> Result<Ports, ServeFault> {
         match TcpListener::bind(rt, at) {
             Ok(window) => Ok(self.shown_by(window)),
-            Err(error) => Err(ServeFault::Listen(at, error)),
+            Err(error) => Err(ServeFault::Window(at, error)),
         }
     }
 

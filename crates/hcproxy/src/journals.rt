@@ -6,7 +6,6 @@ use journal_book::Journal;
 use journal_lines::{Payloads, write_entry};
 use log::{info, warn};
 use route_bank::Profile;
-use std::alloc::AllocError;
 use std::fs;
 use std::io::{self, BufWriter, ErrorKind, Write};
 use std::time::SystemTime;
@@ -19,13 +18,21 @@ pub struct Folder {
 }
 
 impl Folder {
-    /// The folder of this path, which has to be there when the first journal is written.
-    pub fn new(rt: HostRuntime, path: Option<&str>) -> Result<Folder, AllocError> {
-        let path = match path {
-            Some(path) => Some(String::from_str(rt.alloc(), path)?),
-            None => None,
+    /// The folder of this path, where one is named. A file is made there and taken away again, since the
+    /// first journal comes much later.
+    pub fn new(rt: HostRuntime, path: Option<&str>) -> io::Result<Folder> {
+        let Some(path) = path else {
+            return Ok(Folder { rt, path: None });
         };
-        Ok(Folder { rt, path })
+        let alloc = rt.alloc();
+        let tried = format!(in alloc; "{path}/journal.part")?;
+        drop(fs::create(&rt, tried.as_str())?);
+        fs::remove_file(&rt, tried.as_str())?;
+        let path = String::from_str(alloc, path)?;
+        Ok(Folder {
+            rt,
+            path: Some(path),
+        })
     }
 
     /// Writes a journal into the folder, to a file with this name: whole, or not at all.

@@ -128,7 +128,7 @@ fn run<
         + Sync
         + 'static,
 >(rt: R, host: HostRuntime, words: &'a [String]) -> Result<(), Report<'a>> {
-    match command_of(words).map_err(Report::usage)? {
+    match command_of(words).map_err(Report::arguments)? {
         Command::Help => printed(println!(rt; "{USAGE}\n{HELP}")),
         Command::Version => printed(println!(rt; "{VERSION}")),
         Command::Demo { listen } => Err(run_demo(rt, listen)),

@@ -84,10 +84,10 @@ pub fn settings_of(alloc: Global, serve: &Serve) -> Result<Settings, Report<'sta
 }
 
 /// The folder of this path, or none.
-pub fn folder_of(rt: HostRuntime, journals: Option<&str>) -> Result<Folder, Report<'static>> {
+pub fn folder_of(rt: HostRuntime, journals: Option<&str>) -> Result<Folder, Report<'_>> {
     match Folder::new(rt, journals) {
         Ok(folder) => Ok(folder),
-        Err(_) => Err(Report::memory()),
+        Err(error) => Err(Report::folder(journals.unwrap_or(""), error)),
     }
 }
 

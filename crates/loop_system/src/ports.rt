@@ -40,7 +40,7 @@ impl Ports {
     ) -> Result<Ports, ServeFault> {
         match Window::bind(rt, at) {
             Ok(window) => Ok(self.shown_by(window)),
-            Err(error) => Err(ServeFault::Listen(at, error)),
+            Err(error) => Err(ServeFault::Window(at, error)),
         }
     }
 

@@ -13,6 +13,8 @@ pub enum ServeFault {
     Listen(SocketAddr, io::Error),
     /// No datagrams can be sent from this address.
     Udp(SocketAddr, io::Error),
+    /// The gateway can't be looked at at this address.
+    Window(SocketAddr, io::Error),
     /// The clock can't be read.
     Clock(io::Error),
     /// A thread can't be started.
@@ -27,6 +29,7 @@ impl fmt::Display for ServeFault {
         match self {
             ServeFault::Listen(at, error) => write!(f, "listen: {at}: {error}"),
             ServeFault::Udp(at, error) => write!(f, "udp: {at}: {error}"),
+            ServeFault::Window(at, error) => write!(f, "--status: {at}: {error}"),
             ServeFault::Clock(error) => write!(f, "the clock can't be read: {error}"),
             ServeFault::Thread => f.write_str("a thread can't be started"),
             ServeFault::Stopped => f.write_str("the clock or the UDP socket failed"),

@@ -17,3 +17,5 @@ mod serve_tests;
 mod setting_tests;
 #[cfg(test)]
 mod tests;
+#[cfg(test)]
+mod wrong_tests;

@@ -21,6 +21,8 @@ fn a_taken_port_is_refused(rt: HostRuntime) -> Result<(), Fail> {
     let udp = ports.sends_from()?;
     let refused = Ports::bind(&rt, here(0), udp);
     assert!(rt; matches!(refused, Err(ServeFault::Udp(at, _)) if at == udp));
+    let refused = Ports::bind(&rt, here(0), here(0))?.with_window(&rt, listen);
+    assert!(rt; matches!(refused, Err(ServeFault::Window(at, _)) if at == listen));
     Ok(())
 }
 
@@ -36,6 +38,10 @@ fn a_gateway_that_does_not_run_is_told(rt: HostRuntime) -> Result<(), Fail> {
         (
             ServeFault::Udp(here(5683), taken),
             "hcproxy: device failed\nhcproxy: udp: 127.0.0.1:5683: address in use\n3",
+        ),
+        (
+            ServeFault::Window(here(9090), taken),
+            "hcproxy: device failed\nhcproxy: --status: 127.0.0.1:9090: address in use\n3",
         ),
         (
             ServeFault::Stopped,
