@@ -10,6 +10,7 @@ pub mod Limits
 pub mod Numbered
 pub mod Once
 pub mod Parted
+pub mod Promised
 pub mod Promises
 pub mod Quiet
 pub mod ReadingOn

@@ -26,7 +26,7 @@ use Rattle.gateway_model.specs.Waiting.{IsDrained}
 use Rattle.gateway_model.proofs.CallerLemmas.{acts-keep, all-append, all-as, answers-after, AreCopies, AreNoJournals, begins-copied, copies-mean, did-send, give-none, IsNoJournal, Nobody, Paced, paced-all, paced-none, paced-silent, paced-tell, paced-then, rotation-is, sends-after, TellsEach}
 use Rattle.gateway_world.specs.Inputs.{Takes, TakesAll}
 use Rattle.gateway_world.specs.Journals.{Part, gives_first, parts_of, journal_in, all_entries, EachJournal, EachPart, AreSent, AreTold}
-use Rattle.gateway_world.specs.Worlds.{WorldValue, Handles, IsAtRest, new_world, served_in, when_in}
+use Rattle.gateway_world.specs.Worlds.{WorldValue, Handles, new_world, served_in, when_in}
 use Rattle.gateway_world.proofs.Running.{takes-rules}
 
 -- What is given out before anything else belongs to the first part.
@@ -248,7 +248,7 @@ module _ (holds : Form → Form → List ℕ → List ℕ → Type 0) (takes : F
 
   -- a run from a world to which nothing has happened on
   module _ (is : List Input) (old new : WorldValue) (h : List Written) (out : List Emission) (e : old ≡ new_world rules)
-      (run : TakesAll holds takes is old out new) (rests : IsAtRest new) (stands : Stands new.core.state.entries)
+      (run : TakesAll holds takes is old out new) (stands : Stands new.core.state.entries)
       (same : h ≡ new.core.state.entries) (whole : given_up_in out ≡ []) where
     run-parts : EachPart Stretch out h
     run-parts =

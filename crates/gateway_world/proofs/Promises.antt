@@ -140,7 +140,7 @@ pub none-unasked : (xs : List Unasked) → map number_of xs ≡ [] → xs ≡ []
 none-unasked [] e = refl
 none-unasked (x ∷ xs) e = absurd cc
 
-rests-alone : (s : Served) → s.core.state.conns ≡ [] → IsNumbered s → AllRest s
+pub rests-alone : (s : Served) → s.core.state.conns ≡ [] → IsNumbered s → AllRest s
 rests-alone s none numbered = record {
   numbered = numbered;
   asked = λ c k has. absurd (subst (λ (cs : List Conn). HasConn cs c (Some k)) none has);

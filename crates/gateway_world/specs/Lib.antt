@@ -7,4 +7,5 @@ pub mod Keeping
 pub mod Leading
 pub mod Openings
 pub mod Refusals
+pub mod Runs
 pub mod Worlds

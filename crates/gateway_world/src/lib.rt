@@ -10,6 +10,7 @@
 mod advance;
 mod engine;
 mod fault;
+mod laws;
 mod run;
 mod serving;
 mod state;
@@ -20,5 +21,6 @@ pub use advance::Advanced;
 pub use engine::Step;
 pub use fault::WorldFault;
 pub use gateway_model::{Datagram, Happening, Input, Output, RotateFault, When};
+pub use laws::worlds_keep_promises;
 pub use run::Run;
 pub use state::World;

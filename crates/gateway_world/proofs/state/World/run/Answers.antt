@@ -9,42 +9,42 @@ pub returns-clause-stands : goal.returns-clause-stands
 returns-clause-stands g c =
     run-stands g.R.Relation.holds g.R.Relation.takes _ c.args.inputs.now c.in_ok-world.world c.take_all.new.self c.in_ok-journal.journal.entries
     (emissions c.take_all.new.outputs.items)
-    c.in_ok-world.ensures.is c.in_ok-take_all.ensures.takes c.in_ok-take_all.ensures.rests c.journal.ensures.stands
+    c.in_ok-world.ensures.is c.in_ok-take_all.ensures.takes c.journal.ensures.stands
     (rw (c.in_ok-journal.ensures) c.journal.ensures.entries) c.in_ok-take_all.ensures.whole
 
 pub returns-clause-told : goal.returns-clause-told
 returns-clause-told g c =
     run-tells g.R.Relation.holds g.R.Relation.takes _ c.args.inputs.now c.in_ok-world.world c.take_all.new.self c.in_ok-journal.journal.entries
     (emissions c.take_all.new.outputs.items)
-    c.in_ok-world.ensures.is c.in_ok-take_all.ensures.takes c.in_ok-take_all.ensures.rests c.journal.ensures.stands
+    c.in_ok-world.ensures.is c.in_ok-take_all.ensures.takes c.journal.ensures.stands
     (rw (c.in_ok-journal.ensures) c.journal.ensures.entries) c.in_ok-take_all.ensures.whole
 
 pub returns-clause-mapped : goal.returns-clause-mapped
 returns-clause-mapped g c =
     run-mapped g.R.Relation.holds g.R.Relation.takes _ c.args.inputs.now c.in_ok-world.world c.take_all.new.self c.in_ok-journal.journal.entries
     (emissions c.take_all.new.outputs.items)
-    c.in_ok-world.ensures.is c.in_ok-take_all.ensures.takes c.in_ok-take_all.ensures.rests c.journal.ensures.stands
+    c.in_ok-world.ensures.is c.in_ok-take_all.ensures.takes c.journal.ensures.stands
     (rw (c.in_ok-journal.ensures) c.journal.ensures.entries) c.in_ok-take_all.ensures.whole
 
 pub returns-clause-causes : goal.returns-clause-causes
 returns-clause-causes g c =
     run-causes g.R.Relation.holds g.R.Relation.takes _ c.args.inputs.now c.in_ok-world.world c.take_all.new.self c.in_ok-journal.journal.entries
     (emissions c.take_all.new.outputs.items)
-    c.in_ok-world.ensures.is c.in_ok-take_all.ensures.takes c.in_ok-take_all.ensures.rests c.journal.ensures.stands
+    c.in_ok-world.ensures.is c.in_ok-take_all.ensures.takes c.journal.ensures.stands
     (rw (c.in_ok-journal.ensures) c.journal.ensures.entries) c.in_ok-take_all.ensures.whole
 
 pub returns-clause-once : goal.returns-clause-once
 returns-clause-once g c =
     run-once g.R.Relation.holds g.R.Relation.takes _ c.args.inputs.now c.in_ok-world.world c.take_all.new.self c.in_ok-journal.journal.entries
     (emissions c.take_all.new.outputs.items)
-    c.in_ok-world.ensures.is c.in_ok-take_all.ensures.takes c.in_ok-take_all.ensures.rests c.journal.ensures.stands
+    c.in_ok-world.ensures.is c.in_ok-take_all.ensures.takes c.journal.ensures.stands
     (rw (c.in_ok-journal.ensures) c.journal.ensures.entries) c.in_ok-take_all.ensures.whole
 
 pub returns-clause-in_order : goal.returns-clause-in_order
 returns-clause-in_order g c =
     run-in-order g.R.Relation.holds g.R.Relation.takes _ c.args.inputs.now c.in_ok-world.world c.take_all.new.self c.in_ok-journal.journal.entries
     (emissions c.take_all.new.outputs.items)
-    c.in_ok-world.ensures.is c.in_ok-take_all.ensures.takes c.in_ok-take_all.ensures.rests c.journal.ensures.stands
+    c.in_ok-world.ensures.is c.in_ok-take_all.ensures.takes c.journal.ensures.stands
     (rw (c.in_ok-journal.ensures) c.journal.ensures.entries) c.in_ok-take_all.ensures.whole c.in_order.ensures
 
 pub returns-clause-asks : goal.returns-clause-asks
@@ -58,7 +58,7 @@ pub returns-clause-sends : goal.returns-clause-sends
 returns-clause-sends g c =
     run-sends g.R.Relation.holds g.R.Relation.takes _ c.args.inputs.now c.in_ok-world.world c.take_all.new.self c.in_ok-journal.journal.entries
     (emissions c.take_all.new.outputs.items)
-    c.in_ok-world.ensures.is c.in_ok-take_all.ensures.takes c.in_ok-take_all.ensures.rests c.journal.ensures.stands
+    c.in_ok-world.ensures.is c.in_ok-take_all.ensures.takes c.journal.ensures.stands
     (rw (c.in_ok-journal.ensures) c.journal.ensures.entries) c.in_ok-take_all.ensures.whole
 
 pub returns-clause-lives : goal.returns-clause-lives
