@@ -338,14 +338,23 @@ def peer_of(authority):
     if not host or "@" in authority or not re.fullmatch(r"\d{1,5}", port) or not 0 < int(port) < 65_536:
         raise Refused("no-map", 400)
     if bracketed:
-        return None, f"[{groups_of(host)}]:{int(port)}"
+        groups = groups_of(host)
+        return None, None if is_no_endpoint(groups.split(":"), 16) else f"[{groups}]:{int(port)}"
     name = unescaped(host)
     name = "".join(it.lower() if it.isascii() else it for it in name)
     if IPV4.fullmatch(name):
-        return None, f"{name}:{int(port)}"
+        return None, None if is_no_endpoint(name.split("."), 10) else f"{name}:{int(port)}"
     if len(name.encode()) > 255:
         raise Refused("no-map", 400)
     return name, f"{NAMES[name]}:{int(port)}" if name in NAMES else None
+
+
+def is_no_endpoint(texts, base):
+    """Whether it is the unspecified address, the broadcast one, or a group's: 224.0.0.0/4, ff00::/8."""
+    numbers = [int(it, base) for it in texts]
+    if base == 16:
+        return not any(numbers) or numbers[0] >= 0xFF00
+    return not any(numbers) or numbers == [255] * 4 or 224 <= numbers[0] <= 239
 
 
 def groups_of(text):

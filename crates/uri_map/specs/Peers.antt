@@ -1,5 +1,5 @@
 -- Peers, and which one serves a target.
-use Rattle.std.specs.Prelude.{ℕ, Bool, false, ◌==◌, ◌&&◌, List, [], ◌∷◌, ◌++◌, Option, Some, None, option_map, option_and_then, codes, decimal, if◌then◌else◌}
+use Rattle.std.specs.Prelude.{ℕ, Bool, false, not, ◌==◌, ◌&&◌, ◌||◌, nat_le, get_or, List, [], ◌∷◌, ◌++◌, Option, Some, None, option_map, option_and_then, codes, decimal, if◌then◌else◌}
 use Rattle.std.specs.List.{before_first}
 use Rattle.std.specs.Str.{bytes_eq}
 use Rattle.std.specs.Net.Addr.{ipv4_octets, ipv6_segments}
@@ -26,8 +26,23 @@ address_in [] name = None
 address_in (line ∷ others) name =
     if bytes_eq line.name name then Some line.address else address_in others name
 
+-- Addresses that are no endpoint's: 0.0.0.0 and :: (RFC 1122 section 3.2.1.3, RFC 4291 section
+-- 2.5.2), 255.255.255.255 (RFC 919 section 7), and those of groups, to which no CON may be sent:
+-- 224.0.0.0/4 and ff00::/8 (RFC 5771 section 3, RFC 4291 section 2.7, RFC 7252 section 8.1).
+abbrev pub is_between : ℕ → ℕ → ℕ → Bool
+is_between low high n = nat_le low n && nat_le n high
+
+abbrev pub is_no_endpoint : IpAddr → Bool
+is_no_endpoint (Ip.V4 a) =
+    bytes_eq a.octets (0 ∷ 0 ∷ 0 ∷ 0 ∷ []) || (bytes_eq a.octets (255 ∷ 255 ∷ 255 ∷ 255 ∷ [])
+    || is_between 224 239 (get_or a.octets 0 0))
+is_no_endpoint (Ip.V6 a) =
+    bytes_eq a.segments (0 ∷ 0 ∷ 0 ∷ 0 ∷ 0 ∷ 0 ∷ 0 ∷ 0 ∷ [])
+    || is_between 65280 65535 (get_or a.segments 0 0)
+
+-- the address of an endpoint, where addresses in targets are taken
 abbrev pub literal : Bool → IpAddr → Option IpAddr
-literal taken address = if taken then Some address else None
+literal taken address = if taken && not (is_no_endpoint address) then Some address else None
 
 abbrev pub host_address : Lines → Host → Option IpAddr
 host_address d (Name name) = address_in d.lines name

@@ -1,7 +1,7 @@
 //! The addresses of hosts.
 
 ghost use Rattle.std.specs.Prelude.{◌≡◌};
-ghost use Rattle.uri_map.specs.Peers.{peer_in, literal};
+ghost use Rattle.uri_map.specs.Peers.{is_no_endpoint, literal, peer_in};
 
 use crate::peer::Peer;
 use crate::target::{Host, Target};
@@ -68,11 +68,15 @@ impl Directory {
         self.literals
     }
 
-    /// The address, where addresses that stand in targets are taken.
+    /// The address, where addresses that stand in targets are taken, and this is an endpoint's.
     fn literal(&self, address: IpAddr) -> Option<IpAddr>
         ensures { result ≡ literal self.now.literals address }
     {
-        if self.literals { Some(address) } else { None }
+        if self.literals && !is_no_endpoint(&address) {
+            Some(address)
+        } else {
+            None
+        }
     }
 
     /// The address of a name in lower case.
@@ -85,6 +89,22 @@ impl Directory {
             }
         }
         None
+    }
+}
+
+/// Whether no endpoint has the address: it is unspecified, the broadcast address, or a group's.
+fn is_no_endpoint(address: &IpAddr) -> bool
+    ensures { result ≡ is_no_endpoint address.now }
+{
+    match address {
+        IpAddr::V4(address) => {
+            let octets = address.octets();
+            octets == [0; 4] || octets == [255; 4] || (224..=239).contains(&octets[0])
+        }
+        IpAddr::V6(address) => {
+            let segments = address.segments();
+            segments == [0; 8] || segments[0] >= 0xff00
+        }
     }
 }
 
