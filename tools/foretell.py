@@ -413,7 +413,7 @@ def media_of(value):
 
 def format_in(values):
     """The content format of a body."""
-    if any(it.lower() != "identity" for it in values["content-encoding"]):
+    if any(it.strip(" \t").lower() not in ("", "identity") for value in values["content-encoding"] for it in value.split(",")):
         raise Refused("media", 415)
     if not values["content-type"]:
         return None

@@ -22,7 +22,7 @@ use Rattle.media_map.specs.Texts.{joined}
 use Rattle.media_map.specs.Formats.{format_at}
 use Rattle.media_map.specs.Accepting.{accept_at, route_at}
 use Rattle.http_header.specs.HeaderMap.{get, get_all}
-use Rattle.http_edge.specs.Lists.{same_name}
+use Rattle.http_edge.specs.Lists.{has_other}
 use Rattle.http_edge.specs.Requests.{Content as HttpRequest}
 use Rattle.http_edge.specs.Kinds.{status_of}
 use Rattle.ask_model.specs.declared.cause.Cause.{Cause}
@@ -88,10 +88,11 @@ abbrev pub typing_by : Rules → Option (List ℕ) → Typing
 typing_by s None = Untyped
 typing_by s (Some value) = typing_along s.policy value (route_at s.routes value)
 
--- A content coding, which CoAP has no option for (RFC 9110 section 8.4). `identity` names none.
+-- A content coding, which CoAP has no option for (RFC 9110 section 8.4). `identity` names none, nor
+-- does an empty list.
 abbrev pub is_coded : HttpRequest → Bool
 is_coded r =
-    list_any (λ v. not (same_name v.bytes (codes "identity")))
+    list_any (λ v. has_other v.bytes (codes "identity"))
     (get_all r.fields (codes "content-encoding"))
 
 -- An empty body has no format, and its Content-Type isn't read. Of several the first counts. What a

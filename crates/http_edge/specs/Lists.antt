@@ -1,5 +1,5 @@
 -- Fields by name, and lists in their values (RFC 9110, sections 5.1 and 5.6.1).
-use Rattle.std.specs.Prelude.{ℕ, List, [], ◌∷◌, Bool, ◌==◌, ◌&&◌, if◌then◌else◌, bytes_eq}
+use Rattle.std.specs.Prelude.{ℕ, List, [], ◌∷◌, length, Bool, not, ◌==◌, ◌&&◌, if◌then◌else◌, bytes_eq}
 use Rattle.std.specs.List.{list_any, slice_split}
 use Rattle.http_header.specs.Token.{lowercase}
 use Rattle.httparse.specs.Grammar.{trim_ows}
@@ -17,6 +17,14 @@ named name (f ∷ fields) = if same_name f.0 name then f.1 ∷ named name fields
 unfoldable pub has_member : List ℕ → List ℕ → Bool
 has_member bytes member =
     list_any (λ part. same_name (trim_ows part) member) (slice_split (λ b. b == 44) bytes)
+
+-- The list has another member than this; an empty one is none.
+abbrev pub is_other : List ℕ → List ℕ → Bool
+is_other member part = not (length part == 0) && not (same_name part member)
+
+unfoldable pub has_other : List ℕ → List ℕ → Bool
+has_other bytes member =
+    list_any (λ part. is_other member (trim_ows part)) (slice_split (λ b. b == 44) bytes)
 
 -- The field has that name and lists the member.
 abbrev pub field_lists : List ℕ → List ℕ → List ℕ × List ℕ → Bool

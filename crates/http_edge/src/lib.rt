@@ -28,5 +28,6 @@ pub use edge::Edge;
 pub use laws::{
     however_cut, none_held_back, reading_goes_on, reading_is_one, unread_is_one, waits_only,
 };
+pub use lists::has_other;
 pub use memory::Memory;
 pub use request::{BadKind, Incoming, Request, Version};

@@ -47,3 +47,18 @@ pub fn has_member(list: &[u8], member: &[u8]) -> bool
     list.split(|&b| b == b',')
         .any(|part| is_named(trimmed(part), member))
 }
+
+/// It is another member than this, in any case; an empty one is none.
+fn is_other(part: &[u8], member: &[u8]) -> bool
+    ensures { result ≡ spec.is_other member.now part.now }
+{
+    !part.is_empty() && !is_named(part, member)
+}
+
+/// The list has another member than this, in any case. Empty ones don't count.
+pub fn has_other(list: &[u8], member: &[u8]) -> bool
+    ensures { result ≡ spec.has_other list.now member.now }
+{
+    list.split(|&b| b == b',')
+        .any(|part| is_other(trimmed(part), member))
+}

@@ -2,7 +2,7 @@
 
 ghost use Rattle.std.specs.Prelude.{◌≡◌, ◌≢◌, ◌∷◌, ◌++◌, codes, Some, Ok, Err, OnOk, IfOk, IfErr, option_map, if◌then◌else◌};
 ghost use Rattle.http_header.specs.Token.{lowercase};
-ghost use Rattle.http_edge.specs.Lists.{same_name};
+ghost use Rattle.http_edge.specs.Lists.{has_other as has_other_member};
 ghost use Rattle.http_edge.specs.Requests.{content};
 ghost use Rattle.media_map.specs.Formats.{format_at};
 ghost use Rattle.ask_model.specs.Views.{rules_of};
@@ -10,7 +10,7 @@ ghost use Rattle.ask_model.specs.Maps.{first_value as first_value_of, one_value 
 ghost use Rattle.http_mapping.specs.Typings.{typing_shown, IsAlong};
 
 use ask_model::Settings;
-use http_edge::{Memory, Request};
+use http_edge::{Memory, Request, has_other};
 use http_header::{ACCEPT, HeaderName};
 use media_map::{Form, MediaFault, Policy, Wanted, accept_of, format_of, route_of};
 use std::alloc::Global;
@@ -37,11 +37,11 @@ fn first_value<'a>(request: &'a Request, name: &'static str) -> Option<&'a [u8]>
     Some(value.as_bytes())
 }
 
-/// Whether a Content-Encoding says that there is none.
-fn is_identity(value: &[u8]) -> bool
-    ensures { result ≡ same_name value.now (codes "identity") }
+/// Whether a Content-Encoding names a coding.
+fn names_coding(value: &[u8]) -> bool
+    ensures { result ≡ has_other_member value.now (codes "identity") }
 {
-    value.eq_ignore_ascii_case("identity".as_bytes())
+    has_other(value, "identity".as_bytes())
 }
 
 /// Whether the body is in a content coding (RFC 9110, section 8.4).
@@ -49,7 +49,7 @@ fn is_coded(request: &Request) -> bool
     ensures { result ≡ coded (content request.now) }
 {
     'each: for value in request.fields.get_all("content-encoding") {
-        if !is_identity(value.as_bytes()) {
+        if names_coding(value.as_bytes()) {
             return true;
         }
     }
