@@ -75,7 +75,7 @@ A gateway from HTTP/1.1 to CoAP.
 
 Exit status: 0 done; 1 a line of the input, or the settings, were refused; 2 wrong arguments;
 3 a file can't be read, an address can't be taken, a device failed, or memory ran out.
-docs/RUNNING.md says how to run the gateway, docs/FORMATS.md has the formats of scripts and settings,
+docs/operate/ says how to run the gateway, docs/formats.md has the formats of scripts and settings,
 and examples/ has some of both.";
 
 /// What `--version` prints.

@@ -1,4 +1,4 @@
-//! The lines of entries (`docs/FORMATS.md`, "Journal lines").
+//! The lines of entries (`docs/formats.md`, "Journal lines").
 
 use crate::hiding::{Payloads, hidden};
 use crate::unwritten::{Unwritten, written};

@@ -2,7 +2,7 @@
 
 use std::alloc::Global;
 
-/// Entries of the journal, as lines (`docs/FORMATS.md`, "Journal lines").
+/// Entries of the journal, as lines (`docs/formats.md`, "Journal lines").
 #[derive(Drop)]
 pub struct Excerpt {
     /// each ended by LF
