@@ -79,7 +79,7 @@ docs/operate/ says how to run the gateway, docs/formats.md has the formats of sc
 and examples/ has some of both.";
 
 /// What `--version` prints.
-const VERSION: &str = "hcproxy 0.1.0";
+const VERSION: &str = "hcproxy 0.2.0";
 
 /// Reads the words after the program's name.
 fn words<R: Env + AllocGlobal>(rt: &R) -> Result<Vec<String>, Report<'static>> {
