@@ -49,7 +49,7 @@ abbrev is_again : Deed → Bool
 is_again (Sends p b None) = true
 is_again d = false
 
-one-of : (i a : ℕ) → lies_in (a ∷ []) i ≡ true → i ≡ a
+pub one-of : (i a : ℕ) → lies_in (a ∷ []) i ≡ true → i ≡ a
 one-of i a e = elim (or_cases (eqb i a) false e) [ inl w ↦ eqb-same i a w | inr w ↦ absurd (false≢true w) ]
 
 two-of : (i a b : ℕ) → lies_in (a ∷ b ∷ []) i ≡ true → (i ≡ a) ⊎ (i ≡ b)

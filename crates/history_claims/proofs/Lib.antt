@@ -52,11 +52,13 @@ mod AtHand
 mod Accounted
 mod Again
 mod InTurn
+mod Remaining
 mod Owned
 mod Current
 mod InOrder
 mod Replied
 mod InWorked
+mod InDeleted
 mod Observed
 mod InCopies
 mod InRenewed

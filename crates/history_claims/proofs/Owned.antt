@@ -10,9 +10,10 @@ use Rattle.history_laws.specs.Exchanges.{Begun, begun}
 use Rattle.history_laws.specs.Justified.{Legal}
 use Rattle.history_laws.specs.Laws.{IsFirst, IsSending, IsPart, WritesInOrder, block_sent}
 use Rattle.history_claims.specs.Headline.{IsAsked, IsFirstSending, IsSentFor, IsResponse, IsOpen}
-use Rattle.history_claims.specs.Order.{IsSendingFor, IsSentAsSaid, CanBeSpared, AreSentFor}
+use Rattle.history_claims.specs.Order.{SaysMore, IsSendingFor, IsSentAsSaid, CanBeSpared, AreSentFor}
 use Rattle.history_claims.proofs.AtHand.{spared-in}
 use Rattle.history_claims.proofs.Pending.{sent-open}
+use Rattle.history_claims.proofs.Remaining.{more-left, says-more}
 use Rattle.history_claims.proofs.Replied.{replied}
 use Rattle.history_claims.proofs.Sending.{first-entry, first-of, sent-block, sent-in}
 use Rattle.history_laws.proofs.CallerLemmas.{asking-plain}
@@ -59,12 +60,13 @@ module _ (l : List Noted) (legal : Legal l) (o : ℕ) (b : Begun) (opened : begu
       (((j : ℕ) → IsSendingFor (entries l) (owner_in l) w j → i ≤ j) × (offset_in (block_in l i) ≡ 0))
       ⊎ ((j : ℕ) × IsSendingFor (entries l) (owner_in l) w j × (j < i)
       × ((k : ℕ) → IsSendingFor (entries l) (owner_in l) w k → k < i → k ≤ j)
-      × (offset_in (block_in l j) + length (carried_by b.request.method (block_in l j) b.request.body) ≡ offset_in (block_in l i)))
+      × (offset_in (block_in l j) + length (carried_by b.request.method (block_in l j) b.request.body) ≡ offset_in (block_in l i))
+      × (offset_in (block_in l i) < length b.request.body))
 
-  series-of : (i : ℕ) → owner_in l i ≡ o → IsPart l o b.request i → Series i o
-  series-of i own (inl first) =
+  series-of : (i : ℕ) → owner_in l i ≡ o → b.request.method ≢ 1 → IsSending l o i → IsPart l o b.request i → Series i o
+  series-of i own write sends (inl first) =
       inl (λ j s. first.0 j (sending-from j s), ap offset_in (block-is i own) ∙ first.1)
-  series-of i own (inr later) =
+  series-of i own write sends (inr later) =
       let j : ℕ = later.0 in
       let s = sending-to j later.1 in
       let there = block-is j s.0 in
@@ -75,6 +77,8 @@ module _ (l : List Noted) (legal : Legal l) (o : ℕ) (b : Begun) (opened : begu
         λ k h lt. later.3 k (sending-from k h) lt,
         ap (λ (c : Option Block). offset_in c + length (carried_by b.request.method c b.request.body)) there
             ∙ (later.4 ∙ ap offset_in (sym (block-is i own))),
+        subst (λ (c : Option Block). offset_in c < length b.request.body) (sym (block-is i own))
+            (more-left l o b legal opened write i sends j later.1 later.2),
       )
 
 sent-as-said : WritesInOrder → (l : List Noted) → Legal l → (i t : ℕ) (p : Peer) (m : Content) → IsFirstSending (entries l) i t p m
@@ -91,12 +95,14 @@ sent-as-said law l legal i t p m f =
       part = it.block;
       sent_for = subst (λ (o : ℕ). IsSentFor (entries l) o b.request it.block i m) (sym own) it.sent_for;
       series = λ write.
-          let so = law l t o i p m b legal it.opened write first.1 in
-          let asks = so.0 ∙ (ap (λ (c : Option Block). block_message b.request c m.mid m.token) (sym (block-is l legal o b it.opened i own))
+          let whole = law l t o i p m b legal it.opened write first.1 in
+          let asks = whole.0 ∙ (ap (λ (c : Option Block). block_message b.request c m.mid m.token) (sym (block-is l legal o b it.opened i own))
           ∙ sym (asking-plain b.request (block_in l i) m.mid m.token)) in (
             subst (λ (o : ℕ). IsSentFor (entries l) o b.request (block_in l i) i m) (sym own)
                 (sent-block (entries l) o b.request it.block (block_in l i) i m (Plainly, asks) it.sent_for),
-            subst (Series l legal o b it.opened i) (sym own) (series-of l legal o b it.opened i own so.1),
+            subst (Series l legal o b it.opened i) (sym own) (series-of l legal o b it.opened i own write (t, p, m, first.1) whole.1),
+            subst (λ (c : Option Block). SaysMore c b.request.body) (sym (block-is l legal o b it.opened i own))
+                (says-more l o b legal it.opened write i (t, p, m, first.1)),
           );
     }
 

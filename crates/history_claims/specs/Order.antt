@@ -1,12 +1,12 @@
 -- What goes out, and in which order: said of a journal's entries alone, and of its own sendings.
-use Rattle.std.specs.Prelude.{◌≡◌, ◌≢◌, ◌⊎◌, ℕ, ◌+◌, ◌*◌, ◌^◌, ◌<◌, ◌≤◌, List, length, Option, Some, None}
+use Rattle.std.specs.Prelude.{◌≡◌, ◌≢◌, ◌⊎◌, ℕ, ◌+◌, ◌*◌, ◌^◌, ◌<◌, ◌≤◌, List, length, Option, Some, None, ⊤, nat_lt}
 use Rattle.std.specs.List.{Contains}
 use Rattle.limits.specs.declared.TheConstants.{MAX_RETRANSMIT, MESSAGE_ID_LIFETIME}
 use Rattle.coap_codec.specs.declared.message.MsgType.{MsgType}
 use Rattle.coap_codec.specs.declared.message.MsgType.TheVariants.{Ack, Rst}
 use Rattle.coap_codec.specs.declared.block.Block.{Block}
 use Rattle.coap_codec.specs.Spelling.{Content, Spells}
-use Rattle.blockwise.specs.Reading.{offset_in}
+use Rattle.blockwise.specs.Reading.{offset_in, size_of}
 use Rattle.uri_map.specs.declared.peer.Peer.{Peer}
 use Rattle.ask_model.specs.Requests.{CoapRequest, Requests, carried_by}
 use Rattle.journal_book.specs.Entries.{Grounds, Sends, Hears, Passes, Answers, Written}
@@ -23,15 +23,23 @@ IsSendingFor h owner w i =
     (owner i ≡ w) × (t : ℕ) × (p : Peer) × (m : Content) × IsFirstSending h i t p m
 
 -- It is the first one for its ask, and begins with the first byte of the body, or it begins where
--- the one before it ends (RFC 7959 section 2.3): each brings this block of the body, or all of it.
+-- the one before it ends, which wasn't the last (RFC 7959 section 2.3): each brings this block of
+-- the body, or all of it.
 abbrev pub IsInSeries
     : List Written → (ℕ → ℕ) → (ℕ → Option Block) → CoapRequest → ℕ → Type 0
 IsInSeries h owner block q i =
     (((j : ℕ) → IsSendingFor h owner (owner i) j → i ≤ j) × (offset_in (block i) ≡ 0))
     ⊎ ((j : ℕ) × IsSendingFor h owner (owner i) j × (j < i)
     × ((k : ℕ) → IsSendingFor h owner (owner i) k → k < i → k ≤ j)
-    × (offset_in (block j) + length (carried_by q.method (block j) q.body)
-    ≡ offset_in (block i)))
+    × (offset_in (block j) + length (carried_by q.method (block j) q.body) ≡ offset_in (block i))
+    × (offset_in (block i) < length q.body))
+
+-- A block has one of seven sizes, and says whether more of the body follows it (RFC 7959 section
+-- 2.2).
+abbrev pub SaysMore : Option Block → List ℕ → Type 0
+SaysMore None body = ⊤
+SaysMore (Some b) body =
+    (b.szx < 7) × (b.more ≡ nat_lt (offset_in (Some b) + size_of b.szx) (length body))
 
 -- The entry i first sent the message for what was begun in another one and was open then: for what
 -- that asks for, or a block of it. What is sent for a write is that write, or its body in blocks,
@@ -45,6 +53,7 @@ pub record IsSentAsSaid
   pub sent_for : IsSentFor h (owner i) request part i m
   pub series : request.method ≢ 1
       → IsSentFor h (owner i) request (block i) i m × IsInSeries h owner block request i
+      × SaysMore (block i) request.body
 
 -- The ask k can be answered by what is stored, or can wait for what is asked for another.
 abbrev pub CanBeSpared : List Written → ℕ → ℕ → CoapRequest → Type 0

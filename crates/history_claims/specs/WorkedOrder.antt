@@ -1,8 +1,11 @@
 -- Worked journals, as entries: what is asked once, and goes out in order, and what isn't so.
-use Rattle.std.specs.Prelude.{List, [], ◌∷◌, Some}
-use Rattle.journal_book.specs.Entries.{Sends}
-use Rattle.history_laws.specs.Readings.{Noted, First, entries, noted}
-use Rattle.history_laws.specs.Worked.{server}
+use Rattle.std.specs.Prelude.{ℕ, List, [], ◌∷◌, ◌++◌, Some, codes}
+use Rattle.coap_codec.specs.declared.message.MsgType.TheVariants.{Ack}
+use Rattle.coap_codec.specs.Spelling.{Content}
+use Rattle.ask_model.specs.Requests.{CoapRequest, request_message}
+use Rattle.journal_book.specs.Entries.{Opens, Asks, Sends, Hears}
+use Rattle.history_laws.specs.Readings.{Noted, Plain, Begins, First, Says, entries, noted, unobserved}
+use Rattle.history_laws.specs.Worked.{server, asks, ask_for, host, con, ack, token, message}
 use Rattle.history_laws.specs.WorkedMessages as M
 use Rattle.history_laws.specs.WorkedCopies as W
 use Rattle.history_laws.specs.WorkedStore as K
@@ -48,3 +51,25 @@ CopiedEarly = AreInOrder (entries M.copied_early) → ⊥
 
 abbrev pub NotWaited : Type 0
 NotWaited = AreInOrder (entries M.not_waited) → ⊥
+
+-- Nor a DELETE sent once more, under another token, after its response.
+abbrev pub delete_light : CoapRequest
+delete_light = asks 4 (codes "light") []
+
+abbrev pub delete_bytes : ℕ → List ℕ
+delete_bytes n = con 4 n n ++ (host ++ (133 ∷ codes "light"))
+
+abbrev pub deletes : ℕ → Content
+deletes n = request_message delete_light n (token n)
+
+abbrev pub sent_twice : List Noted
+sent_twice =
+    noted 700 (Sends server (delete_bytes 1) (Some 2000)) (First 1 (deletes 1))
+    ∷ noted 700 (Hears server (ack 66 0 0)) (Says (message Ack 66 0 0 [] []) (Some 2) unobserved)
+    ∷ noted 0 (Sends server (delete_bytes 0) (Some 2000)) (First 1 (deletes 0))
+    ∷ noted 0 (Asks 0 (ask_for delete_light)) (Begins delete_light)
+    ∷ noted 0 (Opens 0) Plain
+    ∷ []
+
+abbrev pub SentTwice : Type 0
+SentTwice = AreSentFor (entries sent_twice) → ⊥

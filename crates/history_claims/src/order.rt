@@ -8,6 +8,7 @@ ghost use Rattle.history_claims.specs.WorkedOrder.{
   CopiedEarly,
   InOrder,
   NotWaited,
+  SentTwice,
   ServedAgain,
   Waited,
 };
@@ -41,11 +42,13 @@ pub fn worked_once()
 {}
 
 /// A message that is copied while another waits, and a body in two pieces. And what isn't so: a
-/// copy before it is due, and a message while another is on its way.
+/// copy before it is due, a message while another is on its way, and a DELETE that goes out once
+/// more after its response.
 pub fn worked_order()
     ensures in_order { InOrder }
     ensures early { CopiedEarly }
     ensures at_once { NotWaited }
+    ensures twice { SentTwice }
 {
     // Its contract says what a write sends.
     writes_in_order();
