@@ -13,6 +13,7 @@ use Rattle.history_claims.proofs.Apart.{ids-once}
 use Rattle.history_claims.proofs.Current.{current}
 use Rattle.history_claims.proofs.InTurn.{in-turn}
 use Rattle.history_claims.proofs.Owned.{are-sent-for}
+use Rattle.history_claims.proofs.Shared.{replies-once}
 
 abbrev Accounted : List Written → Type 0
 Accounted h = (i t : ℕ) (p : Peer) (b : List ℕ) (w : Option ℕ) → IsEntry h i t (Sends p b w) → IsAccounted h i p b w
@@ -32,5 +33,6 @@ in-order law h s =
       in_turn = subst InTurn s.entries_are (in-turn s.reading s.legal);
       ids = λ i j u t p m n. ids-once h i j u t p m n s;
       copies = subst Copies s.entries_are (sent-again s.reading s.legal);
+      replies = λ i j t u c d k o n g e. replies-once h i j t u c d k o n g e s;
       current = current h s;
     }

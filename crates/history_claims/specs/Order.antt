@@ -15,6 +15,7 @@ use Rattle.history_laws.specs.Justified.{Stands}
 use Rattle.history_laws.specs.Grounds.{replies_in}
 use Rattle.history_claims.specs.Headline.{IsEntry, IsAsked, IsFirstSending, WasFirstSent, IsSentFor, IsHeard, IsResponse, IsOpen, IsWriteAnswer}
 use Rattle.history_claims.specs.Causes.{AreCopies}
+use Rattle.history_claims.specs.Apart.{AreSameGets}
 use Rattle.history_claims.specs.Once.{IsAtHand, CanWaitFor}
 
 -- The entry first sent a message for the ask w, as this table says.
@@ -156,6 +157,10 @@ pub record AreInOrder (h : List Written) : Type 0 where
   -- a message is sent five times at most, and no copy before it is due
   pub copies : (i t timeout : ℕ) (p : Peer) (bytes : List ℕ)
       → IsEntry h i t (Sends p bytes (Some timeout)) → IsSentAgain h p bytes timeout i t
+  -- a reply is part of the answer to one ask, or to GETs for the same, live or kept
+  pub replies : (i j s t c d k o n : ℕ) (g e : Grounds) → IsEntry h i s (Answers c k g)
+      → IsEntry h j t (Answers d o e) → Contains (replies_in g) n → Contains (replies_in e) n
+      → (k ≡ o) ⊎ AreSameGets h k o
   -- no answer to a GET, live or kept, rests on a message from before the answer to a write to the
   -- resource, where that answer came before the ask
   pub current : (n t c k s w j : ℕ) (g : Grounds) (q : CoapRequest)
