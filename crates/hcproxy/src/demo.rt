@@ -7,8 +7,8 @@ use command_line::{
     COAP_PORT, DEVICE, Demonstration, GATEWAY, Report, WEB_PORT, WINDOW_PORT, followed, loopback,
 };
 use device_server::DevicePort;
-use gateway_server::{NoArchive, Options, Ports};
 use log::Log;
+use loop_system::{NoArchive, Options, Ports};
 use proxy_settings::{Device, Part, Setup};
 use server_faults::{DeviceFault, ServeFault};
 use std::alloc::Global;
@@ -64,9 +64,8 @@ pub fn run_demo<
     if !start_device(rt, port, device) {
         return Report::serve(ServeFault::Thread);
     }
-    let options = Options::default();
-    let alloc = rt.alloc();
-    let fault = gateway_server::run(noted(rt), alloc, ports, settings, options, NoArchive);
+    let (notes, alloc, options) = (noted(rt), rt.alloc(), Options::default());
+    let fault = loop_system::run(&rt, notes, alloc, ports, settings, options, NoArchive);
     Report::serve(fault)
 }
 
