@@ -13,7 +13,10 @@ _hcproxy() {
           *)
             words="--journals --access --idle --status --loop --threads" paths=-f
             [[ $given != *" --status "* ]] || words+=" --status-bodies"
-            [[ $given != *" --threads "* && $given != *" --loop "* ]] || words=${words/ --loop --threads/}
+            # threads take --idle alone
+            [[ ! $given =~ \ --(loop|journals|access|status)\  ]] || words=${words/ --threads/}
+            [[ $given != *" --loop "* ]] || words=${words/ --loop/}
+            [[ $given != *" --threads "* ]] || words="--idle"
             ;;
         esac
         ;;

@@ -23,7 +23,8 @@ pub struct Serving<'a> {
     pub status: Option<Peer>,
     /// what datagrams carry is shown there too
     pub bodies: bool,
-    /// one loop serves all connections, in place of a thread for each
+    /// one loop serves all connections, in place of a thread for each, which keeps no journals, notes
+    /// no answers and doesn't show how it does
     pub looped: bool,
 }
 
@@ -91,6 +92,19 @@ impl<'a> Words<'a> {
         }
         Ok(words)
     }
+
+    /// The first of them that goes with the loop alone.
+    fn of_the_loop(&self) -> Option<&'static str> {
+        if self.journals.is_some() {
+            Some(Flag::Journals.word())
+        } else if self.access {
+            Some("--access")
+        } else if self.status.is_some() {
+            Some(Flag::Status.word())
+        } else {
+            None
+        }
+    }
 }
 
 /// An address and a port.
@@ -110,8 +124,8 @@ fn seconds_of(word: &str) -> Result<u64, Wrong<'_>> {
 }
 
 /// What the words after `serve` ask for: `[FILE] [--journals FOLDER] [--access] [--idle SECONDS]
-/// [--status ADDRESS:PORT [--status-bodies]] [--loop | --threads]`, in any order. Where no form is
-/// named, it is the loop.
+/// [--status ADDRESS:PORT [--status-bodies]] [--loop]`, or `[FILE] [--idle SECONDS] --threads`, in
+/// any order. Where no form is named, it is the loop.
 pub fn serving_of(words: &[String]) -> Result<Serving<'_>, Wrong<'_>> {
     let mut so_far = Words {
         settings: None,
@@ -132,6 +146,11 @@ pub fn serving_of(words: &[String]) -> Result<Serving<'_>, Wrong<'_>> {
     if so_far.bodies && so_far.status.is_none() {
         return Err(Wrong::Alone("--status-bodies", "--status"));
     }
+    let looped = so_far.form != Some(Form::Threads);
+    match so_far.of_the_loop() {
+        Some(word) if !looped => return Err(Wrong::Not(word, "--threads")),
+        _ => {}
+    }
     Ok(Serving {
         settings: so_far.settings,
         journals: so_far.journals,
@@ -139,6 +158,6 @@ pub fn serving_of(words: &[String]) -> Result<Serving<'_>, Wrong<'_>> {
         idle: so_far.idle,
         status: so_far.status,
         bodies: so_far.bodies,
-        looped: so_far.form != Some(Form::Threads),
+        looped,
     })
 }

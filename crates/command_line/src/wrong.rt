@@ -15,6 +15,8 @@ pub enum Wrong<'a> {
     After(&'a str),
     /// The first goes with the second alone.
     Alone(&'static str, &'static str),
+    /// The first doesn't go with the second.
+    Not(&'static str, &'static str),
     /// No address and port.
     Address(&'a str),
     /// No number of seconds for which a client may stand still.
@@ -29,6 +31,7 @@ impl fmt::Display for Wrong<'_> {
             Wrong::Word(word) => write!(f, "{word}: not taken here"),
             Wrong::After(word) => write!(f, "{word}: what comes after it is missing"),
             Wrong::Alone(word, other) => write!(f, "{word}: only with {other}"),
+            Wrong::Not(word, other) => write!(f, "{word}: not with {other}"),
             Wrong::Address(word) => write!(f, "{word}: no address and port, as 127.0.0.1:8080 is"),
             Wrong::Idle(word) => write!(f, "--idle {word}: no number of seconds from 1 to 86400"),
         }

@@ -5,40 +5,10 @@ ghost use Rattle.std.specs.Prelude.{◌≤◌, vec_len};
 use journal_book::{Event, Journal};
 use std::alloc::{AllocError, Global};
 use std::sync::Condvar;
-use std::sync::atomic::{AtomicU64, Ordering};
 use transformers::Relation;
 
 /// As many as connections may be open.
 const BELLS: usize = 256;
-
-/// A bell of connections of which hardly two are open at a time.
-#[derive(Drop)]
-pub struct Bell {
-    pub rings: Condvar,
-    /// the connection that was let go last, counted from 1, or 0
-    gone: AtomicU64,
-}
-
-impl Bell {
-    /// A bell of connections of which none was let go.
-    fn new() -> Bell {
-        Bell {
-            rings: Condvar::new(),
-            gone: AtomicU64::new(0),
-        }
-    }
-
-    /// Nobody waits for an answer on this connection any more.
-    pub fn let_go(&self, conn: u32) {
-        self.gone.store(u64::from(conn) + 1, Ordering::SeqCst);
-        self.rings.notify_all();
-    }
-
-    /// Whether this connection was let go.
-    pub fn has_let_go(&self, conn: u32) -> bool {
-        self.gone.load(Ordering::SeqCst) == u64::from(conn) + 1
-    }
-}
 
 /// The connection that the entry with this number answers.
 fn answered_at<R: Relation>(journal: &Journal<R>, number: usize) -> Option<u32> {
@@ -52,7 +22,7 @@ fn answered_at<R: Relation>(journal: &Journal<R>, number: usize) -> Option<u32> 
 /// hardly another one.
 #[derive(Drop)]
 pub struct Bells {
-    all: Vec<Bell>,
+    all: Vec<Condvar>,
     ghost enough: { 256 ≤ vec_len all },
 }
 
@@ -61,20 +31,20 @@ impl Bells {
     pub fn new(alloc: Global) -> Result<Bells, AllocError> {
         let mut all = Vec::with_capacity(alloc, BELLS)?;
         'each: for _ in 0..BELLS {
-            all.push(Bell::new())?;
+            all.push(Condvar::new())?;
         }
         Ok(Bells::of_all(all))
     }
 
     /// These bells.
-    fn of_all(all: Vec<Bell>) -> Bells
+    fn of_all(all: Vec<Condvar>) -> Bells
         requires { 256 ≤ vec_len all }
     {
         Bells { all }
     }
 
     /// That of a connection.
-    pub fn of(&self, conn: u32) -> &Bell {
+    pub fn of(&self, conn: u32) -> &Condvar {
         &self.all[conn as usize % BELLS]
     }
 
@@ -88,7 +58,7 @@ impl Bells {
                 if first.is_none() {
                     first = Some(conn);
                 } else {
-                    self.of(conn).rings.notify_all();
+                    self.of(conn).notify_all();
                 }
             }
         }
@@ -98,14 +68,14 @@ impl Bells {
     /// Wakes the one who waits on this connection.
     pub fn wake(&self, conn: Option<u32>) {
         if let Some(conn) = conn {
-            self.of(conn).rings.notify_all();
+            self.of(conn).notify_all();
         }
     }
 
     /// Wakes all.
     pub fn ring_all(&self) {
         'each: for bell in &self.all {
-            bell.rings.notify_all();
+            bell.notify_all();
         }
     }
 }

@@ -11,7 +11,6 @@ ghost use Rattle.gateway_desk.specs.Settled.{IsJustified, AreApart, answered};
 use crate::bells::Bells;
 use crate::clock::Clock;
 use crate::desk_state::{AllSent, ClosedPass, ClosedStub, DeskState, Heard, Ticked};
-use crate::figures::Figures;
 use crate::pass::{Pass, Stub};
 use crate::receipt::Receipt;
 use crate::report::Report;
@@ -22,9 +21,8 @@ use ask_model::Mapped;
 use exchange_core::{AskFault, OpenFault, Ticket};
 use http_edge::Memory;
 use journal_book::Journal;
-use limits::MAX_EXCHANGES;
-use std::alloc::{AllocError, Global};
-use std::sync::atomic::{AtomicBool, AtomicU64, Ordering};
+use std::alloc::Global;
+use std::sync::atomic::{AtomicBool, Ordering};
 use std::sync::ledger::Ledger;
 use std::sync::{Arc, Condvar, Mutex, Wait};
 use std::time::Duration;
@@ -41,7 +39,7 @@ const PAUSE: u64 = 50;
 /// to its answer. Whenever it is free, one reading of the journal there is legal and at rest.
 #[derive(Drop)]
 pub struct LockedDesk<R: Relation, C: Clock, L: Ledger> {
-    pub(crate) state: Mutex<DeskState<R, C, L>>,
+    state: Mutex<DeskState<R, C, L>>,
     /// wake those who wait for an answer
     bells: Bells,
     /// wakes the one who lets time go on
@@ -52,8 +50,6 @@ pub struct LockedDesk<R: Relation, C: Clock, L: Ledger> {
     full: Condvar,
     /// wakes those who wait until it is
     turned: Condvar,
-    /// how many journals were turned over: it is changed under the lock
-    turns: AtomicU64,
 }
 
 impl<R: Relation, C: Clock, L: Ledger> LockedDesk<R, C, L> {
@@ -66,7 +62,6 @@ impl<R: Relation, C: Clock, L: Ledger> LockedDesk<R, C, L> {
             closing: AtomicBool::new(false),
             full: Condvar::new(),
             turned: Condvar::new(),
-            turns: AtomicU64::new(0),
         })
     }
 
@@ -79,7 +74,6 @@ impl<R: Relation, C: Clock, L: Ledger> LockedDesk<R, C, L> {
             closing: _,
             full: _,
             turned: _,
-            turns: _,
         } = self;
         state.into_inner().into_shop()
     }
@@ -95,11 +89,6 @@ impl<R: Relation, C: Clock, L: Ledger> LockedDesk<R, C, L> {
     /// request, and no connection is opened. It takes no lock.
     pub fn is_closing(&self) -> bool {
         self.closing.load(Ordering::SeqCst)
-    }
-
-    /// How many journals were turned over before the one that there is.
-    pub(crate) fn turns(&self) -> u64 {
-        self.turns.load(Ordering::SeqCst)
     }
 
     /// Opens a connection. A desk that was shut, or whose journal is nearly full, answers that its
@@ -183,25 +172,10 @@ impl<R: Relation, C: Clock, L: Ledger> LockedDesk<R, C, L> {
     {
         let mut guard = self.state.lock(rt);
         let given = guard.turn_over(passes)?;
-        self.turns.fetch_add(1, Ordering::SeqCst);
         self.closing.store(false, Ordering::SeqCst);
         self.turned.notify_all();
         self.due.notify_one();
         Ok(given)
-    }
-
-    /// An equal journal, which shares what was asked and heard.
-    pub fn copy_journal<W: Wait>(&self, rt: &W) -> Result<Journal<R>, AllocError> {
-        let guard = self.state.lock(rt);
-        guard.journal().copy()
-    }
-
-    /// How much there is of everything. The lock is held while that is copied, for which the memory
-    /// is taken before.
-    pub fn figures<W: Wait>(&self, rt: &W, alloc: Global) -> Result<Figures, AllocError> {
-        let exchanges = Vec::with_capacity(alloc, MAX_EXCHANGES)?;
-        let guard = self.state.lock(rt);
-        guard.figures(exchanges)
     }
 
     /// Asks on the connection of a pass, and notes the ask there.
@@ -228,38 +202,30 @@ impl<R: Relation, C: Clock, L: Ledger> LockedDesk<R, C, L> {
         ticket
     }
 
-    /// Waits for the answer to a ticket. None where the desk was shut or the connection let go. It
-    /// takes no memory, and no work while it waits.
+    /// Waits for the answer to a ticket. None where the desk was shut. It takes no memory, and no
+    /// work while it waits.
     pub fn answer<W: Wait>(&self, rt: &W, ticket: Ticket<R>) -> Option<Receipt<R>>
         ensures number { IfSome result (λ r. (r.number ≡ ticket.number)
             × (r.answer.ask ≡ ticket.number)) }
         ensures request { IfSome result (λ r. arc_value r.answer.mapped ≡ arc_value ticket.mapped) }
     {
-        let conn = ticket.conn;
-        let bell = self.bells.of(conn);
+        let bell = self.bells.of(ticket.conn);
         let mut guard = self.state.lock(rt);
         for _ in rt.forever() {
             let state = &mut *guard;
             if let Some(answer) = state.collect(&ticket) {
                 return Some(Receipt::of(ticket, answer));
             }
-            if state.is_shut() || bell.has_let_go(conn) {
+            if state.is_shut() {
                 return None;
             }
-            guard = bell.rings.wait(rt, guard);
+            guard = bell.wait(rt, guard);
         }
         unreachable!()
     }
 
-    /// Lets a connection go whose client left: who waits for an answer on it waits no more. It
-    /// stays open until its pass is closed.
-    pub fn let_go<W: Wait>(&self, rt: &W, conn: u32) {
-        let _guard = self.state.lock(rt);
-        self.bells.of(conn).let_go(conn);
-    }
-
     /// Waits for the answer to a ticket, and puts its receipt last into the pass. False where the
-    /// desk was shut or the connection let go. It takes no memory, and no work while it waits.
+    /// desk was shut. It takes no memory, and no work while it waits.
     pub fn wait<W: Wait>(&self, rt: &W, pass: &mut Pass<R, L>, ticket: Ticket<R>) -> bool
         requires { 0 < pass.old.places }
         ensures kept { IsTrue result → (s : Slip) × (s.number ≡ ticket.number)

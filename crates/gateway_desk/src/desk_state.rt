@@ -13,7 +13,6 @@ ghost use Rattle.exchange_core.specs.Due.{next_tick, IsNextTick};
 ghost use Rattle.exchange_core.specs.Rotating.{IsTurned};
 ghost use Rattle.exchange_core.specs.Taking.{IsTaken, IsSent};
 ghost use Rattle.exchange_core.specs.Values.{stepped};
-ghost use Rattle.gateway_desk.specs.Figures.{AreOf};
 ghost use Rattle.gateway_desk.specs.Ledgers.{asks_of};
 ghost use Rattle.gateway_desk.specs.Lines.{made};
 ghost use Rattle.gateway_desk.specs.Resting.{rest_time, rest_until, is_sooner};
@@ -22,7 +21,6 @@ ghost use Rattle.gateway_desk.specs.Settled.{IsJustified, AreApart, answered};
 ghost use Rattle.gateway_desk.specs.Turning.{PassUntil, FillsUp, IsUnturned};
 
 use crate::clock::Clock;
-use crate::figures::Figures;
 use crate::pass::{Pass, Stub};
 use crate::report::Report;
 use crate::shop::Shop;
@@ -30,10 +28,8 @@ use crate::turning::TurnFault;
 use crate::wire::{Inbound, Unsent};
 use ask_model::Mapped;
 use exchange_core::{Answer, AskFault, OpenFault, Ticket};
-use exchange_model::Exchange;
 use http_edge::Memory;
 use journal_book::Journal;
-use std::alloc::AllocError;
 use std::marker::Model;
 use std::sync::Arc;
 use std::sync::ledger::Ledger;
@@ -328,13 +324,6 @@ impl<R: Relation, C: Clock, L: Ledger> DeskState<R, C, L> {
         ensures { result ≡ is_nearly_full self.now.shop.core.state.entries }
     {
         self.shop.is_nearly_full()
-    }
-
-    /// How much there is of everything. The exchanges come into this list.
-    pub fn figures(&self, exchanges: Vec<Exchange>) -> Result<Figures, AllocError>
-        ensures { IfOk result (λ f. AreOf f self.now.shop.core.state) }
-    {
-        self.shop.figures(exchanges)
     }
 
     /// Whether no tick has anything to do: no exchange is open and no message outstanding, or the

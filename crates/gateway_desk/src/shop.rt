@@ -17,25 +17,22 @@ ghost use Rattle.exchange_core.specs.Serving.{AreBelow, AreOlder};
 ghost use Rattle.exchange_core.specs.States.{core_of};
 ghost use Rattle.exchange_core.specs.Taking.{IsTaken, IsSent};
 ghost use Rattle.exchange_core.specs.Values.{outgoing_of, stepped};
-ghost use Rattle.gateway_desk.specs.Figures.{AreOf};
 ghost use Rattle.gateway_desk.specs.Ledgers.{asks_of};
 ghost use Rattle.gateway_desk.specs.Lines.{made};
 ghost use Rattle.gateway_desk.specs.Sending.{AreUnsent};
 ghost use Rattle.gateway_desk.specs.Settled.{IsJustified, AreApart, answered};
 ghost use Rattle.gateway_desk.specs.Turning.{PassesBy, PassUntil, FillsUp, IsUnturned};
 
-use crate::figures::{Figures, figures_of};
 use crate::pass::Pass;
 use crate::report::Report;
 use crate::settling::settled;
 use crate::turning::{TurnFault, spend_all};
 use ask_model::Mapped;
 use exchange_core::{Answer, AskFault, Core, Datagram, OpenFault, Ticket};
-use exchange_model::Exchange;
 use http_edge::Memory;
 use journal_book::Journal;
 use limits::{NEARLY_ALL_ENTRIES, NEARLY_ALL_LEN};
-use std::alloc::{AllocError, Global};
+use std::alloc::Global;
 use std::marker::Model;
 use std::sync::Arc;
 use std::sync::ledger::{Blank, Book, Ledger, Share};
@@ -228,13 +225,6 @@ impl<R: Relation, L: Ledger> Shop<R, L> {
     {
         let entries = self.core.journal().len() as u64;
         entries >= NEARLY_ALL_ENTRIES || self.core.bytes() >= NEARLY_ALL_LEN
-    }
-
-    /// How much there is of everything. The exchanges come into this list.
-    pub fn figures(&self, exchanges: Vec<Exchange>) -> Result<Figures, AllocError>
-        ensures { IfOk result (λ f. AreOf f self.now.core.state) }
-    {
-        figures_of(&self.core, exchanges)
     }
 
     /// Opens a connection and closes it at once. It costs nobody a pass.

@@ -10,8 +10,6 @@ use std::net::{Net, SocketAddr, TcpListener, TcpStream};
 pub struct Ports {
     pub(crate) listener: TcpListener,
     pub(crate) devices: DeviceSocket,
-    /// where the gateway is looked at, if it is
-    pub(crate) window: Option<TcpListener>,
 }
 
 impl Ports {
@@ -21,45 +19,12 @@ impl Ports {
         listen: SocketAddr,
         udp: SocketAddr,
     ) -> Result<Ports, ServeFault> {
-        let listener = match TcpListener::bind(rt, listen) {
-            Ok(listener) => listener,
-            Err(error) => return Err(ServeFault::Listen(listen, error)),
-        };
-        match DeviceSocket::bind(rt, udp) {
-            Ok(devices) => Ok(Ports {
-                listener,
-                devices,
-                window: None,
-            }),
-            Err(error) => Err(ServeFault::Udp(udp, error)),
-        }
-    }
-
-    /// These ports, and an address where the gateway is looked at.
-    pub fn with_window<W: Net<Listener = TcpListener, Stream = TcpStream>>(
-        self,
-        rt: &W,
-        at: SocketAddr,
-    ) -> Result<Ports, ServeFault> {
-        match TcpListener::bind(rt, at) {
-            Ok(window) => Ok(self.shown_by(window)),
-            Err(error) => Err(ServeFault::Window(at, error)),
-        }
-    }
-
-    /// These ports, and a socket at which the gateway is looked at.
-    pub fn shown_by(self, window: TcpListener) -> Ports {
-        let mut ports = self;
-        ports.window = Some(window);
-        ports
-    }
-
-    /// Where the gateway is looked at, if it is.
-    pub fn shows_at(&self) -> Option<SocketAddr> {
-        match &self.window {
-            Some(window) => window.local_addr().ok(),
-            None => None,
-        }
+        Ok(Ports {
+            listener: TcpListener::bind(rt, listen).map_err(|error| ServeFault::Listen(
+                listen, error,
+            ))?,
+            devices: DeviceSocket::bind(rt, udp).map_err(|error| ServeFault::Udp(udp, error))?,
+        })
     }
 
     /// Where connections are taken.

@@ -45,7 +45,7 @@ impl<L: Ledger> Roll<L> {
         Ok(())
     }
 
-    /// A session has begun on this connection.
+    /// A session begins on this connection.
     pub fn sit(&mut self, conn: u32, line: Arc<Line>) {
         let _ = self.seats.push(Seat { conn, line });
     }
@@ -61,59 +61,12 @@ impl<L: Ledger> Roll<L> {
         }
     }
 
-    /// Stops reading on connections whose session has waited for a request for a while. With
-    /// `longer` false, also on those that wait for the first or the rest of a request. `now` is a
-    /// moment of the monotonic clock, in milliseconds.
-    pub fn end_reading(&self, longer: bool, now: u64) {
+    /// Whether no connection is open. Those whose sessions have waited for a request for a while at
+    /// this moment of the monotonic clock, in milliseconds, are read no more.
+    pub fn is_left(&self, now: u64) -> bool {
         for seat in &self.seats {
-            seat.line.end_reading(longer, now);
+            seat.line.end_idle(now);
         }
-    }
-
-    /// Lets one client go that left while its session waits for an answer; gives its connection.
-    pub fn let_one_go(&self) -> Option<u32> {
-        let seat = self.seats.iter().find(|seat| seat.line.lets_go())?;
-        Some(seat.conn)
-    }
-
-    /// Stops reading on the connection that has waited longest for its next request, if that is at
-    /// least `least` milliseconds; or else on the one whose request has been coming longest, if
-    /// that is. Gives the connection and how long it has waited, in milliseconds.
-    pub fn end_longest(&self, now: u64, least: u64) -> Option<(u32, u64)> {
-        let (seat, time) = match self.longest(now, least, false) {
-            Some(found) => found,
-            None => self.longest(now, least, true)?,
-        };
-        seat.line.end();
-        Some((seat.conn, time))
-    }
-
-    /// The connection that has waited longest, and at least `least` milliseconds: for the rest of a
-    /// request if `rest`, otherwise for its next request.
-    fn longest(&self, now: u64, least: u64, rest: bool) -> Option<(&Seat, u64)> {
-        let mut found: Option<(&Seat, u64)> = None;
-        'each: for seat in &self.seats {
-            let Some(time) = seat.line.waits(now, rest) else {
-                continue 'each;
-            };
-            let is_longest = match found {
-                Some((_, longest)) => time > longest,
-                None => time >= least,
-            };
-            if is_longest {
-                found = Some((seat, time));
-            }
-        }
-        found
-    }
-
-    /// Whether a session runs on this connection.
-    pub fn is_seated(&self, conn: u32) -> bool {
-        self.seats.iter().any(|seat| seat.conn == conn)
-    }
-
-    /// Whether no connection is open.
-    pub fn is_empty(&self) -> bool {
         self.open == 0
     }
 

@@ -1,72 +1,67 @@
 //! The thread that turns the journal over.
 
 use crate::shared::Shared;
-use exchange_core::{OpenFault, RotateFault};
+use exchange_core::RotateFault;
 use gateway_desk::{Report, SettleFault, TurnFault, TurnReason};
-use journal_archive::Archive;
-use journal_book::Journal;
+use gateway_system::moment;
 use log::{Log, info, warn};
-use route_bank::Profile;
 use std::random::RandomSource;
 use std::rt::Clock;
 use std::sync::Wait;
 use std::sync::ledger::Ledger;
 use std::thread;
-use std::time::{Duration, Instant};
+use std::time::Duration;
 
 /// How long it is waited until those who are connected are looked at again, in milliseconds.
 const LOOK: u64 = 5;
 
-/// How often they are looked at until a request that was begun isn't waited for any longer: for ten
-/// seconds.
+/// How often they are looked at until it is noted that somebody is connected yet: for ten seconds.
 const LONGEST_LOOKS: u64 = 2_000;
 
 /// How long it is waited until a turn that was refused is tried again, in milliseconds.
 const PAUSE: u64 = 100;
 
 /// Turns the journal over each time it is nearly full, until the desk is shut. The sessions end,
-/// each with the answer to its next request; then the journal is filled up to its seal and given to
-/// the archive, and the next one begins. What comes meanwhile waits in the sockets. At its end this
-/// shuts the desk, and gives what is left to the archive.
-pub fn turn_journals<
-    W: Wait + Log + Clock + RandomSource + Drop,
-    L: Ledger,
-    A: Archive<Profile>,
-    V: Wait + Log + Clock,
->(rt: &V, shared: &Shared<W, L>, archive: &A) {
+/// each with the answer to its next request, and those that wait for one for a while; then the
+/// journal is filled up to its seal and settled, and the next one begins. What comes meanwhile waits
+/// in the sockets. At its end this shuts the desk.
+pub fn turn_journals<W: Wait + Log + Clock + RandomSource + Drop, L: Ledger, V: Wait + Log + Clock>(
+    rt: &V,
+    shared: &Shared<W, L>,
+) {
     let mut number: u64 = 1;
     for _ in rt.forever() {
-        if !turn_one(rt, shared, archive, number) {
+        if !turn_one(rt, shared, number) {
             break;
         }
         number = number.saturating_add(1);
     }
     shared.desk.shut(rt);
-    if let Ok(journal) = shared.desk.copy_journal(rt) {
-        archive.keep(number, &journal);
-    }
 }
 
 /// Turns the journal with this number over, once it is nearly full. False where it isn't any more.
-fn turn_one<
-    W: Wait + Log + Clock + RandomSource + Drop,
-    L: Ledger,
-    A: Archive<Profile>,
-    V: Wait + Log + Clock,
->(rt: &V, shared: &Shared<W, L>, archive: &A, number: u64) -> bool {
+fn turn_one<W: Clock + RandomSource + Drop, L: Ledger, V: Wait + Log + Clock>(
+    rt: &V,
+    shared: &Shared<W, L>,
+    number: u64,
+) -> bool {
     if !shared.desk.wait_full(rt) {
         return false;
     }
-    let begin = Instant::now(rt).ok();
+    let begin = moment(rt).unwrap_or(0);
     info!(rt; target: "hcproxy", "journal {number} is nearly full: connections are closed");
     if !await_end(rt, shared, number) {
         return false;
     }
-    let Some((journal, report)) = turn(rt, shared) else {
+    let Some(Report { asks, answers: _ }) = turn(rt, shared) else {
         return false;
     };
-    note_turn(rt, number, begin, report);
-    archive.keep(number, &journal);
+    let time = moment(rt).unwrap_or(0).saturating_sub(begin);
+    info!(
+        rt;
+        target: "hcproxy",
+        "journal {number} is turned over after {time} ms: {asks} requests"
+    );
     true
 }
 
@@ -82,11 +77,17 @@ fn await_end<W: Clock + RandomSource + Drop, L: Ledger, V: Wait + Log + Clock>(
         if shared.desk.is_shut(rt) {
             return false;
         }
-        if shared.is_left(rt, looks < LONGEST_LOOKS) && shared.desk.is_quiet(rt) {
+        let now = moment(rt).unwrap_or(0);
+        let is_left = shared.roll.lock(rt).is_left(now);
+        if is_left && shared.desk.is_quiet(rt) {
             return true;
         }
         if looks == LONGEST_LOOKS {
-            note_waiting(rt, number);
+            warn!(
+                rt;
+                target: "hcproxy",
+                "journal {number} isn't turned over yet: what is in hand is waited for"
+            );
         }
         looks = looks.saturating_add(1);
         thread::sleep(rt, Duration::from_millis(LOOK));
@@ -98,13 +99,13 @@ fn await_end<W: Clock + RandomSource + Drop, L: Ledger, V: Wait + Log + Clock>(
 fn turn<W: Clock + RandomSource + Drop, L: Ledger, V: Wait + Log + Clock>(
     rt: &V,
     shared: &Shared<W, L>,
-) -> Option<(Journal<Profile>, Report)> {
+) -> Option<Report> {
     for _ in rt.forever() {
         if shared.desk.is_shut(rt) {
             return None;
         }
         match try_turn(rt, shared) {
-            Ok(given) => return Some(given),
+            Ok(report) => return Some(report),
             Err(Some(why)) if is_final(why) => {
                 warn!(rt; target: "hcproxy", "the journal isn't turned over: {why}");
                 return None;
@@ -115,24 +116,20 @@ fn turn<W: Clock + RandomSource + Drop, L: Ledger, V: Wait + Log + Clock>(
     unreachable!()
 }
 
-/// Brings the journal to its seal and turns it over. None where it isn't sealed, since memory is
-/// wanted.
+/// Brings the journal to its seal and turns it over. No reason is given where it isn't sealed, since
+/// memory is wanted.
 fn try_turn<W: Clock + RandomSource + Drop, L: Ledger, V: Wait>(
     rt: &V,
     shared: &Shared<W, L>,
-) -> Result<(Journal<Profile>, Report), Option<TurnReason>> {
+) -> Result<Report, Option<TurnReason>> {
     if shared.desk.fill_up(rt).is_err() {
         return Err(None);
     }
-    let passes = shared.take_passes(rt);
+    let passes = shared.roll.lock(rt).take_passes();
     match shared.desk.turn(rt, passes) {
-        Ok(given) => {
-            shared.begin_anew();
-            Ok(given)
-        }
-        Err(fault) => {
-            let TurnFault { why, passes } = fault;
-            shared.put_back(rt, passes);
+        Ok((_journal, report)) => Ok(report),
+        Err(TurnFault { why, passes }) => {
+            shared.roll.lock(rt).put_back(passes);
             Err(Some(why))
         }
     }
@@ -144,31 +141,4 @@ fn is_final(why: TurnReason) -> bool {
         TurnReason::Rotate(fault) => fault == RotateFault::Spent,
         TurnReason::Settle(fault) => fault != SettleFault::Memory,
     }
-}
-
-/// Logs that a journal isn't turned over yet.
-fn note_waiting<V: Log>(rt: &V, number: u64) {
-    warn!(
-        rt;
-        target: "hcproxy",
-        "journal {number} isn't turned over yet: what is in hand is waited for"
-    );
-}
-
-/// Logs that a journal was turned over, and for how long nobody was served.
-fn note_turn<V: Log + Clock>(rt: &V, number: u64, begin: Option<Instant>, report: Report) {
-    let time = match begin {
-        Some(begin) => begin.elapsed(rt).ok(),
-        None => None,
-    };
-    let time = time.map_or(
-        0,
-        |time| u64::try_from(time.as_millis()).unwrap_or(u64::MAX),
-    );
-    let asks = report.asks;
-    info!(
-        rt;
-        target: "hcproxy",
-        "journal {number} is turned over after {time} ms: {asks} requests"
-    );
 }

@@ -3,51 +3,31 @@
 ghost use Rattle.std.specs.Prelude.{◌≡◌, ◌≤◌, ◌<◌, ◌∷◌, [], length, take, Ok, IfOk, OnOk, OnErr};
 ghost use Rattle.sessions.specs.Devices.{Rises, Grown};
 
-use libc::net::{POLLRDHUP, poll};
-use libc::types::pollfd;
 use sessions::{Failed, Stream};
-use std::alloc::AllocError;
 use std::io::{self, ErrorKind, Read, Write};
-use std::net::{Shutdown, SocketAddr, TcpStream};
-use std::os::fd::AsRawFd;
+use std::net::{Shutdown, TcpStream};
 use std::rt::Clock;
 use std::sync::Arc;
-use std::sync::atomic::{AtomicBool, AtomicU64, Ordering};
+use std::sync::atomic::{AtomicU64, Ordering};
 use std::time::{Duration, Instant};
 
 /// How long a client has to read its last answer, in milliseconds.
 const FAREWELL: u64 = 1000;
 
-/// How long a write of an answer may take, in milliseconds, when clients are no longer waited for.
-const LONGEST_WRITE: u64 = 10_000;
-
 /// How long a client that has just connected or was just answered has to send a request, in
 /// milliseconds, before its connection counts as idle.
 const GRACE: u64 = 100;
 
-/// The session does something else than read.
-const BUSY: u64 = 0;
+/// A moment that doesn't come.
+const NEVER: u64 = u64::MAX;
 
-/// It waits for the next request, of which nothing came yet.
-const IDLE: u64 = 1;
-
-/// It waits for the rest of a request.
-const READING: u64 = 2;
-
-/// It writes.
-const WRITING: u64 = 3;
-
-/// A TCP connection, shared by its session and the thread that closes it when it is idle.
+/// A TCP connection, shared by its session and the thread that turns the journal over.
 #[derive(Drop)]
 pub struct Line {
     stream: TcpStream,
-    /// what the session does
-    phase: AtomicU64,
-    /// in milliseconds of the monotonic clock: when it was taken, when its request began, or when
-    /// its last answer began to be written or was written
-    since: AtomicU64,
-    /// it is being closed by this side
-    ends: AtomicBool,
+    /// since when its session waits for the next request, of which nothing came yet, in milliseconds
+    /// of the monotonic clock
+    idle_since: AtomicU64,
 }
 
 /// The time of the monotonic clock, in milliseconds. None where it cannot be read.
@@ -58,75 +38,20 @@ pub fn moment<W: Clock>(rt: &W) -> Option<u64> {
 
 impl Line {
     /// A connection that was taken. Its answers go out without delay.
-    pub fn new<W: Clock>(rt: &W, stream: TcpStream) -> Line {
+    pub fn new(stream: TcpStream) -> Line {
         let _ = stream.set_nodelay(true);
         Line {
             stream,
-            phase: AtomicU64::new(BUSY),
-            since: AtomicU64::new(moment(rt).unwrap_or(u64::MAX)),
-            ends: AtomicBool::new(false),
+            idle_since: AtomicU64::new(NEVER),
         }
     }
 
-    /// The client's address.
-    pub fn address(&self) -> io::Result<SocketAddr> {
-        self.stream.peer_addr()
-    }
-
-    /// Notes that something was done on it.
-    fn touch<W: Clock>(&self, rt: &W) {
-        if let Some(now) = moment(rt) {
-            self.since.store(now, Ordering::SeqCst);
+    /// Stops reading if the session has waited for the next request for a while at this moment. What
+    /// came before is still read.
+    pub fn end_idle(&self, now: u64) {
+        if now.saturating_sub(self.idle_since.load(Ordering::SeqCst)) >= GRACE {
+            let _ = self.stream.shutdown(Shutdown::Read);
         }
-    }
-
-    /// How many milliseconds its session has waited, at this moment: for the rest of a request if
-    /// `rest`, otherwise for the next request. None where it does not wait for that.
-    pub fn waits(&self, now: u64, rest: bool) -> Option<u64> {
-        let phase = if rest { READING } else { IDLE };
-        if self.phase.load(Ordering::SeqCst) != phase {
-            return None;
-        }
-        Some(now.saturating_sub(self.since.load(Ordering::SeqCst)))
-    }
-
-    /// Lets the client go if it left while its session was not reading: true where it closed its
-    /// end or is gone, and was not let go before.
-    pub fn lets_go(&self) -> bool {
-        if self.phase.load(Ordering::SeqCst) != BUSY || self.ends.load(Ordering::SeqCst) {
-            return false;
-        }
-        let mut asked = [pollfd {
-            fd: self.stream.as_raw_fd(),
-            events: POLLRDHUP,
-            revents: 0,
-        }];
-        poll(&mut asked, 0) > 0 && !self.ends.swap(true, Ordering::SeqCst)
-    }
-
-    /// Stops reading if the session has waited for the next request for a while. With `longer`
-    /// false it stops whatever the session waits for, and an answer that has been on its way for
-    /// long is cut off. What came before is still read. `now` is in milliseconds.
-    pub fn end_reading(&self, longer: bool, now: u64) {
-        let time = now.saturating_sub(self.since.load(Ordering::SeqCst));
-        match self.phase.load(Ordering::SeqCst) {
-            IDLE if !longer || time >= GRACE => self.end(),
-            READING if !longer => self.end(),
-            WRITING if !longer && time >= LONGEST_WRITE => self.cut_off(),
-            _ => {}
-        }
-    }
-
-    /// Stops reading. What came before is still read.
-    pub fn end(&self) {
-        self.ends.store(true, Ordering::SeqCst);
-        let _ = self.stream.shutdown(Shutdown::Read);
-    }
-
-    /// Stops reading and writing, so that a write that waits fails.
-    fn cut_off(&self) {
-        self.ends.store(true, Ordering::SeqCst);
-        let _ = self.stream.shutdown(Shutdown::Both);
     }
 }
 
@@ -135,10 +60,11 @@ impl Line {
 pub struct Client<'a, W: Clock> {
     rt: &'a W,
     line: Arc<Line>,
-    /// how long a request that has begun may stand still, and how long a write of an answer may
-    /// take
+    /// how long a client has for its next request, for the rest of one, and to take an answer
     patience: Duration,
-    /// reads are limited to that time
+    /// when it was taken, its request began, or its last answer was written, in milliseconds
+    begin: u64,
+    /// a read has less than the whole of that time
     hurries: bool,
     /// a read or a write took too long
     gave_up: bool,
@@ -146,40 +72,26 @@ pub struct Client<'a, W: Clock> {
 }
 
 impl<'a, W: Clock> Client<'a, W> {
-    /// The session's end of a connection. A request that has begun may stand still for `patience`,
-    /// and a client may take as long for an answer.
+    /// The session's end of a connection. A client has the time of `patience` for its next request,
+    /// as long again for the rest of it, and as long to take the answer.
     pub fn new(rt: &'a W, line: Arc<Line>, patience: Duration) -> Client<'a, W> {
+        let _ = line.stream.set_read_timeout(Some(patience));
         let _ = line.stream.set_write_timeout(Some(patience));
         Client {
             rt,
             line,
             patience,
+            begin: moment(rt).unwrap_or(0),
             hurries: false,
             gave_up: false,
             faults: 0,
         }
     }
 
-    /// Whether the client was given up, because it stood still in a request or took too long to
+    /// Whether the client was given up, because it stood still or took too long for a request or to
     /// read an answer.
     pub fn gave_up(&self) -> bool {
         self.gave_up
-    }
-
-    /// Between two requests the client may stand still as long as it likes.
-    fn wait_so(&mut self, between: bool)
-        ensures { self.new.faults ≡ self.old.faults }
-    {
-        if self.hurries == between {
-            let time = if between { None } else { Some(self.patience) };
-            let _ = self.line.stream.set_read_timeout(time);
-            self.hurries = !between;
-        }
-    }
-
-    /// The connection, to be closed while its session waits for a request.
-    pub fn line(&self) -> Result<Arc<Line>, AllocError> {
-        Arc::try_clone(&self.line)
     }
 
     /// What a read of the socket gave: how many bytes came (0 at the end), or that it failed, which
@@ -200,36 +112,58 @@ impl<'a, W: Clock> Client<'a, W> {
         }
     }
 
-    /// What is left of the client's time for an answer that began to be written at this moment, in
-    /// milliseconds; None where nothing is.
-    fn left(&self, begin: u64) -> Option<Duration> {
-        let gone = moment(self.rt)?.saturating_sub(begin);
-        let left = self.patience.checked_sub(Duration::from_millis(gone))?;
-        (!left.is_zero()).then_some(left)
+    /// What is left of the client's time for what began last. It is late where nothing is.
+    fn left(&self) -> io::Result<Duration> {
+        let gone = match moment(self.rt) {
+            Some(now) => Duration::from_millis(now.saturating_sub(self.begin)),
+            None => self.patience,
+        };
+        match self.patience.checked_sub(gone) {
+            Some(left) if !left.is_zero() => Ok(left),
+            _ => Err(io::Error::from(ErrorKind::TimedOut)),
+        }
+    }
+
+    /// Limits the next read: between two requests to the client's time, and within one to what is
+    /// left of it.
+    fn hurry(&mut self, between: bool) -> io::Result<()>
+        ensures { self.new.faults ≡ self.old.faults }
+    {
+        if between && !self.hurries {
+            return Ok(());
+        }
+        let time = if between { self.patience } else { self.left()? };
+        self.hurries = !between;
+        self.line.stream.set_read_timeout(Some(time))
+    }
+
+    /// Another time of the client's begins.
+    fn begin_anew(&mut self)
+        ensures { self.new.faults ≡ self.old.faults }
+    {
+        if let Some(now) = moment(self.rt) {
+            self.begin = now;
+        }
     }
 
     /// Writes the bytes within the client's time. One call of the system waits for that time at
     /// most, and may then have written only a part.
     fn write_in_time(&self, bytes: &[u8]) -> io::Result<()> {
-        let begin = moment(self.rt).unwrap_or(0);
-        self.line.since.store(begin, Ordering::SeqCst);
         let rest = write_some(&self.line.stream, bytes)?;
         if rest.is_empty() {
             return Ok(());
         }
-        let written = self.write_rest(rest, begin);
+        let written = self.write_rest(rest);
         let _ = self.line.stream.set_write_timeout(Some(self.patience));
         written
     }
 
-    /// Writes the rest of an answer that began to be written at this moment. Each call of the
-    /// system would wait the whole time again, so it is given only what is left.
-    fn write_rest(&self, bytes: &[u8], begin: u64) -> io::Result<()> {
+    /// Writes the rest of an answer. Each call of the system would wait the whole time again, so it
+    /// is given only what is left.
+    fn write_rest(&self, bytes: &[u8]) -> io::Result<()> {
         let mut rest = bytes;
         'each: for _ in 0..u64::MAX {
-            let Some(left) = self.left(begin) else {
-                return Err(io::Error::from(ErrorKind::TimedOut));
-            };
+            let left = self.left()?;
             self.line.stream.set_write_timeout(Some(left))?;
             rest = write_some(&self.line.stream, rest)?;
             if rest.is_empty() {
@@ -293,28 +227,29 @@ impl<W: Clock> Stream for Client<'_, W> {
     }
 
     fn read(&mut self, buffer: &mut [u8], between: bool) -> Result<usize, Failed> {
-        self.wait_so(between);
-        let phase = if between { IDLE } else { READING };
-        self.line.phase.store(phase, Ordering::SeqCst);
+        if let Err(error) = self.hurry(between) {
+            return self.told(Err(error));
+        }
+        if between {
+            self.line.idle_since.store(self.begin, Ordering::SeqCst);
+        }
         let mut stream = &self.line.stream;
         let read = stream.read(buffer);
-        self.line.phase.store(BUSY, Ordering::SeqCst);
         if between {
-            self.line.touch(self.rt);
+            self.line.idle_since.store(NEVER, Ordering::SeqCst);
+            self.begin_anew();
         }
         self.told(read)
     }
 
     fn write(&mut self, bytes: &[u8]) -> Result<(), Failed> {
-        self.line.phase.store(WRITING, Ordering::SeqCst);
-        let written = self.write_in_time(bytes);
-        self.line.phase.store(BUSY, Ordering::SeqCst);
-        if let Err(error) = written {
+        self.begin_anew();
+        if let Err(error) = self.write_in_time(bytes) {
             self.gave_up = is_late(error.kind());
             self.faults = self.faults.saturating_add(1);
             return Err(Failed);
         }
-        self.line.touch(self.rt);
+        self.begin_anew();
         Ok(())
     }
 }

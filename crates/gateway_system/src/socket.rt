@@ -6,7 +6,6 @@ ghost use Rattle.std.specs.Net.Socket.{socket_ip, socket_port};
 use gateway_desk::{Failed, Inbound, Outbound, Wire};
 use std::io::{self, ErrorKind};
 use std::net::{Net, SocketAddr, UdpSocket};
-use std::sync::atomic::{AtomicU64, Ordering};
 use std::time::Duration;
 use uri_map::Peer;
 
@@ -18,9 +17,6 @@ const LONGEST_WAIT: u64 = 1000;
 #[derive(Drop)]
 pub struct DeviceSocket {
     socket: UdpSocket,
-    /// how many datagrams were sent, and how many came
-    sent: AtomicU64,
-    heard: AtomicU64,
 }
 
 impl DeviceSocket {
@@ -28,21 +24,7 @@ impl DeviceSocket {
     pub fn bind<W: Net>(rt: &W, at: SocketAddr) -> io::Result<DeviceSocket> {
         let socket = UdpSocket::bind(rt, at)?;
         socket.set_read_timeout(Some(Duration::from_millis(LONGEST_WAIT)))?;
-        Ok(DeviceSocket {
-            socket,
-            sent: AtomicU64::new(0),
-            heard: AtomicU64::new(0),
-        })
-    }
-
-    /// How many datagrams the system took to be sent.
-    pub fn sent(&self) -> u64 {
-        self.sent.load(Ordering::SeqCst)
-    }
-
-    /// How many datagrams came.
-    pub fn heard(&self) -> u64 {
-        self.heard.load(Ordering::SeqCst)
+        Ok(DeviceSocket { socket })
     }
 
     /// From where datagrams are sent.
@@ -56,17 +38,11 @@ impl Wire for DeviceSocket {
 
     fn send(&self, datagram: Outbound<'_>) {
         let (bytes, to) = written(&datagram);
-        if self.socket.send_to(bytes, to).is_ok() {
-            self.sent.fetch_add(1, Ordering::SeqCst);
-        }
+        let _ = self.socket.send_to(bytes, to);
     }
 
     fn receive(&self, buffer: &mut [u8]) -> Result<Option<Inbound>, Failed> {
-        let received = self.socket.recv_from(buffer);
-        if received.is_ok() {
-            self.heard.fetch_add(1, Ordering::SeqCst);
-        }
-        told(received)
+        told(self.socket.recv_from(buffer))
     }
 }
 

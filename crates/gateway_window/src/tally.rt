@@ -2,7 +2,7 @@
 
 ghost use Rattle.std.specs.Prelude.{◌≤◌, ◌<◌, length};
 
-use answer_log::Given;
+use crate::given::Given;
 use ask_model::Cause;
 use http_edge::Incoming;
 use journal_book::Grounds;

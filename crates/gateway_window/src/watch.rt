@@ -1,9 +1,9 @@
 //! What is counted for those who look at the gateway, and what they are told.
 
 use crate::figures::Figures;
+use crate::given::Given;
 use crate::shown::Shown;
 use crate::tally::{CAUSES, MOST_DEVICES, Row, Tally};
-use answer_log::Given;
 use exchange_model::Exchange;
 use server_faults::ServeFault;
 use status_page::{Connections, Device, Fill, Last, Phase, Responses, Status};

@@ -1,10 +1,10 @@
 //! The folder of journals that were turned over, each as lines in a file of its own.
 
 use crate::notes::Notes;
-use gateway_server::Archive;
 use journal_book::Journal;
 use journal_lines::{Payloads, write_entry};
 use log::{info, warn};
+use loop_system::Archive;
 use route_bank::Profile;
 use std::fs;
 use std::io::{self, BufWriter, ErrorKind, Write};

@@ -3,14 +3,11 @@
 use crate::files::serve_at;
 use crate::journals::Folder;
 use crate::notes::noted;
-use crate::serving::{folder_of, options_of, settings_of, socket_of};
 use ask_model::Settings;
-use command_line::{Report, Serving};
-use gateway_server::Options;
+use command_line::{Report, Serving, followed};
 use log::Log;
-use loop_system::{Ports, ServeFault, run};
-use proxy_settings::Serve;
-use std::net::{Net, TcpListener, TcpStream};
+use loop_system::{Options, Payloads, Ports, ServeFault, run};
+use std::net::{Net, SocketAddr, TcpListener, TcpStream};
 use std::random::RandomSource;
 use std::rt::{Clock, Files};
 use std::sync::Wait;
@@ -47,6 +44,19 @@ pub fn serve_loop<
     }
 }
 
+/// How the gateway is to run.
+pub fn options_of(serving: Serving<'_>) -> Options {
+    Options {
+        access: serving.access,
+        idle: serving.idle.unwrap_or(Options::default().idle),
+        payloads: if serving.bodies {
+            Payloads::Shown
+        } else {
+            Payloads::Hidden
+        },
+    }
+}
+
 /// Runs the gateway, and gives its journals to the folder.
 fn keep_on<
     R: Net
@@ -75,30 +85,39 @@ fn opened<
     host: HostRuntime,
     serving: Serving<'a>,
 ) -> Result<(Ports, Settings, Folder), Report<'a>> {
-    let serve = serve_at(rt, serving.settings)?;
-    let settings = settings_of(rt.alloc(), &serve)?;
+    let (settings, listen, udp) = addressed(rt, serving.settings)?;
     let folder = folder_of(host, serving.journals)?;
-    let ports = with_window(rt, ports_of(rt, &serve)?, serving.status)?;
+    let ports = Ports::bind(rt, listen, udp).map_err(Report::serve)?;
+    let ports = match serving.status {
+        Some(at) => ports.with_window(rt, socket_of(at)).map_err(Report::serve)?,
+        None => ports,
+    };
     Ok((ports, settings, folder))
 }
 
-/// The ports that the settings name, taken.
-fn ports_of<R: Net>(rt: &R, serve: &Serve) -> Result<Ports, Report<'static>> {
-    match Ports::bind(rt, socket_of(serve.listen), socket_of(serve.udp)) {
-        Ok(ports) => Ok(ports),
-        Err(fault) => Err(Report::serve(fault)),
+/// What the gateway goes by, by the settings of a file or of standard input, and which addresses it
+/// takes: of connections, and of datagrams.
+pub fn addressed<'a, R: Input + Files + AllocGlobal>(
+    rt: &R,
+    path: Option<&'a str>,
+) -> Result<(Settings, SocketAddr, SocketAddr), Report<'a>> {
+    let serve = serve_at(rt, path)?;
+    let (listen, udp) = (socket_of(serve.listen), socket_of(serve.udp));
+    match followed(rt.alloc(), &serve) {
+        Ok(settings) => Ok((settings, listen, udp)),
+        Err(_) => Err(Report::memory()),
     }
 }
 
-/// The ports, and the one where the gateway shows how it does, where it does.
-fn with_window<R: Net<Listener = TcpListener, Stream = TcpStream>>(
-    rt: &R,
-    ports: Ports,
-    at: Option<Peer>,
-) -> Result<Ports, Report<'static>> {
-    let Some(at) = at else { return Ok(ports) };
-    match ports.with_window(rt, socket_of(at)) {
-        Ok(ports) => Ok(ports),
-        Err(fault) => Err(Report::serve(fault)),
+/// The folder of this path, or none.
+fn folder_of(rt: HostRuntime, journals: Option<&str>) -> Result<Folder, Report<'_>> {
+    match Folder::new(rt, journals) {
+        Ok(folder) => Ok(folder),
+        Err(error) => Err(Report::folder(journals.unwrap_or(""), error)),
     }
+}
+
+/// The address and the port of a socket.
+fn socket_of(at: Peer) -> SocketAddr {
+    SocketAddr::new(at.address, at.port)
 }

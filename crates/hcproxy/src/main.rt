@@ -57,8 +57,9 @@ A gateway from HTTP/1.1 to CoAP.
                           Prometheus, /health, /journal. Whoever reaches the address may look
   serve FILE --status ADDRESS:PORT --status-bodies
                           .. and its journal there with what datagrams carry, which is hidden without it
-  serve FILE --threads    .. by a thread for each connection, in place of one loop for all. It takes
-                          the same words; --loop says that it isn't to
+  serve FILE --threads    .. by a thread for each connection, in place of one loop for all. Of the words
+                          above it takes --idle, which says then how long a client has for its next
+                          request, for the rest of it, and to take its answer
   replay                  runs the script on standard input through the gateway, and prints what goes out
   replay --journal        .. and then the entries of the journal
   replay --settings FILE  .. under the settings of FILE in place of those of a demonstration
@@ -133,7 +134,7 @@ fn run<
         Command::Version => printed(println!(rt; "{VERSION}")),
         Command::Demo { listen } => Err(run_demo(rt, listen)),
         Command::Serve(serving) if serving.looped => Err(serve_loop(rt, host, serving)),
-        Command::Serve(serving) => Err(serve_threads(rt, host, serving)),
+        Command::Serve(serving) => Err(serve_threads(rt, serving)),
         Command::Origin { settings } => Err(serve_device(rt, settings)),
         Command::Check { part, file } => check(&rt, part, file),
         Command::Replay { journal, settings } => replay_input(rt, settings, journal),

@@ -2,6 +2,7 @@
 
 ghost use Rattle.std.specs.Prelude.{◌≡◌};
 
+use crate::archive::Archive;
 use crate::client::Client;
 use crate::devices::Devices;
 use crate::glass::Glass;
@@ -9,7 +10,6 @@ use crate::host::Arrival;
 use crate::notes::Notes;
 use crate::shelf::Shelf;
 use gateway_loop::Loop;
-use journal_archive::Archive;
 use journal_book::Journal;
 use log::Log;
 use route_bank::Profile;

@@ -6,6 +6,7 @@
 #![tactic(auto)]
 
 mod after;
+mod archive;
 mod client;
 mod devices;
 mod figures;
@@ -16,8 +17,8 @@ mod ports;
 mod server;
 mod shelf;
 
+pub use archive::{Archive, NoArchive};
 pub use gateway_window::{Options, Payloads};
-pub use journal_archive::{Archive, NoArchive};
 pub use ports::Ports;
 pub use server::run;
 pub use server_faults::ServeFault;

@@ -3,9 +3,8 @@
 use crate::client::Client;
 use crate::devices::Devices;
 use crate::host::Arrival;
-use answer_log::{Given, Line, heading_of};
 use gateway_loop::{GivenUp, Loop, Told, Why};
-use gateway_window::Watch;
+use gateway_window::{Given, Line, Watch, heading_of};
 use journal_book::{Event, Journal};
 use log::{Log, info, warn};
 use std::alloc::{AllocError, Global};

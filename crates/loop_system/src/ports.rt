@@ -18,18 +18,15 @@ pub struct Ports {
 impl Ports {
     /// Takes both addresses. A port of 0 is one that the system chooses.
     pub fn bind<W: Net>(rt: &W, listen: SocketAddr, udp: SocketAddr) -> Result<Ports, ServeFault> {
-        let listener = match TcpListener::bind(rt, listen) {
-            Ok(listener) => listener,
-            Err(error) => return Err(ServeFault::Listen(listen, error)),
-        };
-        match UdpSocket::bind(rt, udp) {
-            Ok(socket) => Ok(Ports {
-                listener,
-                devices: Devices::new(socket),
-                window: None,
-            }),
-            Err(error) => Err(ServeFault::Udp(udp, error)),
-        }
+        let listener = TcpListener::bind(rt, listen).map_err(|error| ServeFault::Listen(
+            listen, error,
+        ))?;
+        let socket = UdpSocket::bind(rt, udp).map_err(|error| ServeFault::Udp(udp, error))?;
+        Ok(Ports {
+            listener,
+            devices: Devices::new(socket),
+            window: None,
+        })
     }
 
     /// These ports, and an address where the gateway is looked at.
@@ -38,10 +35,8 @@ impl Ports {
         rt: &W,
         at: SocketAddr,
     ) -> Result<Ports, ServeFault> {
-        match Window::bind(rt, at) {
-            Ok(window) => Ok(self.shown_by(window)),
-            Err(error) => Err(ServeFault::Window(at, error)),
-        }
+        let window = Window::bind(rt, at).map_err(|error| ServeFault::Window(at, error))?;
+        Ok(self.shown_by(window))
     }
 
     /// These ports, and a socket at which the gateway is looked at.

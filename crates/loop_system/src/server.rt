@@ -5,6 +5,7 @@ ghost use Rattle.route_bank.specs.Profiles.{profile_holds, profile_takes};
 ghost use Rattle.transformers.specs.Suits.{Suits};
 
 use crate::after::After;
+use crate::archive::Archive;
 use crate::client::Client;
 use crate::devices::Devices;
 use crate::glass::Glass;
@@ -15,7 +16,6 @@ use gateway_loop::{Gateway, Loop, Stop};
 use gateway_window::{Options, Watch, show_all};
 use gateway_world::RotateFault;
 use http_edge::Memory;
-use journal_archive::Archive;
 use log::{Log, info, warn};
 use mio::Poll;
 use route_bank::{Profile, store_for};

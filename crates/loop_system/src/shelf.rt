@@ -1,6 +1,6 @@
 //! The journals that were turned over, one after another.
 
-use journal_archive::Archive;
+use crate::archive::Archive;
 use journal_book::{Event, Journal};
 use log::{Log, info, warn};
 use route_bank::Profile;

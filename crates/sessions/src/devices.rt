@@ -4,9 +4,6 @@ ghost use Rattle.std.specs.Prelude.{ℕ, ◌≡◌, ◌≤◌, ◌<◌, ◌∷�
 ghost use Rattle.sessions.specs.Devices.{Rises, Grown, GrownPartly};
 
 use gateway_desk::Failed;
-use http_edge::Incoming;
-use journal_book::Grounds;
-use uri_map::Peer;
 
 /// A client's connection.
 pub trait Stream {
@@ -57,22 +54,7 @@ pub enum Point {
     Answered,
 }
 
-/// An answer as its client got it.
-#[derive(Clone, Copy)]
-pub struct Told<'a> {
-    /// what was asked
-    pub came: &'a Incoming,
-    /// the device that was to be asked, unless the request was refused
-    pub peer: Option<Peer>,
-    /// what the answer rests on
-    pub grounds: &'a Grounds,
-    /// the bytes that tell it
-    pub bytes: &'a [u8],
-    /// how many bytes were written; None where a write failed, after a part of them at most
-    pub count: Option<usize>,
-}
-
-/// Decides at each point whether a session goes on, and is told of each answer.
+/// Decides at each point whether a session goes on.
 pub trait Gate {
     ghost use Rattle.std.specs.Prelude.{ℕ};
 
@@ -87,10 +69,6 @@ pub trait Gate {
     fn pass(&mut self, point: Point, number: u32) -> bool
         ensures yes { IsTrue result → nays self.new ≡ nays self.old }
         ensures no { IsFalse result → Rises (nays self.old) (nays self.new) };
-
-    /// Hears of an answer, after it was written.
-    fn told(&mut self, told: &Told<'_>)
-        ensures { nays self.new ≡ nays self.old };
 }
 
 /// A gate that never says no.
@@ -107,6 +85,4 @@ impl Gate for Open {
     fn pass(&mut self, _point: Point, _number: u32) -> bool {
         true
     }
-
-    fn told(&mut self, _told: &Told<'_>) {}
 }

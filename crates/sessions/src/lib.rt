@@ -11,7 +11,7 @@ mod reading;
 mod session;
 mod writing;
 
-pub use devices::{Gate, Open, Point, Stream, Told};
+pub use devices::{Gate, Open, Point, Stream};
 pub use gateway_desk::{Failed, Inbound, Outbound, Wire};
 pub use loops::{tick_loop, udp_loop};
 pub use session::{Done, End, Gateway, serve};

@@ -14,7 +14,7 @@ ghost use Rattle.sessions.specs.Steps.{TakesRead, TellsToGoOn, EndsReading, Take
 use crate::devices::{Gate, Point, Stream};
 use crate::loops::send_due;
 use crate::reading::Reading;
-use crate::writing::{reply_of, write_continue, write_reply};
+use crate::writing::{reply_of, write_continue};
 use ask_model::Settings;
 use exchange_core::AskFault;
 use gateway_desk::{Clock, ClosedPass, LockedDesk, Pass, Wire};
@@ -42,7 +42,7 @@ pub enum End {
     Memory,
     /// The gate said no.
     Held,
-    /// The desk was shut, or the client left before its answer was there, and was let go.
+    /// The desk was shut.
     Closed,
 }
 
@@ -268,7 +268,7 @@ fn turn<R: Relation, C: Clock, L: Ledger, S: Stream, N: Wire, G: Gate, W: Wait>(
     let Ok(reply) = reply else {
         return Some(End::Memory);
     };
-    match write_reply(stream, gate, pass, reply.as_slice()) {
+    match stream.write(reply.as_slice()) {
         Ok(()) => None,
         Err(_) => Some(End::WriteFault),
     }

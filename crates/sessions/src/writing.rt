@@ -8,13 +8,12 @@ ghost use Rattle.exchange_core.specs.Answering.{given_of};
 ghost use Rattle.sessions.specs.Devices.{Rises, Grown, GrownPartly};
 ghost use Rattle.sessions.specs.Telling.{SaysAnswer, continue_text};
 
-use crate::devices::{Gate, Stream, Told};
+use crate::devices::Stream;
 use exchange_core::Answer;
-use gateway_desk::{Failed, Note, Pass};
+use gateway_desk::Failed;
 use http_edge::Memory;
 use http_mapping::render;
 use std::alloc::Global;
-use std::sync::ledger::Ledger;
 use transformers::{Bank, Relation};
 
 /// What a client that waits with its body is told (RFC 9110 section 10.1.1).
@@ -34,35 +33,6 @@ pub fn reply_of<R: Relation>(
     let age = answer.moment.saturating_sub(answer.heard);
     let bytes = render(alloc, bank, &answer.mapped, &answer.finding, age)?;
     Ok(bytes)
-}
-
-/// Writes these bytes as the reply to the request that is answered last in the pass, and tells the gate of it.
-pub fn write_reply<R: Relation, L: Ledger, S: Stream, G: Gate>(
-    stream: &mut S,
-    gate: &mut G,
-    pass: &Pass<R, L>,
-    bytes: &[u8],
-) -> Result<(), Failed>
-    ensures quiet { Grown (S.gave stream.old) (S.gave stream.new) [] }
-    ensures ok { OnOk result (
-        Grown (S.written stream.old) (S.written stream.new) bytes.now
-        × (S.count stream.new ≡ S.count stream.old)) }
-    ensures err { OnErr result (
-        GrownPartly (S.written stream.old) (S.written stream.new) bytes.now
-        × Rises (S.count stream.old) (S.count stream.new)) }
-    ensures same { G.nays gate.new ≡ G.nays gate.old }
-{
-    let written = stream.write(bytes);
-    if let Some(Note::Got(receipt)) = pass.notes().last() {
-        gate.told(&Told {
-            came: receipt.answer.mapped.came(),
-            peer: receipt.answer.mapped.peer(),
-            grounds: receipt.answer.finding.grounds(),
-            bytes,
-            count: written.is_ok().then_some(bytes.len()),
-        });
-    }
-    written
 }
 
 /// Tells a client that waits with its body to go on.

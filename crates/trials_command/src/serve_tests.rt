@@ -1,29 +1,15 @@
-//! Addresses that can't be taken, and what is told of them.
+//! What is told of a gateway that doesn't run.
 
 use crate::setting_tests::told;
 use command_line::Report;
-use gateway_server::{Ports, ServeFault};
+use server_faults::ServeFault;
 use std::io::{Error, ErrorKind};
 use std::net::{IpAddr, Ipv4Addr, SocketAddr};
 use std::test::Fail;
 
-/// This port of the machine itself; 0 is one that the system chooses.
+/// This port of the machine itself.
 fn here(port: u16) -> SocketAddr {
     SocketAddr::new(IpAddr::V4(Ipv4Addr::new(127, 0, 0, 1)), port)
-}
-
-#[test]
-fn a_taken_port_is_refused(rt: HostRuntime) -> Result<(), Fail> {
-    let ports = Ports::bind(&rt, here(0), here(0))?;
-    let listen = ports.listens_at()?;
-    let refused = Ports::bind(&rt, listen, here(0));
-    assert!(rt; matches!(refused, Err(ServeFault::Listen(at, _)) if at == listen));
-    let udp = ports.sends_from()?;
-    let refused = Ports::bind(&rt, here(0), udp);
-    assert!(rt; matches!(refused, Err(ServeFault::Udp(at, _)) if at == udp));
-    let refused = Ports::bind(&rt, here(0), here(0))?.with_window(&rt, listen);
-    assert!(rt; matches!(refused, Err(ServeFault::Window(at, _)) if at == listen));
-    Ok(())
 }
 
 #[test]

@@ -71,7 +71,7 @@ fn a_script_may_come_byte_by_byte(rt: HostRuntime) {
 }
 
 /// What a line of words asks for, or None where it is answered by the usage.
-static COMMANDS: [(&str, Option<Command<'static>>); 54] = [
+static COMMANDS: [(&str, Option<Command<'static>>); 55] = [
     ("replay", RUN),
     (
         "replay --journal",
@@ -146,16 +146,11 @@ static COMMANDS: [(&str, Option<Command<'static>>); 54] = [
             ..PLAIN
         })),
     ),
-    ("serve --idle 5 --threads a.toml --journals past", THREADED),
-    ("serve --threads --idle 5 --journals past a.toml", THREADED),
-    (
-        "serve --threads --access --idle 5 a.toml --journals past",
-        THREADED_WATCHED,
-    ),
-    (
-        "serve a.toml --threads --status 127.0.0.1:9090",
-        THREADED_SHOWN,
-    ),
+    ("serve --idle 5 --threads a.toml", THREADED),
+    ("serve --threads --idle 5 a.toml", THREADED),
+    ("serve --idle 5 --threads a.toml --journals past", None),
+    ("serve --threads --access a.toml", None),
+    ("serve a.toml --threads --status 127.0.0.1:9090", None),
     ("serve a.toml --threads --idle 0", None),
     ("serve a.toml --loop", Some(Command::Serve(PLAIN))),
     ("serve --loop a.toml", Some(Command::Serve(PLAIN))),
@@ -232,25 +227,7 @@ const BARED: Option<Command<'static>> = Some(Command::Serve(Serving {
 }));
 
 const THREADED: Option<Command<'static>> = Some(Command::Serve(Serving {
-    journals: Some("past"),
     idle: Some(5),
-    looped: false,
-    ..PLAIN
-}));
-
-const THREADED_WATCHED: Option<Command<'static>> = Some(Command::Serve(Serving {
-    journals: Some("past"),
-    access: true,
-    idle: Some(5),
-    looped: false,
-    ..PLAIN
-}));
-
-const THREADED_SHOWN: Option<Command<'static>> = Some(Command::Serve(Serving {
-    status: Some(Peer {
-        address: IpAddr::V4(Ipv4Addr::LOCALHOST),
-        port: 9090,
-    }),
     looped: false,
     ..PLAIN
 }));

@@ -5,7 +5,7 @@ use command_line::{Report, USAGE, command_of};
 use std::alloc::{AllocError, Global};
 
 /// Lines of words, and what is wrong with each.
-const WRONG: [(&str, &str); 19] = [
+const WRONG: [(&str, &str); 23] = [
     ("bogus", "bogus: no such command"),
     ("--journal replay", "--journal: no such command"),
     (
@@ -41,6 +41,22 @@ const WRONG: [(&str, &str); 19] = [
     ("serve a.toml b.toml", "b.toml: not taken here"),
     ("serve --access --access", "--access: not taken here"),
     ("serve --loop --threads", "--threads: not taken here"),
+    (
+        "serve --idle 5 --threads a.toml --journals past",
+        "--journals: not with --threads",
+    ),
+    (
+        "serve --threads --access a.toml",
+        "--access: not with --threads",
+    ),
+    (
+        "serve a.toml --threads --status 127.0.0.1:9090",
+        "--status: not with --threads",
+    ),
+    (
+        "serve --status 127.0.0.1:9090 --status-bodies --threads a.toml",
+        "--status: not with --threads",
+    ),
     (
         "demo 127.0.0.1",
         "127.0.0.1: no address and port, as 127.0.0.1:8080 is",

@@ -5,7 +5,7 @@ ghost use Rattle.sessions.specs.Devices.{Rises};
 
 use crate::device::Device;
 use gateway_desk::Clock;
-use sessions::{End, Failed, Gate, Point, Stream, Told};
+use sessions::{End, Failed, Gate, Point, Stream};
 
 /// A client: what it sends, piece by piece, where its session is held, and what becomes of it.
 pub struct Client {
@@ -191,6 +191,4 @@ impl Gate for Keeper<'_> {
         }
         true
     }
-
-    fn told(&mut self, _told: &Told<'_>) {}
 }

@@ -7,7 +7,7 @@ ghost use Rattle.std.specs.Prelude.{◌≡◌, ◌-◌, ◌^◌};
 use crate::failing::{Went, outcome_of};
 use gateway_desk::{Shop, Wire};
 use limits::MAX_DATAGRAM_LEN;
-use sessions::{Done, Gate, Point, Told};
+use sessions::{Done, Gate, Point};
 use std::alloc::Global;
 use std::marker::Brand;
 use std::sync::Wait;
@@ -81,8 +81,6 @@ impl<L: Ledger, W: Wait> Gate for Meanwhile<'_, L, W> {
         }
         true
     }
-
-    fn told(&mut self, _told: &Told<'_>) {}
 }
 
 /// Whether the last entry of the journal is that the first connection was closed.

@@ -1,11 +1,16 @@
-//! Trials of the server, by its public calls alone: over sockets of this machine.
+//! Trials of both servers, the loop and the threads, by their public calls alone: over sockets of
+//! this machine.
 //!
 //! Tried is what no contract says: that bytes come and go by sockets, and what a window shows.
 //! Nothing stands on this crate.
 #![tactic(auto)]
 
 #[cfg(test)]
-mod sockets;
+mod looping;
+#[cfg(test)]
+mod ports;
+#[cfg(test)]
+mod threads;
 #[cfg(test)]
 mod together;
 #[cfg(test)]

@@ -1,7 +1,7 @@
 //! The gateway and the demonstration device in one process, on sockets of this machine.
 
-use crate::sockets::start;
-use crate::window::start_shown;
+use crate::looping::start_shown;
+use crate::threads::{LONG, start};
 use device_server::DevicePort;
 use log::Log;
 use proxy_settings::{Device, Part, Setup, settings_of};
@@ -66,7 +66,7 @@ fn is_answered<W: Net<Stream = TcpStream>>(rt: &W, gateway: SocketAddr, port: u1
 
 #[test]
 fn the_device_answers_the_gateway(rt: HostRuntime) {
-    let gateway = start(rt, rt.alloc());
+    let gateway = start(rt, rt.alloc(), LONG);
     let port = start_device(rt, rt.alloc());
     assert!(rt; gateway.is_some() && port.is_some());
     if let (Some(gateway), Some(port)) = (gateway, port) {

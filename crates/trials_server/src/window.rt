@@ -1,77 +1,17 @@
 //! What the window of a gateway shows.
 
 use coap_codec::Bytes;
-use gateway_server::{NoArchive, Options, Payloads, Ports, run};
 use http_edge::{Edge, Incoming, answer_bytes};
 use journal_book::{Entry, Event};
-use journal_lines::write_entry;
-use log::Log;
+use journal_lines::{Payloads, write_entry};
 use status_page::{
     Classes, Connections, Device, Excerpt, Fill, Last, Phase, Responses, Status, answer_of,
 };
 use std::alloc::{AllocError, Global};
-use std::net::{IpAddr, Ipv4Addr, Net, TcpListener, TcpStream};
-use std::random::RandomSource;
-use std::rt::Clock;
-use std::sync::Wait;
-use std::thread::Threads;
-use std::{str, thread};
-use trials_clients::{Nothing, Shown, answers_all, any_port, is_counted, settings, shows_journal};
+use std::net::{IpAddr, Ipv4Addr};
+use std::str;
+use trials_clients::Nothing;
 use uri_map::Peer;
-
-/// Starts a gateway that shows how it does, and answers where.
-pub fn start_shown<
-    W: Threads
-        + Wait
-        + Log
-        + Clock
-        + RandomSource
-        + Net<Listener = TcpListener, Stream = TcpStream>
-        + Copy
-        + Drop
-        + Send
-        + Sync
-        + 'static,
->(rt: W, alloc: Global) -> Option<Shown> {
-    let ports = Ports::bind(&rt, any_port(), any_port()).ok()?;
-    let ports = ports.with_window(&rt, any_port()).ok()?;
-    let shown = Shown {
-        gateway: ports.listens_at().ok()?,
-        window: ports.shows_at()?,
-    };
-    let settings = settings(alloc).ok()?;
-    let started = thread::spawn(&rt, move || {
-        let _ = run(rt, alloc, ports, settings, Options::default(), NoArchive);
-    });
-    started.is_ok().then_some(shown)
-}
-
-#[test]
-fn the_window_answers(rt: HostRuntime) {
-    let shown = start_shown(rt, rt.alloc());
-    assert!(rt; shown.is_some());
-    if let Some(shown) = shown {
-        assert!(rt; answers_all(&rt, rt.alloc(), shown.window) == Some(true));
-    }
-}
-
-#[test]
-fn the_window_counts(rt: HostRuntime) {
-    let shown = start_shown(rt, rt.alloc());
-    assert!(rt; shown.is_some());
-    if let Some(shown) = shown {
-        assert!(rt; is_counted(&rt, rt.alloc(), shown) == Some(true));
-    }
-}
-
-#[test]
-fn the_window_shows_the_journal(rt: HostRuntime) {
-    let shown = start_shown(rt, rt.alloc());
-    assert!(rt; shown.is_some());
-    if let Some(shown) = shown {
-        assert!(rt; shows_journal(&rt, rt.alloc(), shown) == Some(true));
-    }
-}
 
 /// A gateway that turns its journal over, with a device that a stranger asked.
 fn turning(alloc: Global) -> Result<Status, AllocError> {

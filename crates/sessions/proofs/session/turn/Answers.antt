@@ -117,22 +117,22 @@ returns-in_default-reply g c = record {
   quiet = grown_none (g.S.Stream.gave c.args.stream.now);
 }
 
-pub returns-in-Ok-write_reply : goal.returns-in-Ok-write_reply
-returns-in-Ok-write_reply g c = record {
+pub returns-in-Ok-write : goal.returns-in-Ok-write
+returns-in-Ok-write g c = record {
   answered = λ e.
       let s = c.in-Ok-reply.ensures (rules_of (arc_value c.args.gateway.now.settings.now)) c.requires.suits in
       turn_taken _ _ _ (item c.args.incoming) _ c.ask.new.pass.lines _ c.in-Ok-ask.ticket.number (slip_of c.in-Some.receipt) c.as_slice.result.now _ _
       c.in-Ok-ask.ensures.lines c.keep.ensures.lines c.in-Some.ensures.number.0
       (ask_of _ _ _ c.args.incoming (arc_value c.in-Some.receipt.answer.mapped) c.in-Ok.mapped
       (c.in-Some.ensures.request ∙ c.in-Ok-ask.ensures.ticket.1 ∙ c.in-Ok-new.ensures.ok) c.in-Ok.ensures.came c.in-Ok.ensures.rules c.in-Ok.ensures.maps)
-      (s.0, s.1, c.as_slice.ensures.value ∙ s.2) c.in-Ok-write_reply.ensures.ok.0;
+      (s.0, s.1, c.as_slice.ensures.value ∙ s.2) c.in-Ok-write.ensures.ok.0;
   cut = tt;
   write_fault = λ e. absurd (none_no_some _ e);
   held = λ e. absurd (none_no_some _ e);
   others = (none_no_some _, none_no_some _);
-  counted = λ e. c.in-Ok-write_reply.ensures.ok.1;
-  passed = λ e. c.in-Ok-write_reply.ensures.same ∙ c.pass-2.ensures.yes c.if-not-pass-2.false ∙ c.pass.ensures.yes c.if-not-pass.false;
-  quiet = c.in-Ok-write_reply.ensures.quiet;
+  counted = λ e. c.in-Ok-write.ensures.ok.1;
+  passed = λ e. c.pass-2.ensures.yes c.if-not-pass-2.false ∙ c.pass.ensures.yes c.if-not-pass.false;
+  quiet = c.in-Ok-write.ensures.quiet;
 }
 
 pub returns : goal.returns
@@ -140,16 +140,16 @@ returns g c = record {
   answered = λ e. absurd (some_no_none _ e);
   cut =
       let s = c.in-Ok-reply.ensures (rules_of (arc_value c.args.gateway.now.settings.now)) c.requires.suits in
-      let part = c.in-Err-write_reply.ensures.err.0 in
+      let part = c.in-Err-write.ensures.err.0 in
       cut_part _ _ _ (item c.args.incoming) _ c.ask.new.pass.lines _ c.in-Ok-ask.ticket.number (slip_of c.in-Some.receipt) c.as_slice.result.now part.0 _ _
       c.in-Ok-ask.ensures.lines c.keep.ensures.lines c.in-Some.ensures.number.0
       (ask_of _ _ _ c.args.incoming (arc_value c.in-Some.receipt.answer.mapped) c.in-Ok.mapped
       (c.in-Some.ensures.request ∙ c.in-Ok-ask.ensures.ticket.1 ∙ c.in-Ok-new.ensures.ok) c.in-Ok.ensures.came c.in-Ok.ensures.rules c.in-Ok.ensures.maps)
       (s.0, s.1, c.as_slice.ensures.value ∙ s.2) part.1;
-  write_fault = λ e. c.in-Err-write_reply.ensures.err.1;
+  write_fault = λ e. c.in-Err-write.ensures.err.1;
   held = λ e. absurd (write_no_held e);
   others = (write_no_read.finished, write_no_read.read_fault);
   counted = λ e. absurd (some_no_none _ e);
   passed = λ e. absurd (some_no_none _ e);
-  quiet = c.in-Err-write_reply.ensures.quiet;
+  quiet = c.in-Err-write.ensures.quiet;
 }

@@ -1,6 +1,4 @@
-//! Where journals go that are turned over. The servers give them away by this, in threads or in one
-//! loop.
-#![tactic(auto)]
+//! Where journals go that are turned over.
 
 use journal_book::Journal;
 use transformers::Relation;

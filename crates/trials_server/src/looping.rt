@@ -1,4 +1,4 @@
-//! The loop on sockets of this machine: the same rows as the sessions', and what its window shows.
+//! The loop on sockets of this machine: the same rows as the threads', and what its window shows.
 
 use log::Log;
 use loop_system::{NoArchive, Options, Payloads, Ports, run};
@@ -23,7 +23,7 @@ fn hasty() -> Options {
 }
 
 /// Starts the loop with these options, and answers where it takes connections and is looked at.
-fn start<
+fn start_with<
     W: Threads
         + Wait
         + Log
@@ -49,9 +49,26 @@ fn start<
     started.is_ok().then_some(shown)
 }
 
+/// Starts the loop, and answers where it takes connections and is looked at.
+pub fn start_shown<
+    W: Threads
+        + Wait
+        + Log
+        + Clock
+        + RandomSource
+        + Net<Listener = TcpListener, Stream = TcpStream>
+        + Copy
+        + Drop
+        + Send
+        + Sync
+        + 'static,
+>(rt: W, alloc: Global) -> Option<Shown> {
+    start_with(rt, alloc, Options::default())
+}
+
 #[test]
 fn rows_go_over_the_loop(rt: HostRuntime) {
-    let shown = start(rt, rt.alloc(), Options::default());
+    let shown = start_shown(rt, rt.alloc());
     assert!(rt; shown.is_some());
     if let Some(shown) = shown {
         assert!(rt; go(&rt, rt.alloc(), shown.gateway) == Some(true));
@@ -60,7 +77,7 @@ fn rows_go_over_the_loop(rt: HostRuntime) {
 
 #[test]
 fn who_stands_still_makes_place_in_the_loop(rt: HostRuntime) {
-    let shown = start(rt, rt.alloc(), hasty());
+    let shown = start_with(rt, rt.alloc(), hasty());
     assert!(rt; shown.is_some());
     if let Some(shown) = shown {
         assert!(rt; is_given_up(&rt, shown.gateway) == Some(true));
@@ -70,7 +87,7 @@ fn who_stands_still_makes_place_in_the_loop(rt: HostRuntime) {
 
 #[test]
 fn the_window_shows_the_loop(rt: HostRuntime) {
-    let shown = start(rt, rt.alloc(), Options::default());
+    let shown = start_shown(rt, rt.alloc());
     assert!(rt; shown.is_some());
     if let Some(shown) = shown {
         assert!(rt; answers_all(&rt, rt.alloc(), shown.window) == Some(true));
