@@ -1,6 +1,8 @@
 -- What contracts see of a gateway.
-use Rattle.std.specs.Prelude.{◌≡◌, ⊤, ℕ, slice_get, option_to_list, Option, Some, None}
+use Rattle.std.specs.Prelude.{◌≡◌, ◌⊎◌, ⊤, ℕ, [], slice_get, option_to_list, Option, Some, None}
 use Rattle.exchange_model.specs.Resting.{HasConn}
+use Rattle.exchange_model.specs.State.{State}
+use Rattle.exchange_core.specs.Due.{next_tick}
 use Rattle.gateway_model.specs.declared.input.Happening.{Happening}
 use Rattle.gateway_model.specs.declared.input.Happening.TheVariants as H
 use Rattle.gateway_model.specs.declared.input.Input.{Input}
@@ -27,6 +29,11 @@ pub record MayAsk {S W : Type 0} (n : ℕ) (g : GatewayValue S W) : Type 0 where
 pub record MayGoOn {S W : Type 0} (n : ℕ) (g : GatewayValue S W) : Type 0 where
   pub may_ask : MayAsk n g
   pub asked : IsAllAsked n g.world
+
+-- No exchange is open. Those of a sealed journal stay open: then nothing is due, as nobody waits for
+-- any of them.
+abbrev pub IsQuiet : State → Type 0
+IsQuiet S = (S.exchanges ≡ []) ⊎ (next_tick S ≡ None)
 
 -- It brings nothing, and no connection opens with it.
 abbrev pub IsBare : Happening → Type 0

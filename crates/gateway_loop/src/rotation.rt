@@ -1,8 +1,8 @@
 //! What a gateway does so that its journal is turned over.
 
-ghost use Rattle.std.specs.Prelude.{◌≡◌, true, length, option_to_list, IfOk};
+ghost use Rattle.std.specs.Prelude.{◌≡◌, ◌↔◌, true, length, option_to_list, IfOk, IsTrue};
 ghost use Rattle.exchange_model.specs.Rotating.{is_nearly_full};
-ghost use Rattle.gateway_loop.specs.Gateways.{MayAsk, TurnsOrStays};
+ghost use Rattle.gateway_loop.specs.Gateways.{IsQuiet, MayAsk, TurnsOrStays};
 ghost use Rattle.transformers.specs.Suits.{Suits};
 
 use crate::delivery::deliver;
@@ -38,6 +38,14 @@ impl<R: Relation, S: Stream + Drop, W: Wire + Drop> Gateway<R, S, W> {
     {
         let entries = self.world.journal().len() as u64;
         entries >= NEARLY_ALL_ENTRIES || self.world.bytes() >= NEARLY_ALL_LEN
+    }
+
+    /// Whether no exchange is open, or, where the journal is sealed, nobody waits for one: a turn
+    /// waits for connections alone then. What is watched ends with the journal, and isn't waited for.
+    pub fn is_quiet(&self) -> bool
+        ensures { IsTrue result ↔ IsQuiet self.now.world.core.state }
+    {
+        self.world.core().exchanges().is_empty() || self.world.next_due().is_none()
     }
 
     /// Whether the connection may be closed: it is open and waits for no answer, and nothing is left

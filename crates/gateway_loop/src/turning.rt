@@ -73,7 +73,7 @@ impl<R: Relation, S: Stream + Drop, W: Wire + Drop> Loop<R, S, W> {
         // Who was given bytes in this turn has its own first.
         let late = turning.is_late(it.rest.moment) && !it.gateway.have_turns();
         it = it.dismiss_all(bank, host, late)?;
-        if it.rest.moment < turning.again || it.gateway.next_due().is_some() || it.is_connected() {
+        if it.rest.moment < turning.again || !it.gateway.is_quiet() || it.is_connected() {
             return Ok(it);
         }
         it = it.fill_up(bank, host)?;

@@ -165,6 +165,8 @@ pub struct Board<'a> {
     moment: u64,
     /// For how many milliseconds a patient one waited while a journal was being turned over.
     waited: u64,
+    /// For how many milliseconds one was being turned over.
+    turning: u64,
 }
 
 impl<'a> Board<'a> {
@@ -176,7 +178,13 @@ impl<'a> Board<'a> {
             signs: 0,
             moment: 0,
             waited: 0,
+            turning: 0,
         }
+    }
+
+    /// For how many milliseconds a journal was being turned over.
+    pub fn turning(&self) -> u64 {
+        self.turning
     }
 
     /// For how many milliseconds a patient one waited while a journal was being turned over.
@@ -199,6 +207,7 @@ pub trait Turns {
 
 impl<'a> Turns for Board<'a> {
     fn tell_turning(&mut self) {
+        self.turning = self.turning.saturating_add(1);
         'each: for caller in self.callers {
             if caller.patient {
                 caller.ask_on(0);

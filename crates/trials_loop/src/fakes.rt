@@ -136,9 +136,15 @@ struct Letter {
     bytes: Vec<u8>,
 }
 
+/// Content-Format 0 and Max-Age 0 (RFC 7252 section 5.10).
+const PLAIN: [u8; 2] = [0xc0, 0x20];
+
+/// The same after Observe 1 (RFC 7641 section 2).
+const OBSERVED: [u8; 4] = [0x61, 1, 0x60, 0x20];
+
 /// Devices that answer a GET with the last letter of its path, some time later and in any order; of
-/// what ends in `z` they say nothing. Their replies aren't stored, so that each says the same of its
-/// age.
+/// what ends in `z` they say nothing, and of what ends in `w` they take who asks to observe it. Their
+/// replies aren't stored, so that each says the same of its age.
 #[derive(Drop)]
 pub struct Devices<'a> {
     alloc: Global,
@@ -168,7 +174,12 @@ impl<'a> Devices<'a> {
         let mut bytes = Vec::new(self.alloc);
         bytes.extend_from_slice(&[0x68, 0x45]).ok()?;
         bytes.extend_from_slice(front.get(..10)?).ok()?;
-        bytes.extend_from_slice(&[0xc0, 0x20, 0xff, last]).ok()?;
+        if last == b'w' {
+            bytes.extend_from_slice(&OBSERVED).ok()?;
+        } else {
+            bytes.extend_from_slice(&PLAIN).ok()?;
+        }
+        bytes.extend_from_slice(&[0xff, last]).ok()?;
         Some(bytes)
     }
 }

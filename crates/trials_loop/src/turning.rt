@@ -1,16 +1,19 @@
 //! A journal is turned over while clients ask on, and none of them sees it; nor does one whose device
-//! says nothing for longer than others are waited for.
+//! says nothing for longer than others are waited for. What is observed isn't waited for.
 
-ghost use Rattle.std.specs.Prelude.{◌≡◌, IfSome};
+ghost use Rattle.std.specs.Prelude.{◌≡◌, [], IfOk, IfSome};
+ghost use Rattle.ask_model.specs.Views.{rules_of};
 ghost use Rattle.transformers.specs.Suits.{Suits};
 
 use crate::callers::{Board, Caller, Turns};
 use crate::chance::Dice;
 use crate::fakes::Devices;
+use ask_model::Settings;
 use gateway_loop::{Gateway, Host, Loop, Stream, Wire};
-use std::alloc::Global;
+use std::alloc::{AllocError, Global};
 use transformers::{Bank, Relation};
 use trials_clients::{Nothing, settings};
+use uri_map::Text;
 
 /// How long a client may stand still, in milliseconds: as many turns.
 const IDLE: u64 = 3000;
@@ -43,6 +46,13 @@ const GETS_C: &[u8] =
 
 const GETS_E: &[u8] =
     b"HTTP/1.1 200 OK\r\nContent-Type: text/plain;charset=utf-8\r\nCache-Control: max-age=0\r\nContent-Length: 1\r\n\r\neHTTP/1.1 200 OK\r\nContent-Type: text/plain;charset=utf-8\r\nCache-Control: max-age=0\r\nContent-Length: 1\r\n\r\nf";
+
+/// A request of a resource that is observed, beside one of another device.
+const ASKS_W: &[u8] =
+    b"GET /hc/coap://s.example.com/w HTTP/1.1\r\nHost: p\r\n\r\nGET /hc/coap://192.0.2.2/b HTTP/1.1\r\nHost: p\r\n\r\n";
+
+const GETS_W: &[u8] =
+    b"HTTP/1.1 200 OK\r\nContent-Type: text/plain;charset=utf-8\r\nCache-Control: max-age=0\r\nContent-Length: 1\r\n\r\nwHTTP/1.1 200 OK\r\nContent-Type: text/plain;charset=utf-8\r\nCache-Control: max-age=0\r\nContent-Length: 1\r\n\r\nb";
 
 /// A request of a device that says nothing.
 const ASKS_Z: &[u8] = b"GET /hc/coap://192.0.2.7/z HTTP/1.1\r\nHost: p\r\n\r\n";
@@ -107,10 +117,21 @@ fn goes<R: Relation, S: Stream + Drop, W: Wire + Drop, H: Host<S> + Turns>(
     false
 }
 
+/// The settings of the trials, by which what s.example.com has is observed.
+fn observing(alloc: Global) -> Result<Settings, AllocError>
+    ensures { IfOk result (λ s. (rules_of s).routes ≡ []) }
+{
+    let mut settings = settings(alloc)?;
+    settings
+        .observed
+        .push(Text::copy_of(alloc, "s.example.com")?)?;
+    Ok(settings)
+}
+
 /// Lets a loop serve them until each has ended, in a run by chance. False where it stopped, or where
 /// no journal was turned over.
 fn is_run<'a>(alloc: Global, dice: &'a Dice, host: &mut Board<'a>) -> bool {
-    let Ok(settings) = settings(alloc) else {
+    let Ok(settings) = observing(alloc) else {
         return false;
     };
     let bank: Bank<Nothing> = Bank::new(Vec::new(alloc));
@@ -158,4 +179,23 @@ fn is_waited_for(alloc: Global) -> bool {
 #[test]
 fn who_waits_while_a_journal_is_turned_over_is_told(rt: HostRuntime) {
     assert!(rt; is_waited_for(rt.alloc()));
+}
+
+/// Whether a journal is turned over, though a resource is observed, before clients are waited for no
+/// more: what is observed stays so for 120,000 ms after the last request for it.
+fn is_unwatched(alloc: Global) -> bool {
+    let dice = Dice::new(0x9e37_79b9);
+    let callers = [
+        Caller::new(ASKS_W, GETS_W, false),
+        Caller::new(ASKS_C, GETS_C, false),
+    ];
+    let mut host = Board::new(&dice, &callers);
+    is_run(alloc, &dice, &mut host)
+        && host.turning() < PATIENCE
+        && callers.iter().all(Caller::is_served)
+}
+
+#[test]
+fn a_turn_waits_for_nothing_that_is_observed(rt: HostRuntime) {
+    assert!(rt; is_unwatched(rt.alloc()));
 }
