@@ -25,6 +25,7 @@ mod rotation;
 mod sockets;
 mod stage;
 mod steps;
+mod timely;
 mod told;
 mod turning;
 mod turns;

@@ -1,14 +1,12 @@
 //! The loop.
 
-ghost use Rattle.std.specs.Prelude.{◌≡◌, ◌⊎◌, [], true, false, IfOk};
+ghost use Rattle.std.specs.Prelude.{◌≡◌, [], IfOk};
 ghost use Rattle.gateway_loop.specs.Sockets.{Are};
 ghost use Rattle.transformers.specs.Suits.{Suits};
 
 use crate::farewells::Farewells;
 use crate::gateway::Gateway;
-use crate::hearing::Listened;
 use crate::host::{Accepted, Host, Sign};
-use crate::inputs::Passed;
 use crate::patience::{GivenUp, SWEEP};
 use crate::sockets::{Stream, Wire};
 use crate::turning::{LOOK, Turning};
@@ -27,7 +25,7 @@ const SIGNS: usize = 1024;
 
 /// How long nobody is taken after the system gave no connection, and time doesn't go on after memory
 /// was refused for it, in milliseconds.
-const PAUSE: u64 = 50;
+pub(crate) const PAUSE: u64 = 50;
 
 /// How many bytes are read at once.
 const ROOM: usize = 8192;
@@ -66,8 +64,10 @@ pub(crate) struct Rest<R: Relation> {
     pub(crate) again: u64,
     /// The moment of the next tick that has something to do, as the last turn left it.
     due: Option<u64>,
+    /// In how many turns time didn't go on though something was due, since datagrams came.
+    pub(crate) put_off: u32,
     /// Datagrams may have come in.
-    wire: bool,
+    pub(crate) wire: bool,
     /// Clients may want connections, and nobody is taken before that moment.
     clients: bool,
     resumes: u64,
@@ -109,6 +109,7 @@ impl<R: Relation, S: Stream + Drop, W: Wire + Drop> Loop<R, S, W> {
             moment: 0,
             again: 0,
             due: None,
+            put_off: 0,
             wire: true,
             clients: true,
             resumes: 0,
@@ -186,12 +187,8 @@ impl<R: Relation, S: Stream + Drop, W: Wire + Drop> Loop<R, S, W> {
 
     /// Whether nothing else is due in this turn.
     fn is_over(&self) -> bool {
-        let is_due = match self.rest.due {
-            Some(due) => due.max(self.rest.again) <= self.rest.moment,
-            None => false,
-        };
         let waits = self.rest.turning.is_some() || self.gateway.is_nearly_full();
-        !is_due
+        !self.is_time(self.rest.due)
             && !waits
             && self.rest.moment < self.rest.sweeps
             && !self.rest.farewells.any_over(self.rest.moment)
@@ -298,51 +295,6 @@ impl<R: Relation, S: Stream + Drop, W: Wire + Drop> Loop<R, S, W> {
         it.gateway = it.gateway.admit(bank, when, stream)?;
         it.gateway.line_up(number);
         Ok(it)
-    }
-
-    /// Hears the datagrams that are there, some of them.
-    fn hear_all<H: Host<S>>(self, bank: &Bank<R>, host: &mut H) -> Result<Loop<R, S, W>, Memory>
-        requires suits { Suits R.holds R.takes self.gateway.world.rules.routes bank.now }
-        ensures rules { IfOk result (λ l. l.gateway.world.rules ≡ self.gateway.world.rules) }
-        ensures all { IfOk result (λ l. l.rest.value.wire ≡ false
-            → (self.rest.value.wire ≡ false) ⊎ (W.spent l.gateway.wire ≡ true)) }
-    {
-        let mut it = self;
-        if !it.rest.wire {
-            return Ok(it);
-        }
-        'each: for _ in 0..AT_ONCE {
-            let when = it.when(host);
-            let Listened { gateway, heard } = it.gateway.hear(bank, when, &mut it.rest.buffer)?;
-            it.gateway = gateway;
-            if !heard {
-                it.rest.wire = false;
-                return Ok(it);
-            }
-        }
-        // There may be more.
-        it.rest.wire = true;
-        Ok(it)
-    }
-
-    /// Lets time go on, where something is due.
-    fn pass<H: Host<S>>(self, bank: &Bank<R>, host: &mut H) -> Result<Loop<R, S, W>, Memory>
-        requires suits { Suits R.holds R.takes self.gateway.world.rules.routes bank.now }
-        ensures rules { IfOk result (λ l. l.gateway.world.rules ≡ self.gateway.world.rules) }
-    {
-        let mut it = self;
-        match it.gateway.next_due() {
-            Some(due) if due.max(it.rest.again) <= it.rest.moment => {
-                let when = it.when(host);
-                let Passed { gateway, taken } = it.gateway.tick(bank, when)?;
-                it.gateway = gateway;
-                if !taken {
-                    it.rest.again = it.rest.moment.saturating_add(PAUSE);
-                }
-                Ok(it)
-            }
-            _ => Ok(it),
-        }
     }
 
     /// When an input of this turn is, with a word of its own.

@@ -160,28 +160,28 @@ impl<'a> Devices<'a> {
             mail: VecDeque::new(alloc),
         }
     }
+}
 
-    /// The reply to a CON with a token of 8 bytes: an ACK with 2.05 and Max-Age 0 (RFC 7252
-    /// section 5.2.1).
-    fn reply(&self, request: &[u8]) -> Option<Vec<u8>> {
-        let [0x48, 1, front @ ..] = request else {
-            return None;
-        };
-        let last = *request.last()?;
-        if last == b'z' {
-            return None;
-        }
-        let mut bytes = Vec::new(self.alloc);
-        bytes.extend_from_slice(&[0x68, 0x45]).ok()?;
-        bytes.extend_from_slice(front.get(..10)?).ok()?;
-        if last == b'w' {
-            bytes.extend_from_slice(&OBSERVED).ok()?;
-        } else {
-            bytes.extend_from_slice(&PLAIN).ok()?;
-        }
-        bytes.extend_from_slice(&[0xff, last]).ok()?;
-        Some(bytes)
+/// The reply to a CON with a token of 8 bytes: an ACK with 2.05 and Max-Age 0 (RFC 7252 section
+/// 5.2.1).
+pub fn reply_to(alloc: Global, request: &[u8]) -> Option<Vec<u8>> {
+    let [0x48, 1, front @ ..] = request else {
+        return None;
+    };
+    let last = *request.last()?;
+    if last == b'z' {
+        return None;
     }
+    let mut bytes = Vec::new(alloc);
+    bytes.extend_from_slice(&[0x68, 0x45]).ok()?;
+    bytes.extend_from_slice(front.get(..10)?).ok()?;
+    if last == b'w' {
+        bytes.extend_from_slice(&OBSERVED).ok()?;
+    } else {
+        bytes.extend_from_slice(&PLAIN).ok()?;
+    }
+    bytes.extend_from_slice(&[0xff, last]).ok()?;
+    Some(bytes)
 }
 
 impl Wire for Devices<'_> {
@@ -194,7 +194,7 @@ impl Wire for Devices<'_> {
     ghost spent = { λ d. true };
 
     fn send(&mut self, peer: Peer, bytes: &[u8]) {
-        if let Some(bytes) = self.reply(bytes) {
+        if let Some(bytes) = reply_to(self.alloc, bytes) {
             let letter = Letter { from: peer, bytes };
             if self.dice.below(2) == 0 {
                 let _ = self.mail.push_back(letter);

@@ -12,6 +12,8 @@ mod chance;
 #[cfg(test)]
 mod fakes;
 #[cfg(test)]
+mod late;
+#[cfg(test)]
 mod leaving;
 #[cfg(test)]
 mod refused;
