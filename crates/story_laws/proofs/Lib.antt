@@ -6,6 +6,8 @@ pub mod Forgetting
 pub mod Originating
 pub mod Replying
 pub mod Posting
+pub mod Apart
+pub mod Asked
 pub mod Standing
 pub mod Showing
 pub mod Pieces

@@ -146,7 +146,7 @@ module _ (R : Relation) (h : List Written) (device proxy : Peer) (block : ℕ) (
       last.heard.response.heard.spelled last.heard.response.token (subst (λ (c : ℕ). c / 32 ≡ 2) last.is class) last.ends
 
   pub done-by : (count : ℕ) → IsAnsweredBy proxy last.heard.sent cs count
-      → (d : IsDoneOnce h r.opening r.request proxy cs) × (d.place < count)
+      → (d : IsDoneOnce h r.opening r.request js proxy cs) × (d.place < count)
   done-by count done =
       let for_it = last.heard.sent_for in
       let sent = last.heard.sent in
@@ -155,9 +155,11 @@ module _ (R : Relation) (h : List Written) (device proxy : Peer) (block : ℕ) (
           since = last.since;
           not_before = last.not_before;
           block = last.block;
-          sending = last.heard.sending;
-          message = sent;
-          sent = for_it;
+          earlier = last.earlier;
+          last = last.number;
+          are = last.are;
+          message = last.message;
+          reply = last.heard;
           place = done.place;
           call = done.call;
           stands = done.stands;
@@ -177,7 +179,7 @@ pub posts-once : (R : Relation) (h : List Written) (device proxy : Peer) (block 
     → AreGiven s.reading device proxy (fresh block resources) cs
     → IsEntry h n t (Answers c k (Live js)) → (r : RestsOn h n c k js)
     → r.request.method ≡ 2 → r.request.peer ≡ device → r.response.code / 32 ≡ 2
-    → IsDoneOnce h r.opening r.request proxy cs
+    → IsDoneOnce h r.opening r.request js proxy cs
 posts-once R h device proxy block resources cs n t c k js s net given answered r post to class =
     let changes = two-not-one r.request.method post in
     let its = last R h device proxy block resources cs n c k js s net r changes to class in

@@ -1,7 +1,6 @@
 -- The last of the replies to a POST is its response.
-use Rattle.std.proofs.Common.{◌≡◌, ℕ, suc, ◌<◌, ◌≤◌, ◌/◌, Bool, true, false, ◌&&◌, ◌||◌, cond, eqb, inl, inr, List, [], ◌∷◌, length, Option, Some, None, refl, sym, ap, subst, ◌∙◌, arith}
+use Rattle.std.proofs.Common.{◌≡◌, ℕ, suc, ◌<◌, ◌≤◌, ◌/◌, Bool, true, false, ◌&&◌, ◌||◌, cond, eqb, inl, inr, List, [], ◌∷◌, ◌++◌, length, Option, Some, None, refl, sym, ap, subst, ◌∙◌, arith}
 use Rattle.std.specs.Prelude.{not}
-use Rattle.std.specs.List.{Contains}
 use Rattle.std.proofs.lemmas.Bool.{and_parts, false≢true}
 use Rattle.std.proofs.lemmas.Bool.Decides.{eqb_tells}
 use Rattle.coap_codec.specs.Spelling.{Content}
@@ -13,7 +12,7 @@ use Rattle.blockwise.specs.declared.upload.Answered.{Answered}
 use Rattle.blockwise.specs.declared.upload.Answered.TheVariants.{Next, Last, Wrong}
 use Rattle.ask_model.specs.Requests.{CoapRequest}
 use Rattle.journal_book.specs.Entries.{Written}
-use Rattle.history_laws.specs.Progress.{Given}
+use Rattle.history_laws.specs.Progress.{Point, Given}
 use Rattle.history_laws.specs.Responses.{Response, response_of, whole_by, whole_given}
 use Rattle.history_laws.proofs.CallerLemmas.{none-some, some-is}
 use Rattle.history_claims.specs.Headline.{AreHeardFor, IsHeardFor}
@@ -23,8 +22,9 @@ pub record IsLastReply (h : List Written) (k : ℕ) (q : CoapRequest) (js : List
   pub since : ℕ
   pub not_before : k ≤ since
   pub block : Option Block
+  pub earlier : List ℕ
   pub number : ℕ
-  pub among : Contains js number
+  pub are : js ≡ earlier ++ number ∷ []
   pub message : Content
   pub heard : IsHeardFor h since q block number message
   pub is : w.code ≡ message.code
@@ -65,12 +65,14 @@ passed true x w e = e
 passed false x w e = absurd (none-some w e)
 
 -- what ends it tells the response, and nothing comes after it
-ends-it : (m : Content) (ms : List Content) (later : Option Response) (w : Response) → whole_by Last m ms later ≡ Some w → w.code ≡ m.code
-ends-it m [] later w g = ap (λ (v : Response). v.code) (sym (some-is (response_of m) w g))
+ends-it : (m : Content) (ms : List Content) (later : Option Response) (w : Response) → whole_by Last m ms later ≡ Some w → (w.code ≡ m.code) × (ms ≡ [])
+ends-it m [] later w g = (ap (λ (v : Response). v.code) (sym (some-is (response_of m) w g)), refl)
 ends-it m (n ∷ ms) later w g = absurd (none-some w g)
 
-later-one : (js : List ℕ) (n j : ℕ) → Contains js n → Contains (j ∷ js) n
-later-one js n j h = let lt = h.1 in (suc h.0, omega (arith, lt), h.2)
+as-many : (h : List Written) (k : ℕ) (q : CoapRequest) (p : Point) (js : List ℕ) (ms : List Content) → AreHeardFor h k q p js ms → ms ≡ [] → js ≡ []
+as-many h k q p [] ms a e = refl
+as-many h k q p (j ∷ js) [] a e = absurd a
+as-many h k q p (j ∷ js) (m ∷ ms) a e = absurd cc
 
 pub last-reply : (h : List Written) (k : ℕ) (q : CoapRequest) (u : UploadValue) (js : List ℕ) (ms : List Content) (w : Response)
     → AreHeardFor h k q (Given u) js ms → whole_given u ms ≡ Some w → IsLastReply h k q js w
@@ -88,16 +90,28 @@ last-reply h k q u (j ∷ js) (m ∷ ms) w a e =
     by Next f more g =
         let it = more g in
         let low = it.not_before in
-        record { since = it.since; not_before = omega (arith, after, low); block = it.block; number = it.number; among = later-one js it.number j it.among; message = it.message; heard = it.heard; is = it.is; ends = it.ends }
+        record {
+          since = it.since;
+          not_before = omega (arith, after, low);
+          block = it.block;
+          earlier = j ∷ it.earlier;
+          number = it.number;
+          are = ap (λ (ns : List ℕ). j ∷ ns) it.are;
+          message = it.message;
+          heard = it.heard;
+          is = it.is;
+          ends = it.ends;
+        }
     by Last f more g = record {
       since = k;
       not_before = omega arith;
       block = _;
+      earlier = [];
       number = j;
-      among = (0, omega arith, refl);
+      are = ap (λ (ns : List ℕ). j ∷ ns) (as-many h j q (Given (next_of u m)) js ms a.1 (ends-it m ms (whole_given (next_of u m) ms) w g).1);
       message = m;
       heard = a.0;
-      is = ends-it m ms (whole_given (next_of u m) ms) w g;
+      is = (ends-it m ms (whole_given (next_of u m) ms) w g).0;
       ends = final-ends m (last-final u m f);
     }
     by Wrong f more g = absurd (none-some w g)

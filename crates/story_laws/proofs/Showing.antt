@@ -36,7 +36,8 @@ use Rattle.demo_origin.specs.declared.state.Held.{Held}
 use Rattle.demo_origin.proofs.Asking.{registrations_are_asked}
 use Rattle.demo_origin.proofs.Making.{answers_are_made}
 use Rattle.story_laws.specs.Arriving.{HearsMessage}
-use Rattle.story_laws.specs.Networks.{Networks, AreGiven}
+use Rattle.story_laws.specs.Networks.{IsGiven, Networks}
+use Rattle.story_laws.specs.Orders.{IsOrdered}
 use Rattle.story_laws.specs.Reads.{IsToldFor, ShowsHeld}
 use Rattle.story_laws.proofs.Executing.{arrives}
 use Rattle.story_laws.proofs.Originating.{at-contained, at-take, below-take, follow-take, heard-it, rst-code}
@@ -131,13 +132,16 @@ told-ends szx len = by (leb len (size_of szx))
     by true = tt
     by false = λ e. absurd (false≢true (sym e))
 
--- The answer shows the state of the resource, or a piece of it, as it stood when the device heard the message, or later.
-pub record ShowsPart (since : ℕ) (proxy : Peer) (s : Device) (cs : List Call) (m answer : Content) : Type 0 where
+-- The answer shows the state of the resource, or a piece of it, as it stood when the device heard the message, in one of its first so many
+-- calls, or between later ones of these, or after all of them.
+pub record ShowsPart (since count : ℕ) (proxy : Peer) (s : Device) (cs : List Call) (m answer : Content) : Type 0 where
   pub moment : ℕ
   pub asked : HearsMessage proxy m cs moment
   pub not_before : since ≤ moment
+  pub heard : asked.place < count
   pub place : ℕ
   pub later : asked.place ≤ place
+  pub not_after : place ≤ count
   pub number : ℕ
   pub held : Held
   pub there : IsAt (values 11 m.options) (left_by s (take place cs)).resources number held
@@ -151,7 +155,7 @@ by-making : (R : Relation) (l : List Noted) (device proxy : Peer) (block : ℕ) 
     (p : Peer) (m answer : Content) (c : Call) (d : Datagram)
     → Networks R l device proxy (fresh block resources) cs → IsFirst l t o i p m → m.code ≡ 1
     → slice_get (take count cs) a ≡ Some c → d.peer ≡ proxy → Spells answer d.bytes → answer.token ≡ m.token
-    → answer.code ≡ 69 → Makes R c d → ShowsPart t proxy (fresh block resources) cs m answer
+    → answer.code ≡ 69 → Makes R c d → ShowsPart t count proxy (fresh block resources) cs m answer
 by-making R l device proxy block resources cs count t o i a p m answer c d n f get e to spelled token content (inl r) =
     let none = rst-code answer r.mid (subst (λ (b : List ℕ). Spells answer b) r.is spelled) in
     absurd (omega (arith, none, content))
@@ -170,8 +174,10 @@ by-making R l device proxy block resources cs count t o i a p m answer c d n f g
       moment = r.moment;
       asked = record { place = a; call = c; stands = e'; datagram = r.datagram; taken = r.taken; comes = comes; spelled = it.1 };
       not_before = (arrives R l device proxy p first cs t o i a r.moment m c r.datagram r.taken n f e' comes it.1).0;
+      heard = below-take cs count a c e;
       place = a;
       later = omega arith;
+      not_after = let lt = below-take cs count a c e in omega (arith, lt);
       number = says.number;
       held = says.held;
       there = subst (λ (d : Device). IsAt (values 11 m.options) d.resources says.number says.held) (before-left R cs first a c n.follow e')
@@ -208,8 +214,10 @@ by-making R l device proxy block resources cs count t o i a p m answer c d n f g
       moment = by.moment;
       asked = record { place = asked.number; call = asked.call; stands = e'; datagram = by.datagram; taken = by.taken; comes = comes; spelled = it.1 };
       not_before = (arrives R l device proxy p first cs t o i asked.number by.moment m asked.call by.datagram by.taken n f e' comes it.1).0;
+      heard = let lt = below-take cs count a c e in omega (arith, early, lt);
       place = suc a;
       later = omega (arith, early);
+      not_after = below-take cs count a c e;
       number = r.observer.place;
       held = r.held;
       there = subst (λ (h : Held). IsAt (values 11 m.options) (left_by first (take (suc a) cs)).resources r.observer.place h)
@@ -225,45 +233,93 @@ by-making R l device proxy block resources cs count t o i a p m answer c d n f g
 pub answer-part : (R : Relation) (h : List Written) (device proxy : Peer) (block : ℕ) (resources : List Held) (cs : List Call)
     (p : Peer) (i t j u : ℕ) (sent m : Content) (s : Stands h)
     → Networks R s.reading device proxy (fresh block resources) cs
-    → AreGiven s.reading device proxy (fresh block resources) cs
-    → p ≡ device → IsFirstSending h i t p sent → IsHeard h p j u m → m.token ≡ sent.token → sent.code ≡ 1
-    → m.code ≡ 69 → ShowsPart t proxy (fresh block resources) cs sent m
-answer-part R h device proxy block resources cs p i t j u sent m s net given to first_sent came token get content =
-    let l = s.reading in
-    let first = first-sent l h i t p sent s.legal s.entries_are first_sent in
-    let entry = noted-at l h j u _ s.entries_are came.stands in
-    let g = given j u came.bytes entry.note
-    (subst (λ (p : Peer). at l j ≡ Some (noted u (Hears p came.bytes) entry.note)) to entry.stands) in
+    → IsFirstSending h i t p sent → (came : IsHeard h p j u m) → (g : IsGiven (fresh block resources) cs proxy came.bytes)
+    → m.token ≡ sent.token → sent.code ≡ 1 → m.code ≡ 69 → ShowsPart t g.count proxy (fresh block resources) cs sent m
+answer-part R h device proxy block resources cs p i t j u sent m s net first_sent came g token get content =
+    let first = first-sent s.reading h i t p sent s.legal s.entries_are first_sent in
     let start = fresh block resources in
     let made = all-of (IsMade R (take g.count cs)) (left_by start (take g.count cs)).out g.datagram
     (answers_are_made R block resources (take g.count cs) (follow-take R cs start g.count net.follow)) g.given in
     let place = at-contained (take g.count cs) made.call made.among in
-    by-making R l device proxy block resources cs g.count t first.0 i place.0 p sent m made.call g.datagram net first.1 get place.1 g.to
+    by-making R s.reading device proxy block resources cs g.count t first.0 i place.0 p sent m made.call g.datagram net first.1 get place.1 g.to
     (subst (λ (b : List ℕ). Spells m b) (sym g.has) came.spelled) token content made.makes
 
 -- So does what was heard for one.
 pub told-shows : (R : Relation) (h : List Written) (device proxy : Peer) (block : ℕ) (resources : List Held) (cs : List Call)
     (k : ℕ) (q : CoapRequest) (j : ℕ) (m : Content) (s : Stands h)
     → Networks R s.reading device proxy (fresh block resources) cs
-    → AreGiven s.reading device proxy (fresh block resources) cs
-    → (x : IsToldFor h k q j m) → q.method ≡ 1 → q.peer ≡ device
-    → m.code ≡ 69 → ShowsPart x.sent_for.moment proxy (fresh block resources) cs x.sent m
-told-shows R h device proxy block resources cs k q j m s net given x get to content =
+    → (x : IsToldFor h k q j m) → (g : IsGiven (fresh block resources) cs proxy x.response.heard.bytes) → q.method ≡ 1
+    → m.code ≡ 69 → ShowsPart x.sent_for.moment g.count proxy (fresh block resources) cs x.sent m
+told-shows R h device proxy block resources cs k q j m s net x g get content =
     let for_it = x.sent_for in
     let code : x.sent.code ≡ 1 = ap (λ (m : Content). m.code) for_it.asks.1 ∙ (code-of for_it.asks.0 q x.block x.sent.mid x.sent.token ∙ get) in
-    answer-part R h device proxy block resources cs q.peer x.sending for_it.moment j x.response.moment x.sent m s net given to for_it.first x.response.heard
+    answer-part R h device proxy block resources cs q.peer x.sending for_it.moment j x.response.moment x.sent m s net for_it.first x.response.heard g
     x.response.token code content
 
+-- What was heard was given out before.
+pub given-ordered : (R : Relation) (h : List Written) (device proxy : Peer) (block : ℕ) (resources : List Held) (cs : List Call) (calls_before : ℕ → ℕ)
+    (s : Stands h) → IsOrdered s.reading device proxy (fresh block resources) cs calls_before → (p : Peer) (j : ℕ) (m : Content) (u : ℕ) → p ≡ device
+    → (came : IsHeard h p j u m) → (g : IsGiven (fresh block resources) cs proxy came.bytes) × (g.count ≤ calls_before j)
+given-ordered R h device proxy block resources cs calls_before s order p j m u to came =
+    let entry = noted-at s.reading h j u _ s.entries_are came.stands in
+    order.given j u came.bytes entry.note (subst (λ (p : Peer). at s.reading j ≡ Some (noted u (Hears p came.bytes) entry.note)) to entry.stands)
+
+-- What was given out by some calls was by more.
+pub part-more : (since low high : ℕ) (proxy : Peer) (s : Device) (cs : List Call) (m answer : Content) → low ≤ high
+    → ShowsPart since low proxy s cs m answer → ShowsPart since high proxy s cs m answer
+part-more since low high proxy s cs m answer le p =
+    let lt = p.heard in
+    let most = p.not_after in
+    record {
+      moment = p.moment;
+      asked = p.asked;
+      not_before = p.not_before;
+      heard = omega (arith, lt, le);
+      place = p.place;
+      later = p.later;
+      not_after = omega (arith, most, le);
+      number = p.number;
+      held = p.held;
+      there = p.there;
+      observed = p.observed;
+      part = p.part;
+      ends = p.ends;
+      describes = p.describes;
+      shown = p.shown;
+    }
+
+pub held-more : (since low high : ℕ) (proxy : Peer) (s : Device) (cs : List Call) (m : Content) (state : List ℕ) → low ≤ high
+    → ShowsHeld since low proxy s cs m state → ShowsHeld since high proxy s cs m state
+held-more since low high proxy s cs m state le p =
+    let lt = p.heard in
+    let most = p.not_after in
+    record {
+      moment = p.moment;
+      asked = p.asked;
+      not_before = p.not_before;
+      heard = omega (arith, lt, le);
+      place = p.place;
+      later = p.later;
+      not_after = omega (arith, most, le);
+      number = p.number;
+      held = p.held;
+      there = p.there;
+      shown = p.shown;
+      left = p.left;
+    }
+
 -- What is shown is what the resource held, and what the executions before left it with.
-pub held-shown : (R : Relation) (proxy : Peer) (block : ℕ) (resources : List Held) (cs : List Call) (since : ℕ) (m answer : Content) (state : List ℕ)
-    → Follow R (fresh block resources) cs → (p : ShowsPart since proxy (fresh block resources) cs m answer) → state ≡ p.held.state
-    → ShowsHeld since proxy (fresh block resources) cs m state
-held-shown R proxy block resources cs since m answer state follow p shown = record {
+pub held-shown : (R : Relation) (proxy : Peer) (block : ℕ) (resources : List Held) (cs : List Call) (since count : ℕ) (m answer : Content) (state : List ℕ)
+    → Follow R (fresh block resources) cs → (p : ShowsPart since count proxy (fresh block resources) cs m answer) → state ≡ p.held.state
+    → ShowsHeld since count proxy (fresh block resources) cs m state
+held-shown R proxy block resources cs since count m answer state follow p shown = record {
   moment = p.moment;
   asked = p.asked;
   not_before = p.not_before;
+  heard = p.heard;
   place = p.place;
   later = p.later;
+  not_after = p.not_after;
   number = p.number;
   held = p.held;
   there = p.there;
@@ -272,21 +328,20 @@ held-shown R proxy block resources cs since m answer state follow p shown = reco
       shown ∙ held-left R cs (fresh block resources) p.place (values 11 m.options) p.number i p.held first follow p.there before;
 }
 
-pub held-shown-is : (R : Relation) (proxy : Peer) (block : ℕ) (resources : List Held) (cs : List Call) (since : ℕ) (m answer : Content) (state : List ℕ)
-    (follow : Follow R (fresh block resources) cs) (p : ShowsPart since proxy (fresh block resources) cs m answer) (shown : state ≡ p.held.state)
-    → (held-shown R proxy block resources cs since m answer state follow p shown).place ≡ p.place
+pub held-shown-is : (R : Relation) (proxy : Peer) (block : ℕ) (resources : List Held) (cs : List Call) (since count : ℕ) (m answer : Content) (state : List ℕ)
+    (follow : Follow R (fresh block resources) cs) (p : ShowsPart since count proxy (fresh block resources) cs m answer) (shown : state ≡ p.held.state)
+    → (held-shown R proxy block resources cs since count m answer state follow p shown).place ≡ p.place
 unfolding held-shown
-held-shown-is R proxy block resources cs since m answer state follow p shown = refl
+held-shown-is R proxy block resources cs since count m answer state follow p shown = refl
 
 pub replies-show : (R : Relation) (h : List Written) (device proxy : Peer) (block : ℕ) (resources : List Held) (cs : List Call)
     (k : ℕ) (q : CoapRequest) (j : ℕ) (m : Content) (s : Stands h)
     → Networks R s.reading device proxy (fresh block resources) cs
-    → AreGiven s.reading device proxy (fresh block resources) cs
-    → (x : IsToldFor h k q j m) → q.method ≡ 1 → q.peer ≡ device
+    → (x : IsToldFor h k q j m) → (g : IsGiven (fresh block resources) cs proxy x.response.heard.bytes) → q.method ≡ 1
     → m.code ≡ 69 → values 23 m.options ≡ []
-    → ShowsHeld x.sent_for.moment proxy (fresh block resources) cs x.sent m.payload
-replies-show R h device proxy block resources cs k q j m s net given x get to content whole =
-    let p = told-shows R h device proxy block resources cs k q j m s net given x get to content in
+    → ShowsHeld x.sent_for.moment g.count proxy (fresh block resources) cs x.sent m.payload
+replies-show R h device proxy block resources cs k q j m s net x g get content whole =
+    let p = told-shows R h device proxy block resources cs k q j m s net x g get content in
     let none = described-whole p.held p.observed p.part m.options p.describes whole in
-    held-shown R proxy block resources cs x.sent_for.moment x.sent m m.payload net.follow p
+    held-shown R proxy block resources cs x.sent_for.moment g.count x.sent m m.payload net.follow p
     (p.shown ∙ ap (λ (b : Option Block). shown_part b p.held.state) none)

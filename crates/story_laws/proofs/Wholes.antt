@@ -2,7 +2,7 @@
 use Rattle.std.proofs.Common.{◌≡◌, ℕ, zero, suc, ◌+◌, ◌<◌, ◌≤◌, ◌^◌, Bool, true, false, cond, eqb, ◌&&◌, inl, inr, List, [], ◌∷◌, ◌++◌, append-nil, length, take, Option, Some, None, is_some, option_map, refl, sym, ap, subst, ◌∙◌, arith}
 use Rattle.std.specs.Prelude.{slice_get, ⊤}
 use Rattle.std.specs.Int.{w64, to_be_bytes}
-use Rattle.std.specs.List.{AllByRecursion, list_all}
+use Rattle.std.specs.List.{AllByRecursion, Contains, list_all}
 use Rattle.std.proofs.lemmas.Bool.{and_parts, false≢true}
 use Rattle.std.proofs.lemmas.Bool.Decides.{eqb_tells, leb_tells}
 use Rattle.coap_codec.specs.Spelling.{Content, Entry}
@@ -32,12 +32,13 @@ use Rattle.demo_origin.specs.Values.{Device, Relation}
 use Rattle.demo_origin.specs.Versions.{IsLater}
 use Rattle.demo_origin.specs.declared.state.Held.{Held}
 use Rattle.demo_origin.proofs.Versioning.{as_many, same_version, versions_tell}
-use Rattle.story_laws.specs.Networks.{AreGiven, Networks}
+use Rattle.story_laws.specs.Networks.{Networks}
+use Rattle.story_laws.specs.Orders.{IsOrdered}
 use Rattle.story_laws.specs.Reads.{AreNew, AreToldFor, IsToldFor, ShowsHeld, ShowsWhole}
 use Rattle.story_laws.proofs.Originating.{follow-take}
 use Rattle.story_laws.proofs.Pacing.{got-all, got-below}
 use Rattle.story_laws.proofs.Pieces.{ArePartsOf, EndsBy, block-named, parts-join, tag-named}
-use Rattle.story_laws.proofs.Showing.{ShowsPart, held-shown, same-place, told-shows}
+use Rattle.story_laws.proofs.Showing.{ShowsPart, given-ordered, held-shown, part-more, same-place, told-shows}
 use Rattle.story_laws.proofs.Standing.{events-of, stands-then}
 
 -- ---- all messages for a request ask for one path
@@ -103,27 +104,32 @@ got-in [] n lt = absurd (omega (arith, lt))
 got-in (x ∷ xs) zero lt = (x, refl)
 got-in (x ∷ xs) (suc n) lt = got-in xs n (omega (arith, lt))
 
+later-one : (j : ℕ) (js : List ℕ) (n : ℕ) → Contains js n → Contains (j ∷ js) n
+later-one j js n h = let lt = h.1 in (suc h.0, omega (arith, lt), h.2)
+
 -- ---- all pieces show one state
 
 -- the message shows a piece of what the resource of a path held, as it is known of it
-pub record IsShown (proxy : Peer) (s : Device) (cs : List Call) (path : List (List ℕ)) (P : ℕ → Content → ℕ → Type 0) (m : Content) : Type 0 where
+pub record IsShown (proxy : Peer) (s : Device) (cs : List Call) (path : List (List ℕ)) (P : ℕ → Content → ℕ → ℕ → Type 0) (m : Content) : Type 0 where
   pub since : ℕ
+  pub count : ℕ
   pub sent : Content
-  pub part : ShowsPart since proxy s cs sent m
+  pub part : ShowsPart since count proxy s cs sent m
   pub asks : values 11 sent.options ≡ path
-  pub known : P since sent part.place
+  pub known : P since sent part.place count
 
 -- So does each 2.05 of these.
-abbrev pub AreShown : Peer → Device → List Call → List (List ℕ) → (ℕ → Content → ℕ → Type 0) → List Content → Type 0
+abbrev pub AreShown : Peer → Device → List Call → List (List ℕ) → (ℕ → Content → ℕ → ℕ → Type 0) → List Content → Type 0
 AreShown proxy s cs path P ms = AllByRecursion (λ (m : Content). m.code ≡ 69 → IsShown proxy s cs path P m) ms
 
 -- and this is what it held
-pub record ShowsBody (proxy : Peer) (s : Device) (cs : List Call) (P : ℕ → Content → ℕ → Type 0) (state : List ℕ) : Type 0 where
+pub record ShowsBody (proxy : Peer) (s : Device) (cs : List Call) (P : ℕ → Content → ℕ → ℕ → Type 0) (state : List ℕ) : Type 0 where
   pub since : ℕ
+  pub count : ℕ
   pub sent : Content
   pub message : Content
-  pub part : ShowsPart since proxy s cs sent message
-  pub known : P since sent part.place
+  pub part : ShowsPart since count proxy s cs sent message
+  pub known : P since sent part.place count
   pub is : state ≡ part.held.state
 
 module _ (R : Relation) (proxy : Peer) (block : ℕ) (resources : List Held) (cs : List Call) (follow : Follow R (fresh block resources) cs)
@@ -132,8 +138,8 @@ module _ (R : Relation) (proxy : Peer) (block : ℕ) (resources : List Held) (cs
   first = fresh block resources
 
   -- an ETag of eight bytes can say each version
-  small : (since : ℕ) (m answer : Content) (p : ShowsPart since proxy first cs m answer) → p.held.version < 2 ^ 64
-  small since m answer p =
+  small : (since count : ℕ) (m answer : Content) (p : ShowsPart since count proxy first cs m answer) → p.held.version < 2 ^ 64
+  small since count m answer p =
       let now : Device = left_by first (take p.place cs) in
       let ran = events-of R (take p.place cs) first (follow-take R cs first p.place follow) in
       let many = as_many R ran.events first now ran.runs in
@@ -145,28 +151,28 @@ module _ (R : Relation) (proxy : Peer) (block : ℕ) (resources : List Held) (cs
       (later.later.eight_bytes (omega (arith, zero-version)))
 
   -- of two with one ETag
-  state-later : (t u : ℕ) (m n answer other : Content) (a : ShowsPart t proxy first cs m answer) (b : ShowsPart u proxy first cs n other)
+  state-later : (t u c d : ℕ) (m n answer other : Content) (a : ShowsPart t c proxy first cs m answer) (b : ShowsPart u d proxy first cs n other)
       → values 11 m.options ≡ values 11 n.options → to_be_bytes w64 a.held.version ≡ to_be_bytes w64 b.held.version
       → a.place ≤ b.place → b.held.state ≡ a.held.state
-  state-later t u m n answer other a b path tag le =
+  state-later t u c d m n answer other a b path tag le =
       let now : Device = left_by first (take b.place cs) in
       let it = stands-then R cs first a.place b.place (values 11 m.options) a.number a.held follow le a.there in
       let there = subst (λ (vs : List (List ℕ)). IsAt vs now.resources b.number b.held) (sym path) b.there in
       let same = same-place (values 11 m.options) now.resources a.number b.number it.held b.held it.stands there in
       let later : IsLater a.held b.held = subst (λ (x : Held). IsLater a.held x) same it.later in
-      later.state (same_version b.held.version a.held.version (small u n other b) (small t m answer a) (sym tag))
+      later.state (same_version b.held.version a.held.version (small u d n other b) (small t c m answer a) (sym tag))
 
-  same-state : (t u : ℕ) (m n answer other : Content) (a : ShowsPart t proxy first cs m answer) (b : ShowsPart u proxy first cs n other)
+  same-state : (t u c d : ℕ) (m n answer other : Content) (a : ShowsPart t c proxy first cs m answer) (b : ShowsPart u d proxy first cs n other)
       → values 11 m.options ≡ values 11 n.options → to_be_bytes w64 a.held.version ≡ to_be_bytes w64 b.held.version
       → b.held.state ≡ a.held.state
-  same-state t u m n answer other a b path tag =
+  same-state t u c d m n answer other a b path tag =
       elim (leb_tells a.place b.place) [
-        | inl w ↦ state-later t u m n answer other a b path tag w.1
-        | inr w ↦ let lt = w.1 in sym (state-later u t n m other answer b a (sym path) (sym tag) (omega (arith, lt)))
+        | inl w ↦ state-later t u c d m n answer other a b path tag w.1
+        | inr w ↦ let lt = w.1 in sym (state-later u t d c n m other answer b a (sym path) (sym tag) (omega (arith, lt)))
       ]
 
-  module _ (path : List (List ℕ)) (P : ℕ → Content → ℕ → Type 0) where
-    module _ (t : ℕ) (n other : Content) (a : ShowsPart t proxy first cs n other) (asks : values 11 n.options ≡ path) where
+  module _ (path : List (List ℕ)) (P : ℕ → Content → ℕ → ℕ → Type 0) where
+    module _ (t c : ℕ) (n other : Content) (a : ShowsPart t c proxy first cs n other) (asks : values 11 n.options ≡ path) where
       all-parts : (ms : List Content) → AreShown proxy first cs path P ms → AllByRecursion (IsAlike (to_be_bytes w64 a.held.version)) ms
           → ArePartsOf a.held.state ms
       all-parts [] shown alike = tt
@@ -175,7 +181,7 @@ module _ (R : Relation) (proxy : Peer) (block : ℕ) (resources : List Held) (cs
           let p = x.part in
           let tag : to_be_bytes w64 a.held.version ≡ to_be_bytes w64 p.held.version =
           some-is _ _ (sym alike.0.tagged ∙ tag-named p.held p.observed p.part m p.describes) in
-          let same : p.held.state ≡ a.held.state = same-state t x.since n x.sent other m a p (asks ∙ sym x.asks) tag in (
+          let same : p.held.state ≡ a.held.state = same-state t x.since c x.count n x.sent other m a p (asks ∙ sym x.asks) tag in (
             record {
               part = p.part;
               named = block-named p.held p.observed p.part m p.describes alike.0.forwarded;
@@ -213,9 +219,10 @@ module _ (R : Relation) (proxy : Peer) (block : ℕ) (resources : List Held) (cs
             let p = x.part in
             let tag = tag-named p.held p.observed p.part m p.describes in
             let alike = all-alike of (to_be_bytes w64 p.held.version) 0 6 m ms following tell code (ap (option_map tag_by) tag) in
-            let parts = all-parts x.since x.sent m p x.asks (m ∷ ms) shown alike in
+            let parts = all-parts x.since x.count x.sent m p x.asks (m ∷ ms) shown alike in
             record {
               since = x.since;
+              count = x.count;
               sent = x.sent;
               message = m;
               part = p;
@@ -234,45 +241,54 @@ module _ (R : Relation) (proxy : Peer) (block : ℕ) (resources : List Held) (cs
 -- ---- what was heard in one journal
 
 module _ (R : Relation) (h : List Written) (device proxy : Peer) (block : ℕ) (resources : List Held) (cs : List Call)
-    (s : Stands h) (net : Networks R s.reading device proxy (fresh block resources) cs)
-    (given : AreGiven s.reading device proxy (fresh block resources) cs) (new : AreNew resources)
+    (calls_before : ℕ → ℕ) (s : Stands h) (net : Networks R s.reading device proxy (fresh block resources) cs)
+    (order : IsOrdered s.reading device proxy (fresh block resources) cs calls_before) (new : AreNew resources)
     (q : CoapRequest) (get : q.method ≡ 1) (to : q.peer ≡ device) where
   asks-path : (k j : ℕ) (m : Content) (x : IsToldFor h k q j m) → values 11 x.sent.options ≡ values 11 (request_options q)
   asks-path k j m x =
       ap (λ (c : Content). values 11 c.options) x.sent_for.asks.1 ∙ path-of x.sent_for.asks.0 q x.block x.sent.mid x.sent.token
 
-  -- a message that was sent for it, after this entry
-  abbrev IsSentSince : ℕ → ℕ → Content → ℕ → Type 0
-  IsSentSince k t m place = (b : Option Block) × (i : ℕ) × (x : IsSentFor h k q b i m) × (x.moment ≡ t)
+  -- a message that was sent for it, after this entry, and one of these entries before which it was answered
+  abbrev IsSentSince : ℕ → List ℕ → ℕ → Content → ℕ → ℕ → Type 0
+  IsSentSince k js t m place count =
+      ((b : Option Block) × (i : ℕ) × (x : IsSentFor h k q b i m) × (x.moment ≡ t)) × ((j : ℕ) × Contains js j × (count ≡ calls_before j))
 
-  all-shown : (k : ℕ) (js : List ℕ) (ms : List Content) → AreToldFor h k q js ms
-      → AreShown proxy (fresh block resources) cs (values 11 (request_options q)) (IsSentSince k) ms
-  all-shown k [] [] told = tt
-  all-shown k [] (m ∷ ms) told = absurd told
-  all-shown k (j ∷ js) [] told = absurd told
-  all-shown k (j ∷ js) (m ∷ ms) told = (
+  all-shown : (k : ℕ) (all js : List ℕ) (ms : List Content) → ((j : ℕ) → Contains js j → Contains all j) → AreToldFor h k q js ms
+      → AreShown proxy (fresh block resources) cs (values 11 (request_options q)) (IsSentSince k all) ms
+  all-shown k all [] [] among told = tt
+  all-shown k all [] (m ∷ ms) among told = absurd told
+  all-shown k all (j ∷ js) [] among told = absurd told
+  all-shown k all (j ∷ js) (m ∷ ms) among told = (
     λ content.
-        let x = told.0 in record {
+        let x = told.0 in
+        let g = given-ordered R h device proxy block resources cs calls_before s order q.peer j m x.response.moment to x.response.heard in record {
           since = x.sent_for.moment;
+          count = calls_before j;
           sent = x.sent;
-          part = told-shows R h device proxy block resources cs k q j m s net given x get to content;
+          part = part-more x.sent_for.moment g.0.count (calls_before j) proxy (fresh block resources) cs x.sent m g.1
+              (told-shows R h device proxy block resources cs k q j m s net x g.0 get content);
           asks = asks-path k j m x;
-          known = (x.block, x.sending, x.sent_for, refl);
+          known = ((x.block, x.sending, x.sent_for, refl), (j, among j (zero, omega arith, refl), refl));
         },
-    all-shown k js ms told.1,
+    all-shown k all js ms (λ i has. among i (later-one j js i has)) told.1,
   )
 
   pub whole-shown : DownloadsJoin → (k : ℕ) (js : List ℕ) (ms : List Content) (w : Response) → AreToldFor h k q js ms
-      → whole_of q ms ≡ Some w → w.code ≡ 69 → ShowsWhole h k q proxy (fresh block resources) cs w.body
+      → whole_of q ms ≡ Some w → w.code ≡ 69 → ShowsWhole h k q js proxy (fresh block resources) cs calls_before w.body
   whole-shown join k js ms w told whole content =
       let it =
-      body-shown R proxy block resources cs net.follow new (values 11 (request_options q)) (IsSentSince k) join q get ms w
-      (all-shown k js ms told) whole content in
+      body-shown R proxy block resources cs net.follow new (values 11 (request_options q)) (IsSentSince k js) join q get ms w
+      (all-shown k js js ms (λ j has. has) told) whole content in
+      let sent = it.known.0 in
+      let heard = it.known.1 in
+      let shown = held-shown R proxy block resources cs it.since it.count it.sent it.message w.body net.follow it.part it.is in
       record {
-        block = it.known.0;
-        sending = it.known.1;
+        block = sent.0;
+        sending = sent.1;
         message = it.sent;
-        sent = it.known.2;
-        shown = subst (λ (t : ℕ). ShowsHeld t proxy (fresh block resources) cs it.sent w.body) (sym it.known.3)
-            (held-shown R proxy block resources cs it.since it.sent it.message w.body net.follow it.part it.is);
+        sent = sent.2;
+        entry = heard.0;
+        among = heard.1;
+        shown = subst (λ (t : ℕ). ShowsHeld t (calls_before heard.0) proxy (fresh block resources) cs it.sent w.body) (sym sent.3)
+            (subst (λ (n : ℕ). ShowsHeld it.since n proxy (fresh block resources) cs it.sent w.body) heard.2 shown);
       }

@@ -40,10 +40,11 @@ abbrev pub AreDoneBefore : List Written → Peer → Peer → List Call → ℕ 
 AreDoneBefore h device proxy cs k place =
     (n t c o : ℕ) (js : List ℕ) → IsEntry h n t (Answers c o (Live js)) → (r : RestsOn h n c o js)
     → r.request.method ≢ 1 → r.request.peer ≡ device → r.response.code / 32 ≡ 2 → n ≤ k
-    → (done : IsDoneOnce h r.opening r.request proxy cs) × (done.place < place)
+    → (done : IsDoneOnce h r.opening r.request js proxy cs) × (done.place < place)
 
 -- What was heard for a GET under the token of a message that was sent after the entry k, a 2.05 in
--- one piece which names no block, shows what the resource held after all these.
+-- one piece which names no block, shows what the resource held after all these, and before it was
+-- heard.
 abbrev pub WritesShow : Relation → Type 0
 WritesShow R =
     (h : List Written) (device proxy : Peer) (block : ℕ) (resources : List Held) (cs : List Call)
@@ -53,11 +54,12 @@ WritesShow R =
     → IsOrdered s.reading device proxy (fresh block resources) cs calls_before
     → (x : IsToldFor h k q j m) → q.method ≡ 1 → q.peer ≡ device
     → m.code ≡ 69 → values 23 m.options ≡ []
-    → (shown : ShowsHeld x.sent_for.moment proxy (fresh block resources) cs x.sent m.payload)
+    → (shown : ShowsHeld x.sent_for.moment (calls_before j) proxy (fresh block resources) cs x.sent
+    m.payload)
     × AreDoneBefore h device proxy cs k shown.place
 
 -- What was so heard and is one whole 2.05, in one piece or in several, shows one state that the
--- resource of a new device held, after all these.
+-- resource of a new device held, after all these, and before one of the pieces was heard.
 abbrev pub WholesShow : Relation → Type 0
 WholesShow R =
     (h : List Written) (device proxy : Peer) (block : ℕ) (resources : List Held) (cs : List Call)
@@ -67,5 +69,5 @@ WholesShow R =
     → IsOrdered s.reading device proxy (fresh block resources) cs calls_before → AreNew resources
     → AreToldFor h k q js ms → whole_of q ms ≡ Some w → q.method ≡ 1
     → q.peer ≡ device → w.code ≡ 69
-    → (shown : ShowsWhole h k q proxy (fresh block resources) cs w.body)
+    → (shown : ShowsWhole h k q js proxy (fresh block resources) cs calls_before w.body)
     × AreDoneBefore h device proxy cs k shown.shown.place

@@ -1,12 +1,12 @@
 -- What an answer of success to a POST means for the device, whatever the network does.
-use Rattle.std.specs.Prelude.{◌≡◌, ℕ, ◌/◌, ◌≤◌, List, slice_get, Option, Some}
+use Rattle.std.specs.Prelude.{◌≡◌, ℕ, ◌/◌, ◌≤◌, List, [], ◌∷◌, ◌++◌, slice_get, Option, Some}
 use Rattle.coap_codec.specs.Spelling.{Content}
 use Rattle.coap_codec.specs.declared.block.Block.{Block}
 use Rattle.uri_map.specs.declared.peer.Peer.{Peer}
 use Rattle.ask_model.specs.Requests.{CoapRequest}
 use Rattle.journal_book.specs.Entries.{Live, Answers, Written}
 use Rattle.history_laws.specs.Justified.{Stands}
-use Rattle.history_claims.specs.Headline.{IsEntry, IsSentFor, RestsOn}
+use Rattle.history_claims.specs.Headline.{IsEntry, IsHeardFor, RestsOn}
 use Rattle.demo_origin.specs.Calls.{Call}
 use Rattle.demo_origin.specs.Origins.{fresh}
 use Rattle.demo_origin.specs.Values.{Relation}
@@ -14,24 +14,26 @@ use Rattle.demo_origin.specs.declared.state.Held.{Held}
 use Rattle.story_laws.specs.Executions.{Executes}
 use Rattle.story_laws.specs.Networks.{Networks, AreGiven}
 
--- For the request q, asked in the entry k, a message was sent: it, or a piece of its body. The
--- device executed this message, and just once.
-pub record IsDoneOnce (h : List Written) (k : ℕ) (q : CoapRequest) (proxy : Peer) (cs : List Call)
-    : Type 0 where
+-- For the request q, asked in the entry k, a message was sent: it, or a piece of its body. The last
+-- of these entries heard the reply to it. The device executed this message, and just once.
+pub record IsDoneOnce (h : List Written) (k : ℕ) (q : CoapRequest) (js : List ℕ) (proxy : Peer)
+    (cs : List Call) : Type 0 where
   pub since : ℕ
   pub not_before : k ≤ since
   pub block : Option Block
-  pub sending : ℕ
+  pub earlier : List ℕ
+  pub last : ℕ
+  pub are : js ≡ earlier ++ last ∷ []
   pub message : Content
-  pub sent : IsSentFor h since q block sending message
+  pub reply : IsHeardFor h since q block last message
   pub place : ℕ
   pub call : Call
   pub stands : slice_get cs place ≡ Some call
-  pub executes : Executes proxy message call
-  pub once : (b : ℕ) (y : Call) → slice_get cs b ≡ Some y → Executes proxy message y → b ≡ place
+  pub executes : Executes proxy reply.sent call
+  pub once : (b : ℕ) (y : Call) → slice_get cs b ≡ Some y → Executes proxy reply.sent y → b ≡ place
 
--- For a POST (method 2) that was answered by success a message was executed, exactly once. Of a body
--- in pieces a device executes the last alone (LastPieceExecutes).
+-- A POST (method 2) that was answered by success was executed exactly once, by the message to which
+-- the last reply came. Of a body in pieces a device executes the last alone (LastPieceExecutes).
 abbrev pub PostsOnce : Relation → Type 0
 PostsOnce R =
     (h : List Written) (device proxy : Peer) (block : ℕ) (resources : List Held) (cs : List Call)
@@ -40,4 +42,4 @@ PostsOnce R =
     → AreGiven s.reading device proxy (fresh block resources) cs
     → IsEntry h n t (Answers c k (Live js)) → (r : RestsOn h n c k js)
     → r.request.method ≡ 2 → r.request.peer ≡ device → r.response.code / 32 ≡ 2
-    → IsDoneOnce h r.opening r.request proxy cs
+    → IsDoneOnce h r.opening r.request js proxy cs

@@ -1,6 +1,6 @@
 -- What a reply to a GET, or a notification, shows of the device, whatever the network does.
-use Rattle.std.specs.Prelude.{◌≡◌, ℕ, ◌≤◌, List, [], ◌∷◌, take, Option, ⊤}
-use Rattle.std.specs.List.{AllByRecursion}
+use Rattle.std.specs.Prelude.{◌≡◌, ℕ, ◌<◌, ◌≤◌, List, [], ◌∷◌, take, Option, ⊤}
+use Rattle.std.specs.List.{AllByRecursion, Contains}
 use Rattle.coap_codec.specs.Spelling.{Content}
 use Rattle.coap_codec.specs.Values.{values}
 use Rattle.coap_codec.specs.declared.block.Block.{Block}
@@ -16,7 +16,7 @@ use Rattle.demo_origin.specs.Requests.{IsAt}
 use Rattle.demo_origin.specs.Values.{Device, Relation}
 use Rattle.demo_origin.specs.declared.state.Held.{Held}
 use Rattle.story_laws.specs.Arriving.{HearsMessage}
-use Rattle.story_laws.specs.Networks.{Networks, AreGiven}
+use Rattle.story_laws.specs.Networks.{Networks, IsGiven}
 
 -- Under the token of a message that was sent for q after the entry k, the entry j heard this
 -- response: the reply to it, or a notification of what it asked to be told of (RFC 7641 section
@@ -30,15 +30,17 @@ pub record IsToldFor (h : List Written) (k : ℕ) (q : CoapRequest) (j : ℕ) (m
     pub response : IsResponse h q.peer sending sent j m
 
 -- This is the state that the resource of the message's path held when the device heard the message,
--- in one of its calls, at this moment at the earliest; or between later ones, or after all of them:
--- before this call, what the executions before left it with.
-pub record ShowsHeld (since : ℕ) (proxy : Peer) (s : Device) (cs : List Call) (m : Content)
+-- in one of its first so many calls, at this moment at the earliest; or between later ones of these,
+-- or after all of them: before this call, what the executions before left it with.
+pub record ShowsHeld (since count : ℕ) (proxy : Peer) (s : Device) (cs : List Call) (m : Content)
     (state : List ℕ) : Type 0 where
   pub moment : ℕ
   pub asked : HearsMessage proxy m cs moment
   pub not_before : since ≤ moment
+  pub heard : asked.place < count
   pub place : ℕ
   pub later : asked.place ≤ place
+  pub not_after : place ≤ count
   pub number : ℕ
   pub held : Held
   pub there : IsAt (values 11 m.options) (left_by s (take place cs)).resources number held
@@ -47,16 +49,17 @@ pub record ShowsHeld (since : ℕ) (proxy : Peer) (s : Device) (cs : List Call) 
       → state ≡ left_with (values 11 m.options) first.state (told_in (take place cs))
 
 -- What was so heard for a GET (method 1), a 2.05 in one piece which names no block, shows such a
--- state, of that moment or later in which the message was first sent.
+-- state: of that moment or later in which the message was first sent, and of before the device had
+-- given it out.
 abbrev pub RepliesShow : Relation → Type 0
 RepliesShow R =
     (h : List Written) (device proxy : Peer) (block : ℕ) (resources : List Held) (cs : List Call)
     (k : ℕ) (q : CoapRequest) (j : ℕ) (m : Content) (s : Stands h)
     → Networks R s.reading device proxy (fresh block resources) cs
-    → AreGiven s.reading device proxy (fresh block resources) cs
-    → (x : IsToldFor h k q j m) → q.method ≡ 1 → q.peer ≡ device
+    → (x : IsToldFor h k q j m)
+    → (g : IsGiven (fresh block resources) cs proxy x.response.heard.bytes) → q.method ≡ 1
     → m.code ≡ 69 → values 23 m.options ≡ []
-    → ShowsHeld x.sent_for.moment proxy (fresh block resources) cs x.sent m.payload
+    → ShowsHeld x.sent_for.moment g.count proxy (fresh block resources) cs x.sent m.payload
 
 -- ---- a state that comes in several pieces (RFC 7959)
 
@@ -71,11 +74,14 @@ AreToldFor h k q (j ∷ js) (m ∷ ms) = IsToldFor h k q j m × AreToldFor h k q
 AreToldFor h k q _ _ = ⊥
 
 -- The resource held this state when the device heard a message that was sent for q after the entry
--- k, or later.
-pub record ShowsWhole (h : List Written) (k : ℕ) (q : CoapRequest) (proxy : Peer) (s : Device)
-    (cs : List Call) (state : List ℕ) : Type 0 where
+-- k, or later, and before one of these entries. Of each entry it is told how many calls there were
+-- before it.
+pub record ShowsWhole (h : List Written) (k : ℕ) (q : CoapRequest) (js : List ℕ) (proxy : Peer)
+    (s : Device) (cs : List Call) (calls_before : ℕ → ℕ) (state : List ℕ) : Type 0 where
   pub block : Option Block
   pub sending : ℕ
   pub message : Content
   pub sent : IsSentFor h k q block sending message
-  pub shown : ShowsHeld sent.moment proxy s cs message state
+  pub entry : ℕ
+  pub among : Contains js entry
+  pub shown : ShowsHeld sent.moment (calls_before entry) proxy s cs message state

@@ -1,7 +1,7 @@
 //! The laws.
 
 ghost use Rattle.story_laws.specs.Arriving.{ArrivesWithin, ForgottenBefore};
-ghost use Rattle.story_laws.specs.Executions.{MessagesOnce};
+ghost use Rattle.story_laws.specs.Executions.{AskedOnce, MessagesOnce};
 ghost use Rattle.story_laws.specs.Lateness.{SentWithin};
 ghost use Rattle.story_laws.specs.Orders.{WholesShow, WritesShow};
 ghost use Rattle.story_laws.specs.Posts.{PostsOnce};
@@ -31,20 +31,27 @@ pub fn messages_once<H: Behaviour>()
     ensures { MessagesOnce H.relation }
 {}
 
-/// A POST that was answered by success was executed exactly once.
+/// What is asked is executed at most once, however it is answered, and if it isn't: of the messages
+/// for one ask a device executes one at most.
+pub fn asked_once<H: Behaviour>()
+    ensures { AskedOnce H.relation }
+{}
+
+/// A POST that was answered by success was executed exactly once, by the message that was replied
+/// to.
 pub fn posts_once<H: Behaviour>()
     ensures { PostsOnce H.relation }
 {}
 
-/// A reply to a GET that comes in one piece shows the state that the resource held when the device
-/// heard the message that asked for it.
+/// A reply to a GET that comes in one piece shows a state that the resource held, not before the
+/// device heard the message that asked for it, and not after it gave the reply out.
 pub fn replies_show<H: Behaviour>()
     ensures { RepliesShow H.relation }
 {}
 
 /// Such a reply shows what each request did that was answered by success before that message was
-/// sent, where the proxy's entries and the device's calls have an order in which nothing is heard
-/// before it is sent.
+/// sent, and nothing of after it was heard, where the proxy's entries and the device's calls have an
+/// order in which nothing is heard before it is sent.
 pub fn writes_show<H: Behaviour>()
     ensures { WritesShow H.relation }
 {}

@@ -10,8 +10,8 @@
 mod laws;
 
 pub use laws::{
-    arrives_within, forgotten_before, messages_once, posts_once, replies_show, sent_within,
-    wholes_show, writes_show,
+    arrives_within, asked_once, forgotten_before, messages_once, posts_once, replies_show,
+    sent_within, wholes_show, writes_show,
 };
 
 /// How late a copy goes out at most after it is due, in milliseconds.

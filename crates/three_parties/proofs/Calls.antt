@@ -19,6 +19,16 @@ unfoldable pub last_moment : ℕ → List Call → ℕ
 last_moment s [] = s
 last_moment s (c ∷ cs) = last_moment (moment_after s c.event) cs
 
+-- the same, to be computed
+abbrev pub moment_then : ℕ → List Call → ℕ
+moment_then s [] = s
+moment_then s (c ∷ cs) = moment_then (moment_after s c.event) cs
+
+pub then-last : (s : ℕ) (cs : List Call) → moment_then s cs ≡ last_moment s cs
+unfolding last_moment
+then-last s [] = refl
+then-last s (c ∷ cs) = then-last (moment_after s c.event) cs
+
 pub follow-both : (R : Relation) (xs ys : List Call) (s : Device) → Follow R s xs → Follow R (left_by s xs) ys → Follow R s (xs ++ ys)
 follow-both R [] ys s f g = g
 follow-both R (x ∷ xs) ys s f g = (f.0, f.1, follow-both R xs ys x.after f.2 g)

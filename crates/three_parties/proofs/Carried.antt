@@ -1,5 +1,5 @@
 -- An answer that rests on what its journal begins with shows what the resource held, and no less than what was confirmed before.
-use Rattle.std.proofs.Common.{◌≡◌, inl, inr, ℕ, ◌≤◌, true, false, List, [], ◌∷◌, length, take, Option, sym, ap, subst, ◌∙◌, arith}
+use Rattle.std.proofs.Common.{◌≡◌, inl, inr, ℕ, zero, suc, ◌≤◌, true, false, List, [], ◌∷◌, length, take, Option, Some, refl, sym, ap, subst, ◌∙◌, arith}
 use Rattle.std.specs.List.{AllByRecursion, Contains}
 use Rattle.std.proofs.lemmas.Bool.{false≢true}
 use Rattle.std.proofs.lemmas.Bool.Decides.{leb_tells}
@@ -8,7 +8,7 @@ use Rattle.coap_codec.specs.Values.{values}
 use Rattle.coap_codec.specs.declared.block.Block.{Block}
 use Rattle.uri_map.specs.declared.peer.Peer.{Peer}
 use Rattle.ask_model.specs.Requests.{CoapRequest, request_options}
-use Rattle.journal_book.specs.Entries.{Mark, Done, Carries, Grounds, Live, Answers, Written}
+use Rattle.journal_book.specs.Entries.{Mark, Ground, Done, Sent, Heard, Deed, Carries, Grounds, Live, Answers, Written}
 use Rattle.history_laws.specs.Justified.{Stands}
 use Rattle.history_laws.specs.Readings.{carries}
 use Rattle.history_laws.proofs.CallerLemmas.{at-still, copy-at, follows-at, some-is}
@@ -34,27 +34,28 @@ use Rattle.three_parties.proofs.Knowing.{Known}
 use Rattle.three_parties.proofs.Lists.{all-map}
 use Rattle.three_parties.proofs.Pages.{IsEarlier}
 use Rattle.three_parties.proofs.Paths.{same-path}
-use Rattle.three_parties.proofs.Reading.{GoesBack, held-at, not-before, when}
+use Rattle.three_parties.proofs.Calls.{moment_then}
+use Rattle.three_parties.proofs.Reading.{GoesBack, held-at, not-after, not-before, when}
 
 -- a copy of a message and of its reply
-reply-copied : (h : List Written) (o : ℕ) (r : CoapRequest) (j : ℕ) (m : Content) (device : Peer) → r.peer ≡ device → (x : IsCarriedFor h o r j m)
+abbrev reply-copied : (h : List Written) (o : ℕ) (r : CoapRequest) (j : ℕ) (m : Content) (device : Peer) → r.peer ≡ device → (x : IsCarriedFor h o r j m)
     → IsReplyCopied h x.sending j device x.sent m
 reply-copied h o r j m device to x =
-    subst (λ (p : Peer). IsReplyCopied h x.sending j p x.sent m) to (record {
+    record {
       sent_at = x.sent_at;
       sent_as = x.sent_as;
       text = x.text;
       timeout = x.timeout;
-      first = x.first;
+      first = subst (λ (p : Peer). IsEntry h x.sending x.sent_at (Carries x.sent_as Ground (Sent p x.text (Some x.timeout)))) to x.first;
       sent_spelled = x.sent_spelled;
       heard_at = x.heard_at;
       heard_as = x.heard_as;
       bytes = x.bytes;
-      heard = x.heard;
+      heard = subst (λ (p : Peer). IsEntry h j x.heard_at (Carries x.heard_as Ground (Heard p x.bytes))) to x.heard;
       spelled = x.spelled;
       token = sym x.token;
       after = x.order.1;
-    })
+    }
 
 -- No answer stands before a copy.
 no-answer : (h : List Written) → Stands h → (n t c k o u number : ℕ) (g : Grounds) (mark : Mark) (done : Done) → IsEntry h n t (Answers c k g)
@@ -85,8 +86,9 @@ module _ (R : Relation) (block : ℕ) (resources : List Held) (s : Scene) (known
   abbrev count : ℕ → ℕ
   count a = length (told_in (take a calls))
 
-  -- a message for r that was sent in one of the journals before, and what was done before the device heard it
-  pub record IsKnownBefore (r : CoapRequest) (t : ℕ) (sent : Content) (place : ℕ) : Type 0 where
+  -- a message for r that was sent in one of the journals before, and what was done before the device heard it; it was heard by this moment
+  pub record IsKnownBefore (r : CoapRequest) (until t : ℕ) (sent : Content) (place bound : ℕ) : Type 0 where
+    pub by : moment_then 0 (take bound calls) ≤ until
     pub block_named : Option Block
     pub asks : AsksFor r block_named sent
     pub journal : List Written
@@ -96,22 +98,25 @@ module _ (R : Relation) (block : ℕ) (resources : List Held) (s : Scene) (known
     pub done : AreAllDone before s.flights s.taken r (count place)
 
   -- what was copied shows a piece each, as it is known
-  pub all-carried : (o : ℕ) (r : CoapRequest) (js : List ℕ) (ms : List Content) → IsAskCopied h o r → r.method ≡ 1 → r.peer ≡ device_at
-      → AreCarriedFor h o r js ms → AreShown proxy_at (fresh block resources) calls (values 11 (request_options r)) (IsKnownBefore r) ms
-  all-carried o r [] [] asked get to heard = tt
-  all-carried o r [] (m ∷ ms) asked get to heard = absurd heard
-  all-carried o r (j ∷ js) [] asked get to heard = absurd heard
-  all-carried o r (j ∷ js) (m ∷ ms) asked get to heard = (
+  pub all-carried : (o until : ℕ) (r : CoapRequest) (js : List ℕ) (ms : List Content) → ((j u : ℕ) (d : Deed) → Contains js j → IsEntry h j u d → u ≤ until)
+      → IsAskCopied h o r → r.method ≡ 1 → r.peer ≡ device_at
+      → AreCarriedFor h o r js ms → AreShown proxy_at (fresh block resources) calls (values 11 (request_options r)) (IsKnownBefore r until) ms
+  all-carried o until r [] [] early asked get to heard = tt
+  all-carried o until r [] (m ∷ ms) early asked get to heard = absurd heard
+  all-carried o until r (j ∷ js) [] early asked get to heard = absurd heard
+  all-carried o until r (j ∷ js) (m ∷ ms) early asked get to heard = (
     λ content.
         let x = heard.0 in
         let code : x.sent.code ≡ 1 = ap (λ (m : Content). m.code) x.asks.1 ∙ (code-of x.asks.0 r x.block x.sent.mid x.sent.token ∙ get) in
         let it = inherited x.sending j x.sent m (reply-copied h o r j m device_at to x) code content in
         record {
           since = it.since;
+          count = it.bound;
           sent = x.sent;
           part = it.part;
           asks = ap (λ (c : Content). values 11 c.options) x.asks.1 ∙ path-of x.asks.0 r x.block x.sent.mid x.sent.token;
           known = record {
+            by = let by = it.by in let sooner = early j x.heard_at _ (zero, omega arith, refl) x.heard in omega (arith, by, sooner);
             block_named = x.block;
             asks = x.asks;
             journal = it.journal;
@@ -121,22 +126,24 @@ module _ (R : Relation) (block : ℕ) (resources : List Held) (s : Scene) (known
             done = it.done o r asked x.order.0 to;
           };
         },
-    all-carried o r js ms asked get to heard.1,
+    all-carried o until r js ms (λ i u d has e. early i u d (let lt = has.1 in (suc has.0, omega (arith, lt), has.2)) e) asked get to heard.1,
   )
 
   -- what a piece that is all shows
-  module _ (t : ℕ) (sent m : Content) (part : ShowsPart t proxy_at (fresh block resources) calls sent m) (state : List ℕ) (is : state ≡ part.held.state) where
-    shown : ShowsSo t proxy_at (fresh block resources) calls sent state
-    shown = held-shown R proxy_at block resources calls t sent m state known.tale.follow part is
+  module _ (t bound : ℕ) (sent m : Content) (part : ShowsPart t bound proxy_at (fresh block resources) calls sent m) (state : List ℕ)
+      (is : state ≡ part.held.state) where
+    shown : ShowsSo t bound proxy_at (fresh block resources) calls sent state
+    shown = held-shown R proxy_at block resources calls t bound sent m state known.tale.follow part is
 
     place-is : shown.place ≡ part.place
     unfolding shown
-    place-is = held-shown-is R proxy_at block resources calls t sent m state known.tale.follow part is
+    place-is = held-shown-is R proxy_at block resources calls t bound sent m state known.tale.follow part is
 
-  pub carried-shown : (k o : ℕ) (q r : CoapRequest) (t : ℕ) (sent m : Content) (part : ShowsPart t proxy_at (fresh block resources) calls sent m) → IsKnownBefore r t sent part.place
+  pub carried-shown : (k o until : ℕ) (q r : CoapRequest) (t bound : ℕ) (sent m : Content) (part : ShowsPart t bound proxy_at (fresh block resources) calls sent m)
+      → IsKnownBefore r until t sent part.place bound
       → (state : List ℕ) → state ≡ part.held.state → IsAskCopied h o r → IsSameGet q r → q.peer ≡ device_at → GoesBack h k o q
-      → ShowsCarried before h k q r resources s.flights s.taken state
-  carried-shown k o q r t sent m part known_so state is asked same to back = record {
+      → ShowsCarried before h k q r until resources s.flights s.taken state
+  carried-shown k o until q r t bound sent m part known_so state is asked same to back = record {
     message = sent;
     sent = record {
       block = known_so.block_named;
@@ -148,15 +155,16 @@ module _ (R : Relation) (block : ℕ) (resources : List Held) (s : Scene) (known
       first = subst (λ (p : Peer). IsFirstSending known_so.journal known_so.number t p sent) (sym to ∙ same.1) known_so.first;
     };
     shows = record {
-      moment = when R block resources s known top h page punctual before earlier t sent state (shown t sent m part state is);
-      not_before = not-before R block resources s known top h page punctual before earlier t sent state (shown t sent m part state is);
-      count = count (shown t sent m part state is).place;
-      held = held-at R block resources s known top h page punctual before earlier t sent state (shown t sent m part state is);
+      moment = when R block resources s known top h page punctual before earlier t bound sent state (shown t bound sent m part state is);
+      not_before = not-before R block resources s known top h page punctual before earlier t bound sent state (shown t bound sent m part state is);
+      not_after = not-after R block resources s known top h page punctual before earlier t bound sent state (shown t bound sent m part state is) until known_so.by;
+      count = count (shown t bound sent m part state is).place;
+      held = held-at R block resources s known top h page punctual before earlier t bound sent state (shown t bound sent m part state is);
       written = λ n u c w js answered y changes peer path class lt.
           absurd (no-answer h page.stands n u c w o asked.moment asked.number (Live js) _ _ answered asked.stands (back n u c w js answered y changes peer path lt));
-      written_before = all-map (λ (w : List Written). AreDone w s.flights s.taken (length w) r (count (shown t sent m part state is).place))
-          (λ (w : List Written). AreDone w s.flights s.taken (length w) q (count (shown t sent m part state is).place))
+      written_before = all-map (λ (w : List Written). AreDone w s.flights s.taken (length w) r (count (shown t bound sent m part state is).place))
+          (λ (w : List Written). AreDone w s.flights s.taken (length w) q (count (shown t bound sent m part state is).place))
           (λ w d n u c a js answered y changes peer path class lt. d n u c a js answered y changes (peer ∙ same.1) (path ∙ same-path q r same) class lt) before
-          (subst (λ (a : ℕ). AreAllDone before s.flights s.taken r (count a)) (sym (place-is t sent m part state is)) known_so.done);
+          (subst (λ (a : ℕ). AreAllDone before s.flights s.taken r (count a)) (sym (place-is t bound sent m part state is)) known_so.done);
     };
   }

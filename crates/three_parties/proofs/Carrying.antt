@@ -131,7 +131,7 @@ module _ (t : ℕ) (S : State) (kept : Kept S) where
   -- The reply is one of the journal's own, with its message; or both are copies there too.
   abbrev IsReplyThere : (n k u v : ℕ) (p : Peer) (sent m : Content) → Type 0
   IsReplyThere n k u v p sent m =
-      (IsFirstSending S.entries n u p sent × IsHeard S.entries p k v m) ⊎ IsReplyCopied S.entries n k p sent m
+      (IsFirstSending S.entries n u p sent × IsHeard S.entries p k v m) ⊎ ((c : IsReplyCopied S.entries n k p sent m) × (c.heard_at ≡ v))
 
   pub reply-there : (i j : ℕ) (p : Peer) (sent m : Content) → (c : IsReplyCopied (copied_entries t S) i j p sent m)
       → (c.sent_as < c.heard_as) × IsReplyThere c.sent_as c.heard_as c.sent_at c.heard_at p sent m
@@ -212,24 +212,28 @@ module _ (t : ℕ) (S : State) (kept : Kept S) where
           subst (λ (n : ℕ). at l n ≡ Some (noted fits.sent_at (Carries fits.old Ground (Sent q.peer fits.text fits.timeout)) (First is.opening message))) place fits.sent in
           let sends = same-done c.sent_at c.sent_as Ground (Sent p c.text (Some c.timeout)) of_sent _ first in
           let parts = sent-done q.peer p fits.text c.text fits.timeout (Some c.timeout) sends.1 in
-          inr (record {
-            sent_at = fits.sent_at;
-            sent_as = fits.old;
-            text = c.text;
-            timeout = c.timeout;
-            first = subst (λ (o : Option ℕ). IsEntry S.entries c.sent_as fits.sent_at (Carries fits.old Ground (Sent p c.text o))) parts.2
-                (subst (λ (b : List ℕ). IsEntry S.entries c.sent_as fits.sent_at (Carries fits.old Ground (Sent p b fits.timeout))) parts.1
-                (subst (λ (p : Peer). IsEntry S.entries c.sent_as fits.sent_at (Carries fits.old Ground (Sent p fits.text fits.timeout))) parts.0 (entry-in t S kept c.sent_as _ first)));
-            sent_spelled = c.sent_spelled;
-            heard_at = fits.moment;
-            heard_as = fits.number;
-            bytes = c.bytes;
-            heard = subst (λ (b : List ℕ). IsEntry S.entries c.heard_as fits.moment (Carries fits.number Ground (Heard p b))) same.1
-                (subst (λ (p : Peer). IsEntry S.entries c.heard_as fits.moment (Carries fits.number Ground (Heard p fits.bytes))) same.0 (entry-in t S kept c.heard_as _ heard));
-            spelled = c.spelled;
-            token = c.token;
-            after = rises;
-          })
+          let hears = same-done c.heard_at c.heard_as Ground (Heard p c.bytes) of_heard _ heard in
+          inr (
+            record {
+              sent_at = fits.sent_at;
+              sent_as = fits.old;
+              text = c.text;
+              timeout = c.timeout;
+              first = subst (λ (o : Option ℕ). IsEntry S.entries c.sent_as fits.sent_at (Carries fits.old Ground (Sent p c.text o))) parts.2
+                  (subst (λ (b : List ℕ). IsEntry S.entries c.sent_as fits.sent_at (Carries fits.old Ground (Sent p b fits.timeout))) parts.1
+                  (subst (λ (p : Peer). IsEntry S.entries c.sent_as fits.sent_at (Carries fits.old Ground (Sent p fits.text fits.timeout))) parts.0 (entry-in t S kept c.sent_as _ first)));
+              sent_spelled = c.sent_spelled;
+              heard_at = fits.moment;
+              heard_as = fits.number;
+              bytes = c.bytes;
+              heard = subst (λ (b : List ℕ). IsEntry S.entries c.heard_as fits.moment (Carries fits.number Ground (Heard p b))) same.1
+                  (subst (λ (p : Peer). IsEntry S.entries c.heard_as fits.moment (Carries fits.number Ground (Heard p fits.bytes))) same.0 (entry-in t S kept c.heard_as _ heard));
+              spelled = c.spelled;
+              token = c.token;
+              after = rises;
+            },
+            ap (λ (w : Written). w.moment) hears.0 ∙ of_heard.moment,
+          )
 
   -- the ask is one of the journal's own, or a copy there too; no write that ended outran it
   pub record WasAskedThere (n : ℕ) (q : CoapRequest) : Type 0 where

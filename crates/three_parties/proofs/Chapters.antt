@@ -1,5 +1,5 @@
 -- What is known of one journal: how many calls went before each entry, and what the device heard of it and of others.
-use Rattle.std.proofs.Common.{◌≡◌, ◌⊎◌, ℕ, ◌+◌, ◌≤◌, inl, inr, List, [], ◌∷◌, ◌++◌, length, length-append, map, Option, Some, refl, sym, ap, subst, ◌∙◌, arith}
+use Rattle.std.proofs.Common.{◌≡◌, ◌⊎◌, ℕ, ◌+◌, ◌≤◌, inl, inr, List, [], ◌∷◌, ◌++◌, length, length-append, map, take, Option, Some, refl, sym, ap, subst, ◌∙◌, arith}
 use Rattle.std.specs.Prelude.{slice_get}
 use Rattle.uri_map.specs.declared.peer.Peer.{Peer}
 use Rattle.journal_book.specs.Entries.{Sends, Hears, Written}
@@ -16,12 +16,12 @@ use Rattle.gateway_model.specs.Going.{goes_in}
 use Rattle.story_laws.specs.declared.TheConstants.{LONGEST_WAY}
 use Rattle.three_parties.specs.Flights.{Going, Sender, ByProxy, ByDevice, by_proxy, device_at, proxy_at}
 use Rattle.three_parties.specs.declared.story.Execution.{Execution}
-use Rattle.three_parties.proofs.Calls.{WasGiven}
+use Rattle.three_parties.proofs.Calls.{last_moment, moment_then, then-last, WasGiven}
 use Rattle.three_parties.proofs.Foreign.{IsApart}
 use Rattle.three_parties.proofs.Giving.{AllHeard}
 use Rattle.three_parties.proofs.Bearing.{AreIssued}
-use Rattle.three_parties.proofs.Lists.{alike, alike-len, alike-there, got-alike, got-back, got-below, got-both, got-from, got-front}
-use Rattle.three_parties.proofs.Stamping.{IsSentIn}
+use Rattle.three_parties.proofs.Lists.{alike, alike-len, alike-there, all-got, got-alike, got-back, got-below, got-both, got-from, got-front, taken-all}
+use Rattle.three_parties.proofs.Stamping.{AreAt, IsSentIn}
 
 -- a datagram of the proxy's, and the entry that sends it
 pub record IsEnteredAs (h : List Written) (counts : List ℕ) (g : Going) : Type 0 where
@@ -43,12 +43,13 @@ pub record IsSentBefore (h : List Written) (counts : List ℕ) (a t : ℕ) (d : 
   pub counted : slice_get counts number ≡ Some count
   pub before : count ≤ a
 
--- what the proxy heard in the entry of this number had been given out
-pub record IsGivenBefore (first : Device) (calls : List Call) (counts : List ℕ) (n : ℕ) (bytes : List ℕ) : Type 0 where
+-- what the proxy heard in the entry of this number, at this moment, had been given out: the calls before weren't later
+pub record IsGivenBefore (first : Device) (calls : List Call) (counts : List ℕ) (n t : ℕ) (bytes : List ℕ) : Type 0 where
   pub given : WasGiven first calls proxy_at bytes
   pub count : ℕ
   pub counted : slice_get counts n ≡ Some count
   pub before : length given.front ≤ count
+  pub by : moment_then 0 (take count calls) ≤ t
 
 abbrev pub taken_of : Execution → Taken
 taken_of y = y.taken
@@ -65,7 +66,7 @@ pub record Chapter (Q : List ℕ → Type 0) (begun : ℕ) (first : Device) (fli
   pub entered : (n : ℕ) (g : Going) → slice_get flights n ≡ Some g → g.by ≡ ByProxy → IsEnteredAs h counts g ⊎ Q g.bytes
   pub sent_first : (a t : ℕ) (p : Peer) (d : List ℕ) (k : Option Taken) (c : Call) → slice_get calls a ≡ Some c → c.event ≡ heard t p d k
       → IsSentBefore h counts a t d ⊎ Q d
-  pub heard_after : (n t : ℕ) (bytes : List ℕ) → IsEntry h n t (Hears device_at bytes) → IsGivenBefore first calls counts n bytes
+  pub heard_after : (n t : ℕ) (bytes : List ℕ) → IsEntry h n t (Hears device_at bytes) → IsGivenBefore first calls counts n t bytes
 
 -- a journal that was given out, before a token of this number was issued
 pub record IsPast (first : Device) (flights : List Going) (calls : List Call) (top : ℕ) (h : List Written) : Type 0 where
@@ -125,7 +126,7 @@ chapter-past Q begun first flights out calls h others o = record {
 }
 
 module _ (Q : List ℕ → Type 0) (begun : ℕ) (first : Device) (flights : List Going) (t : ℕ) (given : List Emission) (h more : List Written) (calls : List Call)
-    (o : Chapter Q begun first flights calls h) (all : AllHeard first calls more)
+    (o : Chapter Q begun first flights calls h) (all : AllHeard first calls more) (bear : AreAt t more) (late : last_moment 0 calls ≤ t)
     (sends : (n : ℕ) (d : Outgoing) → slice_get (goes_in given) n ≡ Some d → IsSentIn t more d) where
   abbrev newest : List ℕ
   newest = alike (length calls) more
@@ -232,7 +233,7 @@ module _ (Q : List ℕ → Type 0) (begun : ℕ) (first : Device) (flights : Lis
         | inr other ↦ inr other
       ]
 
-  given-before : (n u : ℕ) (bytes : List ℕ) → IsEntry (h ++ more) n u (Hears device_at bytes) → IsGivenBefore first calls all_counts n bytes
+  given-before : (n u : ℕ) (bytes : List ℕ) → IsEntry (h ++ more) n u (Hears device_at bytes) → IsGivenBefore first calls all_counts n u bytes
   given-before n u bytes e =
       elim (got-both h more n _ e) [
         | inl k ↦
@@ -241,14 +242,18 @@ module _ (Q : List ℕ → Type 0) (begun : ℕ) (first : Device) (flights : Lis
               count = it.count;
               counted = got-front o.counts newest n it.count it.counted;
               before = it.before;
+              by = it.by;
             }
         | inr k ↦
             let it = all k.0 u bytes k.2 in
+            let at : u ≡ t = all-got (λ (w : Written). w.moment ≡ t) more bear k.0 _ k.2 in
+            let then = ap (moment_then 0) (taken-all calls (length calls) (omega arith)) ∙ then-last 0 calls in
             let len = ap length it.parts ∙ length-append it.front it.rest in record {
               given = it;
               count = length calls;
               counted = (there n k.0 _ k.1 k.2).1;
               before = omega (arith, len);
+              by = omega (arith, then, late, at);
             }
       ]
 

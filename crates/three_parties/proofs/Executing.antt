@@ -3,6 +3,7 @@ use Rattle.std.proofs.Common.{◌≡◌, ℕ, ◌≤◌, inl, inr, List, [], ◌
 use Rattle.std.specs.Prelude.{slice_get, unwrap_or, Result, Ok, Err, IfOk}
 use Rattle.std.specs.List.{AllByRecursion}
 use Rattle.coap_codec.specs.Spelling.{Content, Spells}
+use Rattle.coap_codec.proofs.Unique.{spells_one}
 use Rattle.media_map.specs.declared.form.Form.{Form}
 use Rattle.uri_map.specs.declared.peer.Peer.{Peer}
 use Rattle.ask_model.specs.Requests.{CoapRequest}
@@ -12,6 +13,7 @@ use Rattle.history_laws.specs.Justified.{Stands}
 use Rattle.history_laws.specs.Readings.{Note, noted, at}
 use Rattle.history_laws.proofs.CallerLemmas.{at-entries, none-some, some-is}
 use Rattle.history_claims.specs.Headline.{IsEntry}
+use Rattle.history_claims.specs.Order.{AreSentFor, KeepsOrder}
 use Rattle.demo_origin.specs.Calls.{Call}
 use Rattle.demo_origin.specs.Done.{told_in}
 use Rattle.demo_origin.specs.Once.{Event, heard, looked, gave}
@@ -24,18 +26,20 @@ use Rattle.story_laws.specs.Lateness.{ArePunctual}
 use Rattle.story_laws.specs.Networks.{IsDelivered, IsForeign, IsBrought, Networks, AreGiven}
 use Rattle.story_laws.specs.Orders.{IsOrdered}
 use Rattle.story_laws.specs.Posts.{IsDoneOnce, PostsOnce as Law}
+use Rattle.story_laws.proofs.Apart.{one-answer, one-reply}
+use Rattle.story_laws.proofs.Asked.{asked-once}
 use Rattle.story_laws.proofs.Pacing.{AreTimely}
 use Rattle.story_laws.proofs.Posting.{noted-at}
 use Rattle.gateway_model.specs.Emissions.{Emission}
 use Rattle.gateway_world.specs.Journals.{EachJournal}
 use Rattle.three_parties.specs.Flights.{Going, device_at, proxy_at}
-use Rattle.three_parties.specs.Promises.{IsOf, IsExecutedOnce, PostsOnce, PostsOnceInTime}
+use Rattle.three_parties.specs.Promises.{IsOf, IsExecutedOnce, AreExecuted, AreExecutedApart, AreAtMostOnce, PostsOnce, PostsOnceInTime}
 use Rattle.three_parties.specs.Scenes.{Scene}
 use Rattle.three_parties.specs.Stories.{IsStory, opening}
 use Rattle.three_parties.specs.Ticks.{LooksInTime}
 use Rattle.three_parties.specs.declared.story.Execution.{Execution}
 use Rattle.three_parties.specs.declared.turn.Turn.{Turn}
-use Rattle.three_parties.proofs.Calls.{is-given}
+use Rattle.three_parties.proofs.Calls.{is-given, moment_then}
 use Rattle.three_parties.proofs.Foreign.{IsApart, foreign}
 use Rattle.three_parties.proofs.Bearing.{AreIssued}
 use Rattle.three_parties.proofs.Knowing.{Known, known-none}
@@ -110,7 +114,7 @@ module _ (R : Relation) (first : Device) (s : Scene) (h : List Written) (known :
 
   -- an entry that heard a datagram, as the history has it
   heard-entry : (n t : ℕ) (bytes : List ℕ) (note : Note) → at stands.reading n ≡ Some (noted t (Hears device_at bytes) note)
-      → IsGivenBefore first tale.calls order.counts n bytes
+      → IsGivenBefore first tale.calls order.counts n t bytes
   heard-entry n t bytes note e =
       order.heard_after n t bytes (subst (λ (h : List Written). IsEntry h n t (Hears device_at bytes)) stands.entries_are (at-entries stands.reading n _ e))
 
@@ -123,6 +127,12 @@ module _ (R : Relation) (first : Device) (s : Scene) (h : List Written) (known :
 
   before-is : (i a : ℕ) → slice_get order.counts i ≡ Some a → calls_before i ≡ a
   before-is i a e = ap (λ (o : Option ℕ). unwrap_or o (length tale.calls)) e
+
+  -- which weren't later than what was heard
+  pub calls-in-time : (n t : ℕ) (bytes : List ℕ) → IsEntry h n t (Hears device_at bytes) → moment_then 0 (take (calls_before n) tale.calls) ≤ t
+  calls-in-time n t bytes e =
+      let it = order.heard_after n t bytes e in
+      subst (λ (a : ℕ). moment_then 0 (take a tale.calls) ≤ t) (sym (before-is n it.count it.counted)) it.by
 
   -- none fewer than there were before the journal
   pub calls-least : (i : ℕ) → known.begun ≤ calls_before i
@@ -183,23 +193,25 @@ module _ (R : Relation) (first : Device) (s : Scene) (h : List Written) (known :
   }
 
   -- What was done once was executed once, and that call is the execution's.
-  pub done-at : (k : ℕ) (q : CoapRequest) → (w : IsDoneOnce h k q proxy_at tale.calls)
-      → (x : IsExecutedOnce h k q s.flights s.taken) × (slice_get tale.places x.place ≡ Some w.place)
-  done-at k q w = (
+  pub done-at : (k : ℕ) (q : CoapRequest) (js : List ℕ) → (w : IsDoneOnce h k q js proxy_at tale.calls)
+      → (x : IsExecutedOnce h k q js s.flights s.taken) × (slice_get tale.places x.place ≡ Some w.place)
+  done-at k q js w = (
     record {
       since = w.since;
       not_before = w.not_before;
       block = w.block;
-      sending = w.sending;
+      earlier = w.earlier;
+      last = w.last;
+      are = w.are;
       message = w.message;
-      sent = w.sent;
+      reply = w.reply;
       place = done.number;
       execution = done.execution;
       stands = done.stands;
-      its = is-of w.message w.call done.execution done.number by call w.executes;
+      its = is-of w.reply.sent w.call done.execution done.number by call w.executes;
       once = λ b y e o.
           let other = tale.done b y e in
-          let same : other.place ≡ w.place = w.once other.place other.call other.stands (executes w.message b y other o) in
+          let same : other.place ≡ w.place = w.once other.place other.call other.stands (executes w.reply.sent b y other o) in
           tale.apart b done.number w.place (other.placed ∙ ap (λ (a : ℕ). Some a) same) done.placed;
     },
     done.placed,
@@ -216,6 +228,40 @@ module _ (R : Relation) (first : Device) (s : Scene) (h : List Written) (known :
 
       call : by.call ≡ w.call
       call = some-is by.call w.call (sym by.stands ∙ (ap (slice_get tale.calls) place ∙ w.stands))
+
+  -- Of the messages for one ask one at most was executed.
+  pub at-most : KeepsOrder → AreAtMostOnce h s.flights s.taken
+  at-most order_kept = record {
+    sent = sent;
+    once = λ i j t u p r m n a b x y f g changes other own at there e d.
+        let first = tale.done a x at in
+        let second = tale.done b y there in
+        let same =
+        asked-once R h device_at proxy_at start_of tale.calls stands networks sent i j t u p r m n first.place second.place first.call second.call f g changes other own
+        first.stands second.stands (executes m a x first e) (executes n b y second d) in
+        tale.apart a b second.place (first.placed ∙ ap (λ (i : ℕ). Some i) same) second.placed;
+  }
+    where
+      sent : AreSentFor h
+      sent = (order_kept h stands).sent
+
+      start_of : Device
+      start_of = first
+
+-- Two answers of success that rest on one execution are one.
+same-bytes : (flights : List Going) (taken : List Execution) (a b : ℕ) (x y : Execution) (m n : Content) → slice_get taken a ≡ Some x → slice_get taken b ≡ Some y
+    → a ≡ b → IsOf flights m x → IsOf flights n y → m ≡ n
+same-bytes flights taken a b x y m n at there same e d =
+    let one : x ≡ y = some-is x y (sym at ∙ (ap (slice_get taken) same ∙ there)) in
+    let flight : e.flight ≡ d.flight = some-is e.flight d.flight (sym e.stands ∙ (ap (λ (v : Execution). slice_get flights v.number) one ∙ d.stands)) in
+    spells_one m n d.flight.bytes (subst (λ (g : Going). Spells m g.bytes) flight e.spelled) d.spelled
+
+executed-apart : KeepsOrder → (h : List Written) → Stands h → (flights : List Going) (taken : List Execution) → AreExecutedApart h flights taken
+executed-apart order h stands flights taken n t c k m u d o js ls first second r s changes peers x y same =
+    let message = same-bytes flights taken x.place y.place x.execution y.execution x.reply.sent y.reply.sent x.stands y.stands same x.its y.its in
+    let reply =
+    one-reply h r.request s.request x.since y.since x.last y.last x.block y.block x.message y.message x.reply y.reply peers message in
+    one-answer h stands (order h stands) n m t u c d k o js ls x.earlier y.earlier x.last y.last first second r changes x.are y.are reply
 
 -- A story of a device that is a new one.
 module _ (holds : Form → Form → List ℕ → List ℕ → Type 0) (takes : Form → Form → List ℕ → Type 0) (R : Relation)
@@ -235,43 +281,50 @@ module _ (holds : Form → Form → List ℕ → List ℕ → Type 0) (takes : F
   timely-then looks = in-time holds takes R (fresh block resources) turns rules at_end story.is looks
 
   -- of one journal
-  posts-in : Law R → (w : List Written) → Book R (fresh block resources) at_end w → (stands : Stands w) → AreTimely w → PostsOnce w flights taken
-  posts-in law w book stands timely n t c k js answered rests post to class =
+  executed-in : Law R → (w : List Written) → Book R (fresh block resources) at_end w → (stands : Stands w) → AreTimely w → AreExecuted w flights taken
+  executed-in law w book stands timely n t c k js answered rests post to class =
       let punctual = punctual-in w stands timely in
-      (done-at R (fresh block resources) at_end w book stands punctual rests.opening rests.request
+      (done-at R (fresh block resources) at_end w book stands punctual rests.opening rests.request js
       (law w device_at proxy_at block resources book.tale.calls n t c k js stands
       (networks R (fresh block resources) at_end w book stands punctual) (given R (fresh block resources) at_end w book stands punctual) answered rests post to
       class)).0
 
-  past-posts : Law R → (top from to : ℕ) (ws : List (List Written)) → ArePast (fresh block resources) flights known-then.tale.calls top from ws to
+  posts-in : Law R → KeepsOrder → (w : List Written) → Book R (fresh block resources) at_end w → Stands w → AreTimely w → PostsOnce w flights taken
+  posts-in law order w book stands timely = record {
+    executed = executed-in law w book stands timely;
+    apart = executed-apart order w stands flights taken;
+    at_most = at-most R (fresh block resources) at_end w book stands (punctual-in w stands timely) order;
+  }
+
+  past-posts : Law R → KeepsOrder → (top from to : ℕ) (ws : List (List Written)) → ArePast (fresh block resources) flights known-then.tale.calls top from ws to
       → AllByRecursion AreTimely ws → AllByRecursion (λ (w : List Written). PostsOnce w flights taken) ws
-  past-posts law top from to [] past timely = tt
-  past-posts law top from to (w ∷ ws) past timely = (
-    posts-in law w (book-of R (fresh block resources) at_end known-then top w past.0) past.0.stands timely.0,
-    past-posts law top past.0.ended to ws past.2 timely.1,
+  past-posts law order top from to [] past timely = tt
+  past-posts law order top from to (w ∷ ws) past timely = (
+    posts-in law order w (book-of R (fresh block resources) at_end known-then top w past.0) past.0.stands timely.0,
+    past-posts law order top past.0.ended to ws past.2 timely.1,
   )
 
-  posts-then : Law R → Stands story.world.core.state.entries → LooksInTime turns
+  posts-then : Law R → KeepsOrder → Stands story.world.core.state.entries → LooksInTime turns
       → EachJournal (λ (w : List Written). PostsOnce w flights taken) out story.world.core.state.entries
-  posts-then law stands looks =
+  posts-then law order stands looks =
       let timely = timely-then looks in
       each-journal (λ (w : List Written). PostsOnce w flights taken) out story.world.core.state.entries
-      (past-posts law known-then.order.lo 0 known-then.order.begun (given_in out) known-then.order.past timely.0)
-      (posts-in law story.world.core.state.entries (book-then stands) stands timely.1)
+      (past-posts law order known-then.order.lo 0 known-then.order.begun (given_in out) known-then.order.past timely.0)
+      (posts-in law order story.world.core.state.entries (book-then stands) stands timely.1)
 
-  pub posts-once : Law R → Stands h → LooksInTime turns → EachJournal (λ (w : List Written). PostsOnce w flights taken) out h
-  posts-once law =
-      subst (λ (w : List Written). Stands w → LooksInTime turns → EachJournal (λ (w : List Written). PostsOnce w flights taken) out w) (sym story.journal) (posts-then law)
+  pub posts-once : Law R → KeepsOrder → Stands h → LooksInTime turns → EachJournal (λ (w : List Written). PostsOnce w flights taken) out h
+  posts-once law order =
+      subst (λ (w : List Written). Stands w → LooksInTime turns → EachJournal (λ (w : List Written). PostsOnce w flights taken) out w) (sym story.journal) (posts-then law order)
 
 -- what follows of what is answered
 pub if-ok : {S E : Type 0} (P U Q : S → Type 0) → ((s : S) → P s → U s → Q s) → (r : Result S E) → IfOk r P → IfOk r U → IfOk r Q
 if-ok P U Q f (Ok s) h k = f s h k
 if-ok P U Q f (Err e) h k = h
 
-pub posts-of : (R : Relation) → Law R → (holds : Form → Form → List ℕ → List ℕ → Type 0) (takes : Form → Form → List ℕ → Type 0)
+pub posts-of : (R : Relation) → Law R → KeepsOrder → (holds : Form → Form → List ℕ → List ℕ → Type 0) (takes : Form → Form → List ℕ → Type 0)
     (rules : Rules) (first : Device) (turns : List Turn) (out : List Emission) (flights : List Going) (h : List Written) (last : Device)
     (taken : List Execution) → IsStory holds takes R rules first turns out flights h last taken → Stands h
     → (block : ℕ) (resources : List Held) → first ≡ fresh block resources → PostsOnceInTime turns out h flights taken
-posts-of R law holds takes rules first turns out flights h last taken story stands block resources e looks =
+posts-of R law order holds takes rules first turns out flights h last taken story stands block resources e looks =
     posts-once holds takes R rules block resources turns out flights h last taken
-    (subst (λ (d : Device). IsStory holds takes R rules d turns out flights h last taken) e story) law stands looks
+    (subst (λ (d : Device). IsStory holds takes R rules d turns out flights h last taken) e story) law order stands looks

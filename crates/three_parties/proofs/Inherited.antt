@@ -25,13 +25,14 @@ use Rattle.story_laws.specs.Lateness.{ArePunctual}
 use Rattle.story_laws.specs.Reads.{ShowsHeld as ShowsSo}
 use Rattle.story_laws.proofs.Ordering.{done-since, sent-first}
 use Rattle.story_laws.proofs.Posting.{noted-at}
-use Rattle.story_laws.proofs.Showing.{ShowsPart, answer-part, held-shown, held-shown-is}
+use Rattle.story_laws.proofs.Showing.{ShowsPart, answer-part, given-ordered, held-shown, held-shown-is, part-more}
 use Rattle.three_parties.specs.Flights.{device_at, proxy_at}
 use Rattle.three_parties.specs.Reads.{AreAllDone, AreDone}
 use Rattle.three_parties.specs.Scenes.{Scene}
 use Rattle.three_parties.proofs.Carrying.{IsReplyCopied, WasAskedThere, ask-earlier, ask-there, reply-there}
 use Rattle.three_parties.proofs.Chapters.{IsPast}
-use Rattle.three_parties.proofs.Executing.{Book, book-of, calls-least, calls_before, done-at, given, networks, ordered}
+use Rattle.three_parties.proofs.Calls.{moment_then}
+use Rattle.three_parties.proofs.Executing.{Book, book-of, calls-in-time, calls-least, calls_before, done-at, networks, ordered}
 use Rattle.three_parties.proofs.Knowing.{Known}
 use Rattle.three_parties.proofs.Linked.{Begins}
 use Rattle.three_parties.proofs.Lists.{all-at, all-joined, got-both}
@@ -52,21 +53,23 @@ module _ (R : Relation) (block : ℕ) (resources : List Held) (s : Scene) (known
   abbrev count : ℕ → ℕ
   count a = length (told_in (take a calls))
 
-  -- A message was sent in one of the journals before, and what was heard under its token shows what the resource held, after the writes that were
-  -- answered there, for each ask that was copied before it.
-  pub record ShownBefore (before : List (List Written)) (h : List Written) (i : ℕ) (sent m : Content) : Type 0 where
+  -- A message was sent in one of the journals before, and what was heard under its token at this moment shows what the resource held before, after the
+  -- writes that were answered there, for each ask that was copied before it.
+  pub record ShownBefore (before : List (List Written)) (h : List Written) (i heard_at : ℕ) (sent m : Content) : Type 0 where
     pub since : ℕ
+    pub bound : ℕ
+    pub by : moment_then 0 (take bound calls) ≤ heard_at
     pub journal : List Written
     pub among : Contains before journal
     pub number : ℕ
     pub first : IsFirstSending journal number since device_at sent
-    pub part : ShowsPart since proxy_at first_device calls sent m
+    pub part : ShowsPart since bound proxy_at first_device calls sent m
     pub done : (o : ℕ) (q : CoapRequest) → IsAskCopied h o q → o < i → q.peer ≡ device_at → AreAllDone before s.flights s.taken q (count part.place)
 
   -- So it is of all that was copied.
   abbrev pub IsInherited : List (List Written) → List Written → Type 0
   IsInherited before h =
-      (i j : ℕ) (sent m : Content) → IsReplyCopied h i j device_at sent m → sent.code ≡ 1 → m.code ≡ 69 → ShownBefore before h i sent m
+      (i j : ℕ) (sent m : Content) → (c : IsReplyCopied h i j device_at sent m) → sent.code ≡ 1 → m.code ≡ 69 → ShownBefore before h i c.heard_at sent m
 
   -- A journal without copies inherits nothing.
   pub own-inherits : (before : List (List Written)) (h : List Written) → AreOwn h → IsInherited before h
@@ -94,7 +97,7 @@ module _ (R : Relation) (block : ℕ) (resources : List Held) (s : Scene) (known
       | inr later ↦ absurd (false≢true (sym (all-at (λ (w : Written). carries w.deed ≡ false) more own later.0 _ later.2)))
     ]
 
-    copied-reply : (i j : ℕ) (sent m : Content) → IsReplyCopied (ws ++ more) i j device_at sent m → IsReplyCopied ws i j device_at sent m
+    abbrev copied-reply : (i j : ℕ) (sent m : Content) → IsReplyCopied (ws ++ more) i j device_at sent m → IsReplyCopied ws i j device_at sent m
     copied-reply i j sent m c = record {
       sent_at = c.sent_at;
       sent_as = c.sent_as;
@@ -131,22 +134,29 @@ module _ (R : Relation) (block : ℕ) (resources : List Held) (s : Scene) (known
 
     module _ (i j : ℕ) (sent m : Content) (c : IsReplyCopied ws i j device_at sent m) (get : sent.code ≡ 1) (content : m.code ≡ 69)
         (f : IsFirstSending g c.sent_as c.sent_at device_at sent) (x : IsHeard g device_at c.heard_as c.heard_at m) where
-      part : ShowsPart c.sent_at proxy_at first_device calls sent m
-      part =
-          answer-part R g device_at proxy_at block resources calls device_at c.sent_as c.sent_at c.heard_as c.heard_at sent m page.stands
-          (networks R first_device s g book page.stands punctual) (given R first_device s g book page.stands punctual) refl f x c.token get content
+      -- the calls before it was heard
+      abbrev bound : ℕ
+      bound = calls_before R first_device s g book page.stands punctual c.heard_as
 
-      shown : ShowsSo c.sent_at proxy_at first_device calls sent part.held.state
-      shown = held-shown R proxy_at block resources calls c.sent_at sent m part.held.state known.tale.follow part refl
+      part : ShowsPart c.sent_at bound proxy_at first_device calls sent m
+      part =
+          let given = given-ordered R g device_at proxy_at block resources calls (calls_before R first_device s g book page.stands punctual) page.stands
+          (ordered R first_device s g book page.stands punctual) device_at c.heard_as m c.heard_at refl x in
+          part-more c.sent_at given.0.count bound proxy_at first_device calls sent m given.1
+          (answer-part R g device_at proxy_at block resources calls device_at c.sent_as c.sent_at c.heard_as c.heard_at sent m page.stands
+          (networks R first_device s g book page.stands punctual) f x given.0 c.token get content)
+
+      shown : ShowsSo c.sent_at bound proxy_at first_device calls sent part.held.state
+      shown = held-shown R proxy_at block resources calls c.sent_at bound sent m part.held.state known.tale.follow part refl
 
       place-is : shown.place ≡ part.place
       unfolding shown
-      place-is = held-shown-is R proxy_at block resources calls c.sent_at sent m part.held.state known.tale.follow part refl
+      place-is = held-shown-is R proxy_at block resources calls c.sent_at bound sent m part.held.state known.tale.follow part refl
 
       since-then : page.begun ≤ part.place
       since-then =
           let after = sent-first R g device_at proxy_at block resources calls (calls_before R first_device s g book page.stands punctual) page.stands
-          (networks R first_device s g book page.stands punctual) (ordered R first_device s g book page.stands punctual) c.sent_as c.sent_at device_at sent part.held.state f shown in
+          (networks R first_device s g book page.stands punctual) (ordered R first_device s g book page.stands punctual) c.sent_as c.sent_at bound device_at sent part.held.state f shown in
           let least = calls-least R first_device s g book page.stands punctual c.sent_as in
           let place = place-is in
           omega (arith, after, least, place)
@@ -158,9 +168,9 @@ module _ (R : Relation) (block : ℕ) (resources : List Held) (s : Scene) (known
           let early = ended-early kept.reading g kept.rests.reads.legal kept.rests.reads.entries_are q a.number js ask.current ended in
           let rises = ask-earlier t S kept o i j q device_at sent m a c lt in
           let call = done-since R g device_at proxy_at block resources calls (calls_before R first_device s g book page.stands punctual) page.stands
-          (networks R first_device s g book page.stands punctual) (ordered R first_device s g book page.stands punctual) c.sent_as c.sent_at device_at sent part.held.state f shown
+          (networks R first_device s g book page.stands punctual) (ordered R first_device s g book page.stands punctual) c.sent_as c.sent_at bound device_at sent part.held.state f shown
           n u d w js y changes (peer ∙ to) class (λ k has. let late = ended.late k has in omega (arith, late, early, rises)) in
-          let mine = done-at R first_device s g book page.stands punctual y.opening y.request call.0 in
+          let mine = done-at R first_device s g book page.stands punctual y.opening y.request js call.0 in
           let rank = known.order.ranks mine.0.place call.0.place mine.1 in
           let before_then = call.1 in
           let place = place-is in
@@ -168,9 +178,11 @@ module _ (R : Relation) (block : ℕ) (resources : List Held) (s : Scene) (known
           (ap told_by call.0.executes.comes) in
           (mine.0, omega (arith, rank, told))
 
-      shown-here : ShownBefore (before ++ g ∷ []) (ws ++ more) i sent m
+      shown-here : ShownBefore (before ++ g ∷ []) (ws ++ more) i c.heard_at sent m
       shown-here = record {
         since = c.sent_at;
+        bound = bound;
+        by = calls-in-time R first_device s g book page.stands punctual c.heard_as c.heard_at x.bytes x.stands;
         journal = g;
         among = Contains-push before g;
         number = c.sent_as;
@@ -196,8 +208,8 @@ module _ (R : Relation) (block : ℕ) (resources : List Held) (s : Scene) (known
         copy-at (before_it l i) n _ (follows-at l i _ legal x.stands).0 (at-still l i n _ _ x.stands lt y.stands)
 
     module _ (i j : ℕ) (sent m : Content) (c : IsReplyCopied ws i j device_at sent m) (get : sent.code ≡ 1) (content : m.code ≡ 69)
-        (x : IsReplyCopied g c.sent_as c.heard_as device_at sent m) where
-      it : ShownBefore before g c.sent_as sent m
+        (x : IsReplyCopied g c.sent_as c.heard_as device_at sent m) (same : x.heard_at ≡ c.heard_at) where
+      it : ShownBefore before g c.sent_as x.heard_at sent m
       it = inherited c.sent_as c.heard_as sent m x get content
 
       done-there : (o : ℕ) (q : CoapRequest) → IsAskCopied ws o q → o < i → q.peer ≡ device_at
@@ -224,9 +236,11 @@ module _ (R : Relation) (block : ℕ) (resources : List Held) (s : Scene) (known
                 tt,
               )
 
-      shown-there : ShownBefore (before ++ g ∷ []) (ws ++ more) i sent m
+      shown-there : ShownBefore (before ++ g ∷ []) (ws ++ more) i c.heard_at sent m
       shown-there = record {
         since = it.since;
+        bound = it.bound;
+        by = let by = it.by in omega (arith, by, same);
         journal = it.journal;
         among = Contains-append_left before (g ∷ []) it.journal it.among;
         number = it.number;
@@ -240,7 +254,7 @@ module _ (R : Relation) (block : ℕ) (resources : List Held) (s : Scene) (known
         let c = copied-reply i j sent m copy in
         elim (reply-there t S kept i j device_at sent m c).1 [
           | inl mine ↦ shown-here i j sent m c get content mine.0 mine.1
-          | inr there ↦ shown-there i j sent m c get content there
+          | inr there ↦ shown-there i j sent m c get content there.0 there.1
         ]
 
   -- What begins with copies of a journal inherits from that, and from those before.

@@ -1,6 +1,7 @@
 -- What is known after some turns: their tale, its order, and that no moment is ahead.
 use Rattle.std.proofs.Common.{◌≡◌, inl, inr, ℕ, ◌≤◌, List, [], ◌∷◌, ◌++◌, append-nil, length, map, Option, Some, refl, subst, sym, ap, ◌∙◌, arith}
 use Rattle.std.specs.Prelude.{slice_get}
+use Rattle.std.proofs.lemmas.List.{append_cancel_left}
 use Rattle.limits.specs.declared.TheConstants.{LAST_MOMENT}
 use Rattle.media_map.specs.declared.form.Form.{Form}
 use Rattle.ask_model.specs.Views.{Rules}
@@ -33,7 +34,7 @@ use Rattle.three_parties.proofs.Bearing.{Issued}
 use Rattle.three_parties.proofs.Moments.{Counts}
 use Rattle.three_parties.proofs.Ordering.{order-called}
 use Rattle.three_parties.proofs.Orders.{IsTimely, Order, given-both, given_in, no-order, order-as, order-gave, order-later, order-turned}
-use Rattle.three_parties.proofs.Stamping.{IsSentIn, Stamps, all-stamp, goes-stand}
+use Rattle.three_parties.proofs.Stamping.{AreAt, IsSentIn, Stamps, all-stamp, goes-stand}
 use Rattle.three_parties.proofs.Tales.{Tale, no-tale, no-tale-is, tale-later, tale-later-is}
 use Rattle.three_parties.proofs.Tokens.{all-issue, turned-issued}
 use Rattle.three_parties.proofs.Turning.{tale-turned, tale-turned-is}
@@ -93,17 +94,17 @@ counts-below t S S1 le (inr e) = omega (arith, e)
 
 -- The proxy gives something out, and adds to its journal.
 pub known-gave : (R : Relation) (first : Device) (t : ℕ) (s : Scene) (given : List Emission) (w : WorldValue) (more : List Written) → s.moment ≤ t → t ≤ LAST_MOMENT
-    → (k : Known R first s) → w.core.state.entries ≡ s.world.core.state.entries ++ more → AllHeard first k.tale.calls more
+    → (k : Known R first s) → w.core.state.entries ≡ s.world.core.state.entries ++ more → AllHeard first k.tale.calls more → AreAt t more
     → ((n : ℕ) (d : Outgoing) → slice_get (goes_in given) n ≡ Some d → IsSentIn t more d) → AreNoJournals given
     → ((lo : ℕ) → Issued lo s.world.core.state → Issued lo w.core.state) → w.core.state.moment ≤ t → w.moment ≤ t
     → Known R first (gave_out t w given s)
-known-gave R first t s given w more le top k added all sends silent issues entries world = record {
+known-gave R first t s given w more le top k added all bear sends silent issues entries world = record {
   tale = tale-gave R first s t w given more le k.tale added all;
   order =
       let tale = tale-gave R first s t w given more le k.tale added all in
       let is = tale-gave-is R first s t w given more le k.tale added all in
       order-as first (gave_out t w given s) tale.calls k.tale.calls tale.places k.tale.places is.0 is.1
-      (order-gave first s t w given more k.tale.calls k.tale.places k.order added all sends silent issues);
+      (order-gave first s t w given more k.tale.calls k.tale.places k.order added all bear (let late = k.tale.late in omega (arith, late, le)) sends silent issues);
   timely = record { entries = entries; world = world; last = top };
 }
 
@@ -119,7 +120,7 @@ module _ (holds : Form → Form → List ℕ → List ℕ → Type 0) (takes : F
     pub known-acted : (i : Input) (given : List Emission) (w : WorldValue) → (a : TakesActs holds takes (record i { moment = t }) s.world given w)
         → AllHeard first k.tale.calls a.shows.more → Known R first (gave_out t w given s)
     known-acted i given w a all =
-        known-gave R first t s given w a.shows.more le top k a.shows.added all sends
+        known-gave R first t s given w a.shows.more le top k a.shows.added all bear sends
         (handled-none (terms_of holds takes s.world.rules) (record i { moment = t }) s.world w given a.handles)
         (λ lo. all-issue lo (terms_of holds takes s.world.rules) (when_in s.world (record i { moment = t })) a.handles.acts.acts (served_in s.world) a.handles.acts.given
         (served_in w) a.handles.acts.done)
@@ -132,6 +133,9 @@ module _ (holds : Form → Form → List ℕ → List ℕ → Type 0) (takes : F
             (all-stamp (terms_of holds takes s.world.rules) (when_in s.world (record i { moment = t })) a.handles.acts.acts (served_in s.world) a.handles.acts.given (served_in w)
             a.handles.acts.done)
 
+        bear : AreAt t a.shows.more
+        bear = subst (AreAt t) (append_cancel_left s.world.core.state.entries stamps.more a.shows.more (sym stamps.added ∙ a.shows.added)) stamps.bear
+
         sends : (n : ℕ) (d : Outgoing) → slice_get (goes_in given) n ≡ Some d → IsSentIn t a.shows.more d
         sends n d e = goes-stand t s.world.core w.core given a.shows.more a.shows.added stamps a.sends n d e
 
@@ -139,7 +143,7 @@ module _ (holds : Form → Form → List ℕ → List ℕ → Type 0) (takes : F
     pub known-refused : (i : Input) (given : List Emission) (w : WorldValue) → (r : TakesRotation holds takes (record i { moment = t }) s.world given w)
         → IsUnrotated (at (when_in s.world (record i { moment = t })) (served_in s.world)) s.world.core given w.core → Known R first (gave_out t w given s)
     known-refused i given w r u =
-        known-gave R first t s given w [] le top k (ap (λ (S : State). S.entries) same ∙ sym (append-nil s.world.core.state.entries)) (λ k u b e. absurd (none-some _ e))
+        known-gave R first t s given w [] le top k (ap (λ (S : State). S.entries) same ∙ sym (append-nil s.world.core.state.entries)) (λ k u b e. absurd (none-some _ e)) tt
         (λ n d e. absurd (none-some d (subst (λ (es : List Emission). slice_get (goes_in es) n ≡ Some d) u.given e)))
         (subst AreNoJournals (sym u.given) (tt, tt)) (λ lo h. subst (Issued lo) (sym same) h)
         (let m = ap (λ (S : State). S.moment) same in let e = early in omega (arith, m, e))

@@ -30,6 +30,7 @@ pub mod Linked
 pub mod Paths
 pub mod Pages
 pub mod Standing
+pub mod Rising
 pub mod Reading
 pub mod Inherited
 pub mod Walking
@@ -38,3 +39,4 @@ pub mod Answering
 pub mod Wholes
 pub mod Sending
 pub mod Running
+pub mod Kept

@@ -14,7 +14,7 @@ use Rattle.three_parties.specs.Flights.{Going, ByProxy, by_device, device_at, pr
 use Rattle.three_parties.specs.Scenes.{Scene, answered, executed}
 use Rattle.three_parties.specs.declared.story.Execution.{Execution}
 use Rattle.three_parties.proofs.Calling.{IsCalled, a_call, placed-is, told-places}
-use Rattle.three_parties.proofs.Calls.{gives, gives-unheard, given-later, told-gives}
+use Rattle.three_parties.proofs.Calls.{gives, gives-unheard, given-later, moment_then, told-gives}
 use Rattle.three_parties.proofs.Foreign.{IsApart, IsOlder}
 use Rattle.three_parties.proofs.Lists.{got-both, got-map, take-front}
 use Rattle.three_parties.proofs.Chapters.{Chapter, IsEnteredAs, IsGivenBefore, IsPast, IsSentBefore, past-map, not-both, taken_of}
@@ -153,13 +153,17 @@ module _ (R : Relation) (first : Device) (s : Scene) (t n : ℕ) (e : Event) (d 
       new-call zero f = ap (λ (v : Call). v.event) (some-is (a_call e s.device d) v f) ∙ g
       new-call (suc i) f = absurd (gives-unheard d d.out i u p b k v f g)
 
-  pub given-before : (m u : ℕ) (bytes : List ℕ) → IsEntry w m u (Hears device_at bytes) → IsGivenBefore first then_calls o.counts m bytes
+  pub given-before : (m u : ℕ) (bytes : List ℕ) → IsEntry w m u (Hears device_at bytes) → IsGivenBefore first then_calls o.counts m u bytes
   given-before m u bytes f =
-      let it = o.heard_after m u bytes f in record {
+      let it = o.heard_after m u bytes f in
+      let most = o.most m it.count it.counted in
+      let by = it.by in
+      record {
         given = given-later first h.calls (a_call e s.device d ∷ gives d d.out) proxy_at bytes it.given;
         count = it.count;
         counted = it.counted;
         before = it.before;
+        by = subst (λ (cs : List Call). moment_then 0 cs ≤ u) (sym (take-within h.calls (a_call e s.device d ∷ gives d d.out) it.count most)) by;
       }
 
   abbrev pub chapter-called : Chapter Q begun first (s.flights ++ map (by_device t) d.out) then_calls w

@@ -27,7 +27,8 @@ use Rattle.three_parties.proofs.Foreign.{IsApart, IsOlder, older-apart, still-ol
 use Rattle.three_parties.proofs.Giving.{AllHeard}
 use Rattle.three_parties.proofs.Bearing.{IsIssued, Issued}
 use Rattle.three_parties.proofs.Lists.{alike, alike-len, all-got, got-alike, got-back, got-from}
-use Rattle.three_parties.proofs.Stamping.{IsSentIn}
+use Rattle.three_parties.proofs.Calls.{last_moment}
+use Rattle.three_parties.proofs.Stamping.{AreAt, IsSentIn}
 use Rattle.three_parties.proofs.Tales.{IsBroughtBy}
 use Rattle.three_parties.proofs.Turning.{copy-at}
 use Rattle.three_parties.proofs.Chapters.{Chapter, IsPast, ArePast, past-map, past-join, chapter-past, chapter-gave, taken_of}
@@ -131,16 +132,16 @@ sent-apart lo hi top S more h t d added issued le it =
     by None (inr b) = inr (top, S.issued, b, inr le)
 
 pub order-gave : (first : Device) (s : Scene) (t : ℕ) (w : WorldValue) (given : List Emission) (more : List Written) (calls : List Call) (places : List ℕ)
-    (o : Order first s calls places) → w.core.state.entries ≡ s.world.core.state.entries ++ more → AllHeard first calls more
-    → ((n : ℕ) (d : Outgoing) → slice_get (goes_in given) n ≡ Some d → IsSentIn t more d) → AreNoJournals given
+    (o : Order first s calls places) → w.core.state.entries ≡ s.world.core.state.entries ++ more → AllHeard first calls more → AreAt t more
+    → last_moment 0 calls ≤ t → ((n : ℕ) (d : Outgoing) → slice_get (goes_in given) n ≡ Some d → IsSentIn t more d) → AreNoJournals given
     → ((lo : ℕ) → Issued lo s.world.core.state → Issued lo w.core.state)
     → Order first (gave_out t w given s) calls places
-order-gave first s t w given more calls places o added all sends silent issues = record {
+order-gave first s t w given more calls places o added all bear late sends silent issues = record {
   lo = o.lo;
   issued = issues o.lo o.issued;
   begun = o.begun;
   now = subst (Chapter (IsOlder o.lo) o.begun first (s.flights ++ out) calls) (sym added)
-      (chapter-gave (IsOlder o.lo) o.begun first s.flights t given s.world.core.state.entries more calls o.now all sends);
+      (chapter-gave (IsOlder o.lo) o.begun first s.flights t given s.world.core.state.entries more calls o.now all bear late sends);
   past = subst (λ (hs : List (List Written)). ArePast first (s.flights ++ out) calls o.lo 0 hs o.begun) (sym same)
       (past-map first s.flights (s.flights ++ out) calls calls o.lo o.lo (λ h p. (still h p, refl, refl)) 0 o.begun (given_in s.out) o.past);
   tells = o.tells;

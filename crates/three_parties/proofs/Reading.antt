@@ -1,13 +1,14 @@
 -- An answer to a GET shows what the resource held, and no less than what was confirmed before.
-use Rattle.std.proofs.Common.{◌≡◌, ◌≢◌, ◌⊎◌, ℕ, ◌<◌, ◌≤◌, max, inl, inr, List, [], ◌∷◌, length, take, Option, Some, sym, ap, subst, ◌∙◌, arith}
+use Rattle.std.proofs.Common.{◌≡◌, ◌≢◌, ◌⊎◌, ℕ, zero, ◌<◌, ◌≤◌, max, inl, inr, List, [], ◌∷◌, length, take, Option, Some, refl, sym, ap, subst, ◌∙◌, arith}
 use Rattle.std.specs.Prelude.{slice_get, unwrap_or}
-use Rattle.std.specs.List.{AllByRecursion}
+use Rattle.std.specs.List.{AllByRecursion, Contains}
 use Rattle.std.proofs.lemmas.Bool.Decides.{leb_tells}
 use Rattle.coap_codec.specs.Spelling.{Content}
 use Rattle.coap_codec.specs.Values.{values}
 use Rattle.coap_codec.specs.declared.block.Block.{Block}
+use Rattle.uri_map.specs.declared.peer.Peer.{Peer}
 use Rattle.ask_model.specs.Requests.{CoapRequest, Plainly}
-use Rattle.journal_book.specs.Entries.{Live, Fault, Answers, Written}
+use Rattle.journal_book.specs.Entries.{Hears, Live, Fault, Answers, Written}
 use Rattle.ask_model.specs.declared.cause.Cause.TheVariants as C
 use Rattle.resp_cache.specs.Stored.{Stored}
 use Rattle.history_laws.specs.Justified.{Stands}
@@ -30,14 +31,15 @@ use Rattle.three_parties.specs.Reads.{AreAllDone, AreDone, IsHeldAt, ShowsHeld}
 use Rattle.three_parties.specs.Scenes.{Scene}
 use Rattle.three_parties.specs.Stories.{opening}
 use Rattle.three_parties.specs.declared.story.Execution.{Execution}
-use Rattle.three_parties.proofs.Executing.{Book, book-of, calls-least, calls_before, done-at, networks, ordered}
+use Rattle.three_parties.proofs.Executing.{Book, book-of, calls-in-time, calls-least, calls_before, done-at, networks, ordered}
 use Rattle.three_parties.proofs.Knowing.{Known}
 use Rattle.three_parties.proofs.Lists.{got-below, got-in}
 use Rattle.three_parties.proofs.Chapters.{IsPast}
 use Rattle.three_parties.proofs.Tales.{IsDoneBy}
 use Rattle.three_parties.proofs.Pages.{IsEarlier, end}
 use Rattle.three_parties.proofs.Standing.{stood-first}
-use Rattle.three_parties.proofs.Timing.{moment_then, timed-after, timed-then, timed-upto, heard-at, more-told, no-less-told, told-before}
+use Rattle.three_parties.proofs.Calls.{moment_then}
+use Rattle.three_parties.proofs.Timing.{timed-after, timed-fewer, timed-then, timed-upto, heard-at, more-told, no-less-told, told-before}
 
 -- ---- a reply
 
@@ -75,8 +77,8 @@ module _ (R : Relation) (block : ℕ) (resources : List Held) (s : Scene) (known
       let less = no-less-told calls a d.place le in
       omega (arith, rank, less)
 
-  module _ (since : ℕ) (m : Content) (state : List ℕ)
-      (shown : ShowsSo since proxy_at (fresh block resources) calls m state) where
+  module _ (since bound : ℕ) (m : Content) (state : List ℕ)
+      (shown : ShowsSo since bound proxy_at (fresh block resources) calls m state) where
     -- when it held this: when the device heard the message, or at the last call before, if that came later
     pub when : ℕ
     when = max shown.moment (moment_then 0 (take shown.place calls))
@@ -87,6 +89,14 @@ module _ (R : Relation) (block : ℕ) (resources : List Held) (s : Scene) (known
     pub not-before : since ≤ when
     unfolding when
     not-before = let le = shown.not_before in omega (arith, le)
+
+    -- before what was heard then
+    pub not-after : (until : ℕ) → moment_then 0 (take bound calls) ≤ until → when ≤ until
+    unfolding when
+    not-after until in_time =
+        let asked = timed-upto 0 calls shown.asked.place bound shown.moment shown.asked.call known.tale.timed shown.asked.stands shown.heard hears in
+        let held = timed-fewer 0 calls shown.place bound known.tale.timed shown.not_after in
+        omega (arith, asked, held, in_time)
 
     earlier : (e : ℕ) (y : Execution) → slice_get s.taken e ≡ Some y → e < count shown.place → y.moment ≤ when
     unfolding when
@@ -130,9 +140,9 @@ module _ (R : Relation) (block : ℕ) (resources : List Held) (s : Scene) (known
         }
 
   -- what the device showed by a message, and which writes it had done
-  abbrev pub ShownBy : (o since : ℕ) (m : Content) (state : List ℕ) → Type 0
-  ShownBy o since m state =
-      (shown : ShowsSo since proxy_at (fresh block resources) calls m state) × AreDoneBefore h device_at proxy_at calls o shown.place
+  abbrev pub ShownBy : (o since bound : ℕ) (m : Content) (state : List ℕ) → Type 0
+  ShownBy o since bound m state =
+      (shown : ShowsSo since bound proxy_at (fresh block resources) calls m state) × AreDoneBefore h device_at proxy_at calls o shown.place
 
   -- the writes of an earlier journal
   done-earlier : (j : List Written) → IsEarlier R (fresh block resources) s known top page.begun j → (q : CoapRequest) → q.peer ≡ device_at → (place : ℕ)
@@ -147,7 +157,7 @@ module _ (R : Relation) (block : ℕ) (resources : List Held) (s : Scene) (known
       noted.stands in
       let done = done-by R j device_at proxy_at block resources calls n c w js e.past.stands net y changes to class g.0.count
       (executed-of R j device_at proxy_at block resources calls n c w js e.past.stands net y changes to class g.0) in
-      let own = done-at R (fresh block resources) s j mine e.past.stands e.punctual y.opening y.request done.0 in
+      let own = done-at R (fresh block resources) s j mine e.past.stands e.punctual y.opening y.request js done.0 in
       let rank = known.order.ranks own.0.place done.0.place own.1 in
       let there : its.number < length j = got-below j its.number _ its.heard.response.heard.stands in
       let counted = e.past.chapter.whole in
@@ -167,18 +177,20 @@ module _ (R : Relation) (block : ℕ) (resources : List Held) (s : Scene) (known
   all-earlier q of place from [] e = tt
   all-earlier q of place from (j ∷ js) e = (done-earlier j e.0 q of place from, all-earlier q of place from js e.1)
 
-  pub shows-so : (k o : ℕ) (q r : CoapRequest) (b : Option Block) (i : ℕ) (m : Content) (state : List ℕ) → (x : IsSentFor h o r b i m)
-      → ShownBy o x.moment m state → q.peer ≡ device_at → GoesBack h k o q → ShowsHeld before h k o q r resources s.flights s.taken state
-  shows-so k o q r b i m state x it of back = record {
+  pub shows-so : (k o : ℕ) (q r : CoapRequest) (b : Option Block) (i bound until : ℕ) (m : Content) (state : List ℕ) → (x : IsSentFor h o r b i m)
+      → ShownBy o x.moment bound m state → moment_then 0 (take bound calls) ≤ until → q.peer ≡ device_at → GoesBack h k o q
+      → ShowsHeld before h k o q r until resources s.flights s.taken state
+  shows-so k o q r b i bound until m state x it in_time of back = record {
     block = b;
     sending = i;
     message = m;
     sent = x;
     shows = record {
-      moment = when x.moment m state it.0;
-      not_before = not-before x.moment m state it.0;
+      moment = when x.moment bound m state it.0;
+      not_before = not-before x.moment bound m state it.0;
+      not_after = not-after x.moment bound m state it.0 until in_time;
       count = count it.0.place;
-      held = held-at x.moment m state it.0;
+      held = held-at x.moment bound m state it.0;
       written = done;
       written_before = all-earlier q of it.0.place since before earlier_ones;
     };
@@ -187,36 +199,45 @@ module _ (R : Relation) (block : ℕ) (resources : List Held) (s : Scene) (known
       since : page.begun ≤ it.0.place
       since =
           let sent = sent-first R h device_at proxy_at block resources calls (calls_before R (fresh block resources) s h book stands punctual) stands
-          (networks R (fresh block resources) s h book stands punctual) (ordered R (fresh block resources) s h book stands punctual) i x.moment r.peer m state x.first it.0 in
+          (networks R (fresh block resources) s h book stands punctual) (ordered R (fresh block resources) s h book stands punctual) i x.moment bound r.peer m state x.first it.0 in
           let least = calls-least R (fresh block resources) s h book stands punctual i in
           omega (arith, sent, least)
 
       done : AreDone h s.flights s.taken k q (count it.0.place)
       done n t c w js answered y changes peer path class lt =
           let call = it.1 n t c w js answered y changes (peer ∙ of) class (back n t c w js answered y changes peer path lt) in
-          let own = done-at R (fresh block resources) s h book stands punctual y.opening y.request call.0 in
+          let own = done-at R (fresh block resources) s h book stands punctual y.opening y.request js call.0 in
           let rank = known.order.ranks own.0.place call.0.place own.1 in
           let more = more-told calls call.0.place it.0.place call.0.call call.0.executes.taken call.1 call.0.stands (ap told_by call.0.executes.comes) in
           (own.0, omega (arith, rank, more))
 
-  pub shows : Law R → (k o : ℕ) (q r : CoapRequest) (j : ℕ) (m : Content) → (x : IsToldFor h o r j m) → r.method ≡ 1
+  -- the calls before what was heard for a request to the device, by this moment
+  pub heard-in-time : (j : ℕ) (r : CoapRequest) (o : ℕ) (m : Content) (x : IsToldFor h o r j m) → r.peer ≡ device_at → (until : ℕ) → x.response.moment ≤ until
+      → moment_then 0 (take (calls_before R (fresh block resources) s h book stands punctual j) calls) ≤ until
+  heard-in-time j r o m x to until le =
+      let came = x.response.heard in
+      let by = calls-in-time R (fresh block resources) s h book stands punctual j x.response.moment came.bytes
+      (subst (λ (p : Peer). IsEntry h j x.response.moment (Hears p came.bytes)) to came.stands) in
+      omega (arith, by, le)
+
+  pub shows : Law R → (k o : ℕ) (q r : CoapRequest) (j until : ℕ) (m : Content) → (x : IsToldFor h o r j m) → x.response.moment ≤ until → r.method ≡ 1
       → r.peer ≡ device_at → q.peer ≡ device_at → m.code ≡ 69 → values 23 m.options ≡ [] → GoesBack h k o q
-      → ShowsHeld before h k o q r resources s.flights s.taken m.payload
-  shows law k o q r j m x get to of content whole back =
-      shows-so k o q r x.block x.sending x.sent m.payload x.sent_for
+      → ShowsHeld before h k o q r until resources s.flights s.taken m.payload
+  shows law k o q r j until m x le get to of content whole back =
+      shows-so k o q r x.block x.sending (calls_before R (fresh block resources) s h book stands punctual j) until x.sent m.payload x.sent_for
       (law h device_at proxy_at block resources calls (calls_before R (fresh block resources) s h book stands punctual) o r j m stands
-      (networks R (fresh block resources) s h book stands punctual) (ordered R (fresh block resources) s h book stands punctual) x get to content whole) of back
+      (networks R (fresh block resources) s h book stands punctual) (ordered R (fresh block resources) s h book stands punctual) x get to content whole) (heard-in-time j r o m x to until le) of back
 
 -- ---- an answer
 
 -- one message alone
 pub one-told : (w : List Written) (k : ℕ) (q : CoapRequest) (js : List ℕ) (ms : List Content) (m : Content) → ms ≡ m ∷ []
-    → AreToldFor w k q js ms → (j : ℕ) × IsToldFor w k q j m
+    → AreToldFor w k q js ms → (j : ℕ) × IsToldFor w k q j m × Contains js j
 one-told w k q js ms m e all = by js (subst (AreToldFor w k q js) e all)
   where
-    by : (js : List ℕ) → AreToldFor w k q js (m ∷ []) → (j : ℕ) × IsToldFor w k q j m
+    by : (js : List ℕ) → AreToldFor w k q js (m ∷ []) → (j : ℕ) × IsToldFor w k q j m × Contains js j
     by [] x = absurd x
-    by (j ∷ js) x = (j, x.0)
+    by (j ∷ js) x = (j, x.0, (zero, omega arith, refl))
 
 -- A write that was answered, as the claims have it.
 write-answer : (h : List Written) (q : CoapRequest) (n t c w : ℕ) (js : List ℕ) → IsEntry h n t (Answers c w (Live js)) → (y : RestsOn h n c w js)

@@ -9,6 +9,7 @@ use Rattle.demo_origin.specs.Once.{Event, heard}
 use Rattle.demo_origin.specs.declared.execution.Taken.{Taken}
 use Rattle.story_laws.specs.Networks.{AreTimed, moment_after}
 use Rattle.three_parties.specs.declared.story.Execution.{Execution}
+use Rattle.three_parties.proofs.Calls.{moment_then}
 use Rattle.three_parties.proofs.Lists.{take-front}
 use Rattle.three_parties.proofs.Ordering.{told-both}
 use Rattle.three_parties.proofs.Chapters.{taken_of}
@@ -44,11 +45,6 @@ timed-then s (c ∷ cs) (suc a) zero u t x y h e f le is so = absurd (omega (ari
 timed-then s (c ∷ cs) (suc a) (suc b) u t x y h e f le is so =
     timed-then (moment_after s c.event) cs a b u t x y h.1 e f (omega (arith, le)) is so
 
--- the moment after calls
-abbrev pub moment_then : ℕ → List Call → ℕ
-moment_then s [] = s
-moment_then s (c ∷ cs) = moment_then (moment_after s c.event) cs
-
 timed-last : (s : ℕ) (cs : List Call) (n : ℕ) → AreTimed s cs → s ≤ moment_then s (take n cs)
 timed-last s [] zero h = omega arith
 timed-last s [] (suc n) h = omega arith
@@ -58,7 +54,17 @@ timed-last s (c ∷ cs) (suc n) h =
     let rest = timed-last (moment_after s c.event) cs n h.1 in
     omega (arith, le, rest)
 
--- is not before one of them,
+-- is not before one after fewer of them,
+pub timed-fewer : (s : ℕ) (cs : List Call) (a n : ℕ) → AreTimed s cs → a ≤ n → moment_then s (take a cs) ≤ moment_then s (take n cs)
+timed-fewer s [] zero zero h le = omega arith
+timed-fewer s [] zero (suc n) h le = omega arith
+timed-fewer s [] (suc a) zero h le = omega arith
+timed-fewer s [] (suc a) (suc n) h le = omega arith
+timed-fewer s (c ∷ cs) zero n h le = timed-last s (c ∷ cs) n h
+timed-fewer s (c ∷ cs) (suc a) zero h le = absurd (omega (arith, le))
+timed-fewer s (c ∷ cs) (suc a) (suc n) h le = timed-fewer (moment_after s c.event) cs a n h.1 (omega (arith, le))
+
+-- nor before one of them,
 pub timed-upto : (s : ℕ) (cs : List Call) (a n t : ℕ) (c : Call) → AreTimed s cs → slice_get cs a ≡ Some c → a < n
     → ((u : ℕ) → moment_after u c.event ≡ t) → t ≤ moment_then s (take n cs)
 timed-upto s [] a n t c h e lt is = absurd (none-some c e)

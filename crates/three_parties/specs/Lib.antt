@@ -5,3 +5,4 @@ pub mod Arriving
 pub mod Ticks
 pub mod Promises
 pub mod Reads
+pub mod Kept

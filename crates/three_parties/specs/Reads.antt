@@ -41,7 +41,7 @@ AreDone h flights taken k q count =
     (n t c w : ℕ) (js : List ℕ) → IsEntry h n t (Answers c w (Live js)) → (r : RestsOn h n c w js)
     → r.request.method ≢ 1 → r.request.peer ≡ q.peer → r.request.target.path ≡ q.target.path
     → r.response.code / 32 ≡ 2 → n < k
-    → (done : IsExecutedOnce h r.opening r.request flights taken) × (done.place < count)
+    → (done : IsExecutedOnce h r.opening r.request js flights taken) × (done.place < count)
 
 -- So was each that was answered in one of the journals before.
 abbrev pub AreAllDone
@@ -49,13 +49,15 @@ abbrev pub AreAllDone
 AreAllDone before flights taken q count =
     AllByRecursion (λ (h : List Written). AreDone h flights taken (length h) q count) before
 
--- The resource held this state after the message was first sent, at that moment, and after each
--- write that was answered before the ask k for q, in this journal or in one of those before.
-pub record ShowsSince (before : List (List Written)) (h : List Written) (k : ℕ) (q : CoapRequest)
-    (message : Content) (sent_at : ℕ) (resources : List Held) (flights : List Going)
+-- The resource held this state after the message was first sent, and before this answer, at these
+-- moments; and after each write that was answered before the ask k for q, in this journal or in one
+-- of those before.
+pub record ShowsBetween (before : List (List Written)) (h : List Written) (k : ℕ) (q : CoapRequest)
+    (message : Content) (sent_at answered_at : ℕ) (resources : List Held) (flights : List Going)
     (taken : List Execution) (state : List ℕ) : Type 0 where
   pub moment : ℕ
   pub not_before : sent_at ≤ moment
+  pub not_after : moment ≤ answered_at
   pub count : ℕ
   pub held : IsHeldAt moment (values 11 message.options) resources taken count state
   pub written : AreDone h flights taken k q count
@@ -63,13 +65,14 @@ pub record ShowsSince (before : List (List Written)) (h : List Written) (k : ℕ
 
 -- It is a message that asks r, for the GET q of the ask k: it was sent after the entry o,
 pub record ShowsHeld (before : List (List Written)) (h : List Written) (k o : ℕ) (q r : CoapRequest)
-    (resources : List Held) (flights : List Going) (taken : List Execution) (state : List ℕ)
-    : Type 0 where
+    (answered_at : ℕ) (resources : List Held) (flights : List Going) (taken : List Execution)
+    (state : List ℕ) : Type 0 where
   pub block : Option Block
   pub sending : ℕ
   pub message : Content
   pub sent : IsSentFor h o r block sending message
-  pub shows : ShowsSince before h k q message sent.moment resources flights taken state
+  pub shows :
+      ShowsBetween before h k q message sent.moment answered_at resources flights taken state
 
 -- or in one of the journals before.
 pub record WasSentFor (journals : List (List Written)) (r : CoapRequest) (m : Content)
@@ -83,23 +86,24 @@ pub record WasSentFor (journals : List (List Written)) (r : CoapRequest) (m : Co
   pub first : IsFirstSending journal number moment r.peer m
 
 pub record ShowsCarried (before : List (List Written)) (h : List Written) (k : ℕ)
-    (q r : CoapRequest) (resources : List Held) (flights : List Going) (taken : List Execution)
-    (state : List ℕ) : Type 0 where
+    (q r : CoapRequest) (answered_at : ℕ) (resources : List Held) (flights : List Going)
+    (taken : List Execution) (state : List ℕ) : Type 0 where
   pub message : Content
   pub sent : WasSentFor before r message
-  pub shows : ShowsSince before h k q message sent.moment resources flights taken state
+  pub shows :
+      ShowsBetween before h k q message sent.moment answered_at resources flights taken state
 
 -- What was heard first of what is stored for q shows such a state, where it was heard in this
 -- journal; and where that was in one before, with copies of which this one begins. It was in one of
 -- the two (WasWhole).
 abbrev pub ShowsFirst : (before : List (List Written)) (h : List Written) (k : ℕ) (q : CoapRequest)
-    (first : Stored) → WasWhole h q first → List Held → List Going → List Execution → List ℕ
+    (first : Stored) → WasWhole h q first → ℕ → List Held → List Going → List Execution → List ℕ
     → Type 0
-ShowsFirst before h k q first w resources flights taken state =
+ShowsFirst before h k q first w answered_at resources flights taken state =
     (WasHeardHere h first.opening w.other first.list w.messages first.heard
-    → ShowsHeld before h k first.opening q w.other resources flights taken state)
+    → ShowsHeld before h k first.opening q w.other answered_at resources flights taken state)
     × (WasCarried h first.opening w.other first.list w.messages first.heard
-    → ShowsCarried before h k q w.other resources flights taken state)
+    → ShowsCarried before h k q w.other answered_at resources flights taken state)
 
 -- Each answer to a GET that rests on one 2.05 (69), in one piece which names no block (23), shows
 -- such a state: an answer to replies that came after the ask,
@@ -109,7 +113,7 @@ GetsShow before resources h flights taken =
     (n t c k : ℕ) (js : List ℕ) (m : Content) → IsEntry h n t (Answers c k (Live js))
     → (r : RestsOn h n c k js) → r.messages ≡ m ∷ []
     → r.request.method ≡ 1 → r.request.peer ≡ device_at → m.code ≡ 69 → values 23 m.options ≡ []
-    → ShowsHeld before h k r.opening r.request r.request resources flights taken m.payload
+    → ShowsHeld before h k r.opening r.request r.request t resources flights taken m.payload
 
 -- one of what was stored, which a 2.03 renewed for it: it was heard so first,
 abbrev pub RenewedShow : List (List Written) → List Held → List Written → List Going
@@ -118,7 +122,7 @@ RenewedShow before resources h flights taken =
     (n t c k : ℕ) (js : List ℕ) (m : Content) → IsEntry h n t (Answers c k (Live js))
     → (r : RestsOnRenewed h n c k js) → r.was.whole.messages ≡ m ∷ []
     → r.request.peer ≡ device_at → m.code ≡ 69 → values 23 m.options ≡ []
-    → ShowsFirst before h k r.request r.was.first r.was.whole resources flights taken m.payload
+    → ShowsFirst before h k r.request r.was.first r.was.whole t resources flights taken m.payload
 
 -- and one of a response that was stored.
 abbrev pub KeptShow : List (List Written) → List Held → List Written → List Going → List Execution
@@ -127,7 +131,7 @@ KeptShow before resources h flights taken =
     (n t c k : ℕ) (js : List ℕ) (m : Content) → IsEntry h n t (Answers c k (Kept js))
     → (s : IsServed h t c k js) → s.is.whole.messages ≡ m ∷ []
     → s.request.peer ≡ device_at → m.code ≡ 69 → values 23 m.options ≡ []
-    → ShowsFirst before h k s.request s.is.first s.is.whole resources flights taken m.payload
+    → ShowsFirst before h k s.request s.is.first s.is.whole t resources flights taken m.payload
 
 -- So it is of each of these journals, where those before it are told.
 abbrev pub EachAfter : (List (List Written) → List Written → Type 0) → List (List Written)
@@ -157,7 +161,7 @@ abbrev pub GetsShowWhole : List (List Written) → List Held → List Written �
 GetsShowWhole before resources h flights taken =
     (n t c k : ℕ) (js : List ℕ) → IsEntry h n t (Answers c k (Live js)) → (r : RestsOn h n c k js)
     → r.request.method ≡ 1 → r.request.peer ≡ device_at → r.response.code ≡ 69
-    → ShowsHeld before h k r.opening r.request r.request resources flights taken r.response.body
+    → ShowsHeld before h k r.opening r.request r.request t resources flights taken r.response.body
 
 -- one of what was stored, which a 2.03 renewed for it,
 abbrev pub RenewedShowWhole : List (List Written) → List Held → List Written → List Going
@@ -165,7 +169,7 @@ abbrev pub RenewedShowWhole : List (List Written) → List Held → List Written
 RenewedShowWhole before resources h flights taken =
     (n t c k : ℕ) (js : List ℕ) → IsEntry h n t (Answers c k (Live js))
     → (r : RestsOnRenewed h n c k js) → r.request.peer ≡ device_at
-    → ShowsFirst before h k r.request r.was.first r.was.whole resources flights taken
+    → ShowsFirst before h k r.request r.was.first r.was.whole t resources flights taken
     r.stored.response.body
 
 -- and one of a response that was stored.
@@ -174,7 +178,7 @@ abbrev pub KeptShowWhole : List (List Written) → List Held → List Written �
 KeptShowWhole before resources h flights taken =
     (n t c k : ℕ) (js : List ℕ) → IsEntry h n t (Answers c k (Kept js)) → (s : IsServed h t c k js)
     → s.request.peer ≡ device_at
-    → ShowsFirst before h k s.request s.is.first s.is.whole resources flights taken
+    → ShowsFirst before h k s.request s.is.first s.is.whole t resources flights taken
     s.stored.response.body
 
 -- So it is of each journal, where the proxy looks at its timers each second.

@@ -7,6 +7,7 @@
 #![tactic(auto)]
 
 mod flight;
+mod laws;
 mod run;
 mod stage;
 mod story;
@@ -15,6 +16,7 @@ mod turn;
 pub use demo_origin::{Behaviour, Origin, Taken};
 pub use flight::{Flight, Sent, device_peer, proxy_peer};
 pub use gateway_world::{Happening, Input, Output, When, WorldFault};
+pub use laws::stories_keep_promises;
 pub use run::three_run;
 pub use stage::Stage;
 pub use story::{Execution, Story};

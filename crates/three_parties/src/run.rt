@@ -14,27 +14,28 @@ ghost use Rattle.three_parties.specs.Reads.{GetsShowInTime, WholesShowInTime};
 ghost use Rattle.three_parties.specs.Scenes.{TakesTurns};
 ghost use Rattle.three_parties.specs.Stories.{IsRefused, IsStory, opening, scene};
 
+use crate::laws::stories_keep_promises;
 use crate::stage::Stage;
 use crate::story::Story;
 use crate::turn::Turn;
 use ask_model::Settings;
-use blockwise::downloads_join;
 use demo_origin::{Behaviour, Origin};
 use gateway_world::WorldFault;
 use std::alloc::Global;
-use story_laws::{posts_once, wholes_show, writes_show};
 use transformers::{Bank, Relation};
 
 /// Takes all turns, one after another, and answers the first refusal of an input. The device is at
 /// 192.0.2.1:5683, and sees the proxy at 198.51.100.1:5683.
 ///
 /// The story is that of all its turns (`is`). Where the device is a new one, and the proxy looks at
-/// its timers each second, each POST to it that was answered by success was executed exactly once
-/// (`posts`). Each answer to a GET that rests on one reply (`reads`), or on several (`wholes`),
-/// shows a state that the resource held, and no less than what was confirmed before it was asked
-/// for; so does one that rests on a notification, or on one and the pieces that were fetched after
-/// it. So it is of each journal, also of an answer that rests on what the journal began with, as
-/// copies of one before.
+/// its timers each second, each POST to it that was answered by success was executed exactly once,
+/// as the message to which its reply came, no two of them by one execution; and what was answered
+/// otherwise, or not at all, was executed at most once (`posts`). Each answer to a GET that rests on
+/// one reply (`reads`), or on several (`wholes`), shows a state that the resource held between the
+/// sending and the answer, and no less than what was confirmed before it was asked for; so does one
+/// that rests on a notification, or on one and the pieces that were fetched after it. So it is of
+/// each journal, also of an answer that rests on what the journal began with, as copies of one
+/// before.
 pub fn three_run<R: Relation, H: Behaviour>(
     alloc: Global,
     settings: Settings,
@@ -62,12 +63,8 @@ pub fn three_run<R: Relation, H: Behaviour>(
         → WholesShowInTime turns.now resources (emissions s.outputs.items) s.journal.entries
         (map going s.flights.items) s.taken.items) }
 {
-    // Their contracts say what answers mean for a device, whatever a network does.
-    posts_once::<H>();
-    writes_show::<H>();
-    wholes_show::<H>();
-    // And this one what the pieces of a representation join to.
-    downloads_join();
+    // Its contract says what is promised of every story.
+    stories_keep_promises::<R, H>();
     play(alloc, settings, bank, origin, turns)
 }
 

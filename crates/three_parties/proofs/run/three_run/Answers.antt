@@ -10,9 +10,8 @@ use Rattle.three_parties.specs.Flights.{going}
 use Rattle.three_parties.specs.Promises.{PostsOnceInTime}
 use Rattle.three_parties.specs.Reads.{GetsShowInTime, WholesShowInTime}
 use Rattle.three_parties.specs.Stories.{IsStory}
-use Rattle.three_parties.proofs.Executing.{if-ok, posts-of}
-use Rattle.three_parties.proofs.Answering.{reads-of}
-use Rattle.three_parties.proofs.Wholes.{wholes-of}
+use Rattle.three_parties.proofs.Executing.{if-ok}
+use Rattle.three_parties.proofs.Kept.{story-keeps}
 use Rattle.three_parties.proofs.run.three_run.Goals as goal
 
 pub returns-clause-posts : goal.returns-clause-posts
@@ -22,8 +21,9 @@ returns-clause-posts g c =
     (λ s. Stands s.journal.entries)
     (λ s. (block : ℕ) (resources : List Held) → device c.args.origin ≡ fresh block resources
     → PostsOnceInTime c.args.turns.now (emissions s.outputs.items) s.journal.entries (map going s.flights.items) s.taken.items)
-    (λ s is stands. posts-of g.H.Behaviour.relation c.posts_once.ensures g.R.Relation.holds g.R.Relation.takes (rules_of c.args.settings) (device c.args.origin)
-    c.args.turns.now (emissions s.outputs.items) (map going s.flights.items) s.journal.entries (device s.origin) s.taken.items is stands)
+    (λ s is stands block resources e. (story-keeps g.H.Behaviour.relation g.R.Relation.holds g.R.Relation.takes c.stories_keep_promises.ensures
+    (rules_of c.args.settings) (device c.args.origin) c.args.turns.now (emissions s.outputs.items) (map going s.flights.items) s.journal.entries
+    (device s.origin) s.taken.items is stands block resources e).posts)
     c.play.result c.play.ensures.is c.play.ensures.stands
 
 pub returns-clause-reads : goal.returns-clause-reads
@@ -33,8 +33,9 @@ returns-clause-reads g c =
     (λ s. Stands s.journal.entries)
     (λ s. (block : ℕ) (resources : List Held) → device c.args.origin ≡ fresh block resources
     → GetsShowInTime c.args.turns.now resources (emissions s.outputs.items) s.journal.entries (map going s.flights.items) s.taken.items)
-    (λ s is stands. reads-of g.H.Behaviour.relation c.writes_show.ensures g.R.Relation.holds g.R.Relation.takes (rules_of c.args.settings) (device c.args.origin)
-    c.args.turns.now (emissions s.outputs.items) (map going s.flights.items) s.journal.entries (device s.origin) s.taken.items is stands)
+    (λ s is stands block resources e. (story-keeps g.H.Behaviour.relation g.R.Relation.holds g.R.Relation.takes c.stories_keep_promises.ensures
+    (rules_of c.args.settings) (device c.args.origin) c.args.turns.now (emissions s.outputs.items) (map going s.flights.items) s.journal.entries
+    (device s.origin) s.taken.items is stands block resources e).reads)
     c.play.result c.play.ensures.is c.play.ensures.stands
 
 pub returns-clause-wholes : goal.returns-clause-wholes
@@ -42,8 +43,10 @@ returns-clause-wholes g c =
     if-ok (λ s. IsStory g.R.Relation.holds g.R.Relation.takes g.H.Behaviour.relation (rules_of c.args.settings) (device c.args.origin)
     c.args.turns.now (emissions s.outputs.items) (map going s.flights.items) s.journal.entries (device s.origin) s.taken.items)
     (λ s. Stands s.journal.entries)
-    (λ s. (block : ℕ) (resources : List Held) → device c.args.origin ≡ fresh block resources → AreNew resources
+    (λ s. (block : ℕ) (resources : List Held) → device c.args.origin ≡ fresh block resources
+    → AreNew resources
     → WholesShowInTime c.args.turns.now resources (emissions s.outputs.items) s.journal.entries (map going s.flights.items) s.taken.items)
-    (λ s is stands. wholes-of g.H.Behaviour.relation c.wholes_show.ensures c.downloads_join.ensures g.R.Relation.holds g.R.Relation.takes (rules_of c.args.settings) (device c.args.origin)
-    c.args.turns.now (emissions s.outputs.items) (map going s.flights.items) s.journal.entries (device s.origin) s.taken.items is stands)
+    (λ s is stands block resources e. (story-keeps g.H.Behaviour.relation g.R.Relation.holds g.R.Relation.takes c.stories_keep_promises.ensures
+    (rules_of c.args.settings) (device c.args.origin) c.args.turns.now (emissions s.outputs.items) (map going s.flights.items) s.journal.entries
+    (device s.origin) s.taken.items is stands block resources e).wholes)
     c.play.result c.play.ensures.is c.play.ensures.stands
