@@ -35,6 +35,10 @@ pub record MayGoOn {S W : Type 0} (n : ℕ) (g : GatewayValue S W) : Type 0 wher
 abbrev pub IsQuiet : State → Type 0
 IsQuiet S = (S.exchanges ≡ []) ⊎ (next_tick S ≡ None)
 
+-- No connection is open either: a turn waits for nothing more.
+abbrev pub IsDone : State → Type 0
+IsDone S = (S.conns ≡ []) × IsQuiet S
+
 -- It brings nothing, and no connection opens with it.
 abbrev pub IsBare : Happening → Type 0
 IsBare H.Tick = ⊤

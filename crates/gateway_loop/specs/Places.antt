@@ -96,3 +96,14 @@ IsPiece _ piece = length piece ≡ 0
 abbrev pub HasUnfed : {S : Type 0} → ℕ → Option (Option (ClientValue S)) → Type 0
 HasUnfed count (Some (Some x)) = count ≤ length x.unfed
 HasUnfed count _ = ⊤
+
+-- Who waits longest, of all who wait, comes first.
+abbrev pub IsFirst : Option ℕ → List ℕ → Type 0
+IsFirst (Some n) [] = ⊥
+IsFirst (Some n) (x ∷ xs) = x ≡ n
+IsFirst None all = all ≡ []
+
+-- He waits no more.
+abbrev pub IsNext : Option ℕ → List ℕ → List ℕ → Type 0
+IsNext (Some n) old new = old ≡ n ∷ new
+IsNext None old new = (old ≡ []) × (new ≡ [])

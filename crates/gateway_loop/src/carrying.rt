@@ -1,5 +1,5 @@
-//! A client's stream goes on as another connection of the world, so that the journal can be turned
-//! over beside it.
+//! A client's stream goes on as another connection of the world: so others have places while it asks
+//! nothing, and the journal can be turned over beside it.
 
 ghost use Rattle.std.specs.Prelude.{◌≡◌, true, IfOk};
 ghost use Rattle.gateway_loop.specs.Gateways.{MayGoOn};
@@ -10,8 +10,6 @@ use crate::gateway::{Ends, Gateway};
 use crate::host::Host;
 use crate::inputs::Passed;
 use crate::sockets::{Stream, Wire};
-use crate::stage::Stage;
-use crate::turns::Loop;
 use gateway_world::{Advanced, Happening, Input, Step, When};
 use http_edge::Memory;
 use transformers::{Bank, Relation};
@@ -38,7 +36,7 @@ impl<R: Relation, S: Stream + Drop, W: Wire + Drop> Gateway<R, S, W> {
         Ok(gateway)
     }
 
-    /// Nothing is read of the connection meanwhile.
+    /// Nothing is asked of the connection meanwhile.
     fn stand_still(&mut self, number: u32)
         ensures { self.new ≡ self.old }
     {
@@ -89,51 +87,5 @@ impl<R: Relation, S: Stream + Drop, W: Wire + Drop> Gateway<R, S, W> {
                 Ok(Gateway::of(world, ends))
             }
         }
-    }
-}
-
-impl<R: Relation, S: Stream + Drop, W: Wire + Drop> Loop<R, S, W> {
-    /// Goes on with the streams of the connections that were parked, once the journal is turned over.
-    pub(crate) fn resume_all<H: Host<S>>(
-        self,
-        bank: &Bank<R>,
-        host: &mut H,
-    ) -> Result<Loop<R, S, W>, Memory>
-        requires suits { Suits R.holds R.takes self.gateway.world.rules.routes bank.now }
-        ensures rules { IfOk result (λ l. l.gateway.world.rules ≡ self.gateway.world.rules) }
-    {
-        let mut it = self;
-        if !it.may_resume() {
-            return Ok(it);
-        }
-        it.rest.parked = false;
-        'each: for number in it.gateway.first_number()..it.gateway.next_number() {
-            it = it.resume_one(bank, host, number)?;
-        }
-        Ok(it)
-    }
-
-    /// Goes on with the stream of the connection, if it was parked.
-    fn resume_one<H: Host<S>>(
-        self,
-        bank: &Bank<R>,
-        host: &mut H,
-        number: u32,
-    ) -> Result<Loop<R, S, W>, Memory>
-        requires suits { Suits R.holds R.takes self.gateway.world.rules.routes bank.now }
-        ensures rules { IfOk result (λ l. l.gateway.world.rules ≡ self.gateway.world.rules) }
-    {
-        let mut it = self;
-        if it.gateway.stage(number) != Some(Stage::Parked) {
-            return Ok(it);
-        }
-        let when = it.when(host);
-        it.gateway = it.gateway.resume(bank, when, number, host)?;
-        Ok(it)
-    }
-
-    /// Whether connections are parked, and the journal isn't turned over now.
-    pub(crate) fn may_resume(&self) -> bool {
-        self.rest.parked && self.rest.turning.is_none()
     }
 }

@@ -1,7 +1,7 @@
 //! The connection of a client.
 
 ghost use Rattle.std.specs.Prelude.{◌≡◌, ◌≢◌, ◌≤◌, ◌<◌, ◌+◌, ◌-◌, ◌++◌, [], true, false, OnOk};
-ghost use Rattle.std.specs.Prelude.{drop, length, slice_index};
+ghost use Rattle.std.specs.Prelude.{drop, length, slice_index, IfSome, None};
 ghost use Rattle.gateway_loop.specs.Clients.{kept, unserved, BeginsUnfed, Leaves, Reads, Writes};
 ghost use Rattle.gateway_loop.specs.Telling.{head_len};
 
@@ -12,6 +12,7 @@ use crate::waits::{On, Times, Waits};
 use memchr::memchr;
 use std::alloc::{AllocError, Global};
 use std::marker::Model;
+use std::mem;
 
 /// A client's connection: what was given out for it and isn't written yet, and what was read of it
 /// and isn't an input yet.
@@ -33,7 +34,16 @@ pub struct Client<S> {
     begun: bool,
     /// For how long it has been so, and for how long its client has stood still.
     times: Times,
+    /// At which of all that was given out it was given something last, or began.
+    stamp: u64,
+    /// It was answered since it has its place.
+    had: bool,
+    /// It is parked, and waits for a place.
+    queued: bool,
 }
+
+/// How many bytes of a head are waited for before a request is begun with it.
+const MOST_HEAD: usize = 8192;
 
 /// What a client is told that waits with its body (RFC 9110 section 10.1.1): no answer yet.
 const GO_ON: &[u8] = b"HTTP/1.1 100";
@@ -69,7 +79,7 @@ impl<S> Model for Client<S> {
 
 impl<S: Stream> Client<S> {
     /// A connection of which nothing was read, and for which nothing was given out.
-    pub fn new(alloc: Global, stream: S) -> Client<S>
+    pub fn new(alloc: Global, stream: S, stamp: u64) -> Client<S>
         ensures { result ≡ unserved stream }
     {
         Client {
@@ -83,6 +93,9 @@ impl<S: Stream> Client<S> {
             ended: false,
             begun: false,
             times: Times::new(),
+            stamp,
+            had: false,
+            queued: false,
         }
     }
 
@@ -103,7 +116,49 @@ impl<S: Stream> Client<S> {
     pub fn look(&mut self, moment: u64)
         ensures { self.new ≡ self.old }
     {
-        self.times.look(moment);
+        let part = self.has_part();
+        self.times.look(moment, part);
+    }
+
+    /// Whether the head of a request has begun, and isn't whole.
+    fn has_part(&self) -> bool {
+        self.fed < self.came.len() && !self.begun && !self.has_head()
+    }
+
+    /// Whether what was read and isn't an input yet has a whole head, or so many bytes that no more
+    /// of one are waited for.
+    pub fn has_head(&self) -> bool
+        ensures short { result ≡ false → length self.now.unfed < MOST_HEAD }
+        ensures none { result ≡ false → head_len false self.now.unfed ≡ length self.now.unfed }
+    {
+        let rest = &self.came[self.fed..];
+        rest.len() >= MOST_HEAD || head_end(rest).is_some()
+    }
+
+    /// When it was given something last, if it has asked nothing since.
+    pub fn idle_since(&self) -> Option<u64> {
+        if self.is_written() && !self.has_head() {
+            Some(self.stamp)
+        } else {
+            None
+        }
+    }
+
+    /// Whether it was answered since it has its place.
+    pub fn had_turn(&self) -> bool {
+        self.had
+    }
+
+    /// It waits for a place from now on. Answers whether it didn't yet.
+    pub fn queue_up(&mut self) -> bool
+        ensures { self.new ≡ self.old }
+    {
+        !mem::replace(&mut self.queued, true)
+    }
+
+    /// Whether it waits for a place.
+    pub fn is_queued(&self) -> bool {
+        self.queued
     }
 
     /// What it waits for. Whether it waits for an answer isn't known here.
@@ -141,11 +196,13 @@ impl<S: Stream> Client<S> {
     }
 
     /// Puts bytes after those that aren't written yet.
-    pub fn give(&mut self, bytes: Vec<u8>) -> Result<(), AllocError>
+    pub fn give(&mut self, bytes: Vec<u8>, stamp: u64) -> Result<(), AllocError>
         ensures { OnOk result
             (self.new ≡ record self.old { left = self.old.left ++ bytes.items }) }
     {
         self.begun = bytes.as_slice().starts_with(GO_ON);
+        self.had = self.had || !self.begun;
+        self.stamp = stamp;
         self.times.change();
         if self.gone < self.out.len() {
             return self.out.extend_from_slice(bytes.as_slice());
@@ -195,7 +252,7 @@ impl<S: Stream> Client<S> {
         self.stage == Stage::Open
     }
 
-    /// Its stream is to go on as another connection: nothing is read of it meanwhile.
+    /// Its stream is to go on as another connection, once it asks something.
     pub fn park(&mut self)
         ensures { self.new ≡ self.old }
     {
@@ -214,6 +271,8 @@ impl<S: Stream> Client<S> {
         }
         self.readable = true;
         self.begun = false;
+        self.had = false;
+        self.queued = false;
         self.times.change();
         host.rename(number, &mut self.stream)
     }
@@ -291,14 +350,27 @@ pub(crate) fn piece_len(bytes: &[u8]) -> usize
     ensures some { 0 < length bytes.now → 0 < result }
     ensures head { result ≡ head_len false bytes.now }
 {
+    match head_end(bytes) {
+        Some(end) => end,
+        None => bytes.len(),
+    }
+}
+
+/// Where the first empty line ends, if there is one.
+fn head_end(bytes: &[u8]) -> Option<usize>
+    ensures fits { IfSome result (λ n. n ≤ length bytes.now) }
+    ensures some { IfSome result (λ n. 0 < n) }
+    ensures head { IfSome result (λ n. n ≡ head_len false bytes.now) }
+    ensures none { result ≡ None → head_len false bytes.now ≡ length bytes.now }
+{
     let mut at = 0;
     'lines: while let Some(line) = memchr(b'\n', &bytes[at..]) {
         at = behind_crs(bytes, at + line + 1);
         if at < bytes.len() && bytes[at] == b'\n' {
-            return at + 1;
+            return Some(at + 1);
         }
     }
-    bytes.len()
+    None
 }
 
 /// Where what isn't CR begins, from the begin of a line on (RFC 9112 section 2.2).

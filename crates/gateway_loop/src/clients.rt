@@ -31,8 +31,10 @@ pub struct Clients<S> {
     pub(crate) line: VecDeque<u32>,
     /// All may have: memory was refused for the line.
     pub(crate) everyone: bool,
-    /// How many are open.
-    pub(crate) open: usize,
+    /// How many are there.
+    pub(crate) streams: usize,
+    /// How often something was given out, or one came.
+    stamp: u64,
     /// What was given out, for who notes it.
     notes: Notes,
 }
@@ -62,7 +64,8 @@ impl<S: Stream + Drop> Clients<S> {
             places: Vec::new(alloc),
             line: VecDeque::new(alloc),
             everyone: false,
-            open: 0,
+            streams: 0,
+            stamp: 0,
             notes: Notes::new(alloc),
         }
     }
@@ -111,23 +114,23 @@ impl<S: Stream + Drop> Clients<S> {
             ≡ record self.old { places = self.old.places ++ Some (unserved stream) ∷ [] }) }
         ensures unchanged { OnErr result (self.new ≡ self.old) }
     {
-        let client = Client::new(self.alloc, stream);
+        let client = Client::new(self.alloc, stream, self.stamp);
         self.places.push(Some(client))?;
-        self.open = self.open.saturating_add(1);
+        self.streams = self.streams.saturating_add(1);
         Ok(())
     }
 
-    /// How many are open.
-    pub fn open(&self) -> usize {
-        self.open
+    /// How many are there.
+    pub fn streams(&self) -> usize {
+        self.streams
     }
 
-    /// It is open no more, if it was.
+    /// It is there no more, if it was.
     pub(crate) fn count_out(&mut self, number: u32)
         ensures { self.new ≡ self.old }
     {
-        if self.stage(number) == Some(Stage::Open) {
-            self.open = self.open.saturating_sub(1);
+        if self.stage(number).is_some() {
+            self.streams = self.streams.saturating_sub(1);
         }
     }
 
@@ -147,7 +150,7 @@ impl<S: Stream + Drop> Clients<S> {
             { places = take (length self.old.places - 1) self.old.places } }
     {
         match self.places.pop() {
-            Some(Some(_)) => self.open = self.open.saturating_sub(1),
+            Some(Some(_)) => self.streams = self.streams.saturating_sub(1),
             Some(None) => {}
             None => self.past = self.past.saturating_sub(1),
         }
@@ -157,7 +160,6 @@ impl<S: Stream + Drop> Clients<S> {
     pub fn close(&mut self, number: u32)
         ensures { self.new ≡ self.old }
     {
-        self.count_out(number);
         let Some(place) = place_of(number, self.past, self.places.len()) else {
             return;
         };
@@ -175,11 +177,12 @@ impl<S: Stream + Drop> Clients<S> {
         ensures told { Tells (Says number bytes.items ∷ []) self.old.told self.new.told }
     {
         self.notes.add(number, bytes.as_slice());
+        self.stamp = self.stamp.saturating_add(1);
         let Some(place) = place_of(number, self.past, self.places.len()) else {
             return;
         };
         let given = match &mut self.places[place] {
-            Some(client) => client.give(bytes),
+            Some(client) => client.give(bytes, self.stamp),
             None => return,
         };
         if given.is_err() {
@@ -241,7 +244,6 @@ impl<S: Stream + Drop> Clients<S> {
         ensures everyone { self.new.everyone ≡ self.old.everyone }
         ensures told { self.new.told ≡ self.old.told }
     {
-        self.count_out(number);
         let Some(place) = place_of(number, self.past, self.places.len()) else {
             return;
         };
@@ -251,7 +253,7 @@ impl<S: Stream + Drop> Clients<S> {
     }
 
     /// The connection with this number, if it is there.
-    fn get(&self, number: u32) -> Option<&Client<S>>
+    pub(crate) fn get(&self, number: u32) -> Option<&Client<S>>
         ensures some { IfSome result (λ c. slice_get self.now.places number ≡ Some (Some c.now)) }
         ensures none { result ≡ None → IsNobody (slice_get self.now.places number) }
     {

@@ -18,8 +18,10 @@ pub enum Due {
     Nothing,
     /// What was read is an input.
     Piece,
-    /// What was read was dropped, and there may be more.
+    /// What was read is none yet, or was dropped, and there may be more.
     More,
+    /// Its stream asks something, and waits for a place.
+    Place,
     /// It takes leave.
     Farewell,
     /// It ends.
@@ -78,10 +80,13 @@ impl<R: Relation, S: Stream + Drop, W: Wire + Drop> Gateway<R, S, W> {
         self.ends.clients.leave(number);
     }
 
-    /// Whether the connection takes leave, and the world, which closed it before, has nothing more to
-    /// do with it.
+    /// Whether the connection takes leave, or is parked, and the world, which closed it before, has
+    /// nothing more to do with it.
     pub(crate) fn has_left(&self, number: u32) -> bool {
-        self.ends.clients.stage(number) == Some(Stage::Leaving) && !self.world.is_idle(number)
+        match self.ends.clients.stage(number) {
+            Some(Stage::Leaving) | Some(Stage::Parked) => !self.world.is_idle(number),
+            _ => false,
+        }
     }
 
     /// The connection is there no more, with what is left for it.
@@ -92,8 +97,8 @@ impl<R: Relation, S: Stream + Drop, W: Wire + Drop> Gateway<R, S, W> {
     }
 
     /// Writes and reads on the connection, and answers what is to be done next. Nothing is asked of
-    /// it and nothing read while something is left to be written for it, or an answer awaited. One of
-    /// which nothing is there any more ends.
+    /// it and nothing read while something is left to be written for it, or an answer awaited. One
+    /// that is parked is read until a head is whole. One of which nothing is there any more ends.
     pub fn serve(&mut self, number: u32, buffer: &mut [u8]) -> Due
         ensures world { self.new.world ≡ self.old.world }
         ensures hold { result ≡ Due.Piece → MayAsk number self.new }
@@ -111,9 +116,9 @@ impl<R: Relation, S: Stream + Drop, W: Wire + Drop> Gateway<R, S, W> {
         }
         match self.ends.clients.stage(number) {
             Some(Stage::Open) => self.find_piece(number, buffer),
-            Some(Stage::Parked) => Due::Nothing,
+            Some(Stage::Parked) => self.find_head(number, buffer),
             Some(Stage::Closing) => Due::Farewell,
-            Some(Stage::Leaving) => self.drop_some(number, buffer),
+            Some(Stage::Leaving) => self.read_on(number, buffer),
             None => Due::Nothing,
         }
     }
@@ -142,18 +147,43 @@ impl<R: Relation, S: Stream + Drop, W: Wire + Drop> Gateway<R, S, W> {
         if !self.world.is_idle(number) {
             return Due::Nothing;
         }
-        if self.ends.clients.has_unfed(number) {
+        if self.is_ripe(number) {
             return Due::Piece;
         }
         match self.ends.clients.read(number, buffer) {
-            Flow::On => Due::Piece,
+            Flow::On if self.is_ripe(number) => Due::Piece,
+            Flow::On => Due::More,
             Flow::Later => Due::Nothing,
             Flow::End | Flow::Lost => Due::End,
         }
     }
 
-    /// Reads what the client sends that takes leave: it is dropped.
-    fn drop_some(&mut self, number: u32, buffer: &mut [u8]) -> Due
+    /// Whether what was read of the connection becomes an input: at the begin of a request only once
+    /// its head is whole, so that until then the stream can go on as another connection.
+    fn is_ripe(&self, number: u32) -> bool {
+        let clients = &self.ends.clients;
+        clients.has_unfed(number) && (clients.has_head(number) || !self.world.is_between(number))
+    }
+
+    /// Whether the stream of the connection, which is parked, asks something: it is read where it
+    /// doesn't yet.
+    fn find_head(&mut self, number: u32, buffer: &mut [u8]) -> Due
+        ensures world { self.new.world ≡ self.old.world }
+        ensures asks { result ≢ Due.Piece }
+        ensures length { length buffer.new ≡ length buffer.old }
+    {
+        if self.ends.clients.is_queued(number) {
+            return Due::Nothing;
+        }
+        if self.ends.clients.has_head(number) {
+            return Due::Place;
+        }
+        self.read_on(number, buffer)
+    }
+
+    /// Reads what the client sends of which nothing is asked now: where it takes leave that is
+    /// dropped.
+    fn read_on(&mut self, number: u32, buffer: &mut [u8]) -> Due
         ensures world { self.new.world ≡ self.old.world }
         ensures asks { result ≢ Due.Piece }
         ensures length { length buffer.new ≡ length buffer.old }

@@ -18,7 +18,7 @@ impl<S: Stream + Drop> Clients<S> {
         ensures unchanged { OnErr result (self.new ≡ self.old) }
     {
         self.places.push(Some(client))?;
-        self.open = self.open.saturating_add(1);
+        self.streams = self.streams.saturating_add(1);
         Ok(())
     }
 
@@ -26,12 +26,53 @@ impl<S: Stream + Drop> Clients<S> {
     pub fn park(&mut self, number: u32)
         ensures { self.new ≡ self.old }
     {
-        self.count_out(number);
         let Some(place) = place_of(number, self.past, self.places.len()) else {
             return;
         };
         if let Some(client) = &mut self.places[place] {
             client.park();
+        }
+    }
+
+    /// The stream of the connection waits for a place from now on. Answers whether it didn't yet.
+    pub fn queue_up(&mut self, number: u32) -> bool
+        ensures { self.new ≡ self.old }
+    {
+        let Some(place) = place_of(number, self.past, self.places.len()) else {
+            return false;
+        };
+        match &mut self.places[place] {
+            Some(client) => client.queue_up(),
+            None => false,
+        }
+    }
+
+    /// Whether it waits for one.
+    pub fn is_queued(&self, number: u32) -> bool {
+        match self.get(number) {
+            Some(client) => client.is_queued(),
+            None => false,
+        }
+    }
+
+    /// Whether what was read of the connection, and isn't an input yet, has a whole head.
+    pub fn has_head(&self, number: u32) -> bool {
+        match self.get(number) {
+            Some(client) => client.has_head(),
+            None => false,
+        }
+    }
+
+    /// When the connection was given something last, if it has asked nothing since.
+    pub fn idle_since(&self, number: u32) -> Option<u64> {
+        self.get(number)?.idle_since()
+    }
+
+    /// Whether the connection was answered since it has its place.
+    pub fn had_turn(&self, number: u32) -> bool {
+        match self.get(number) {
+            Some(client) => client.had_turn(),
+            None => false,
         }
     }
 

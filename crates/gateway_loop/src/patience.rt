@@ -14,15 +14,22 @@ use transformers::{Bank, Relation};
 /// How often connections are looked at, in milliseconds.
 pub(crate) const SWEEP: u64 = 1000;
 
-/// How many connections a world takes.
-const MOST_OPEN: usize = 256;
+/// How far behind the next number that of a stream that is parked may be. It gets another one then, so
+/// that of the places between little is kept.
+const FAR: u32 = 65_536;
+
+/// How long clients are borne with, and how many.
+#[derive(Clone, Copy, Debug, PartialEq, Eq)]
+pub struct Patience {
+    /// For how many milliseconds a client may stand still in a request, or with an answer.
+    pub idle: u64,
+    /// Within how many the head of a request has to be whole.
+    pub head: u64,
+    /// How many clients may be connected.
+    pub connections: usize,
+}
 
 impl<R: Relation, S: Stream + Drop, W: Wire + Drop> Gateway<R, S, W> {
-    /// How many connections are open.
-    pub fn open(&self) -> usize {
-        self.ends.clients.open()
-    }
-
     /// Looks at the connection, at this moment.
     pub fn look(&mut self, number: u32, moment: u64)
         ensures { self.new ≡ self.old }
@@ -37,22 +44,27 @@ impl<R: Relation, S: Stream + Drop, W: Wire + Drop> Gateway<R, S, W> {
         self.ends.clients.forget();
     }
 
-    /// Whether its client has stood still in a request for so many milliseconds, or hasn't taken all
-    /// that is left for it within as many.
-    pub fn stands_still(&self, number: u32, moment: u64, most: u64) -> bool {
-        let Some(waits) = self.ends.clients.waits(number) else {
-            return false;
+    /// Why the connection is borne with no more, if it isn't: its client has stood still in a request,
+    /// or hasn't taken all that is left for it in time, or the head of its request isn't whole in time.
+    pub fn overdue(&self, number: u32, moment: u64, patience: Patience) -> Option<Why> {
+        let Waits { on, times, .. } = self.ends.clients.waits(number)?;
+        let still = match on {
+            On::Request => times.heading.is_some() && times.stood(moment) >= patience.idle,
+            On::Rest => times.stood(moment) >= patience.idle && self.is_idle(number),
+            On::Reader => times.waited(moment) >= patience.idle,
         };
-        match waits.on {
-            On::Request => false,
-            On::Rest => waits.times.stood(moment) >= most && self.is_idle(number),
-            On::Reader => waits.times.waited(moment) >= most,
+        if still {
+            Some(Why::Still)
+        } else if times.headed(moment) >= patience.head {
+            Some(Why::Heading)
+        } else {
+            None
         }
     }
 
-    /// How readily the connection is closed for another one: those first whose clients ended while
-    /// they wait for answers, then those that have waited longest for a request, at least so many
-    /// milliseconds, then those that have waited longest for the rest of one.
+    /// How readily the connection is closed for another one, where none can be parked: those first
+    /// whose clients ended while they wait for answers, then those that have waited longest for the
+    /// rest of a request, at least so many milliseconds.
     pub fn readiness(&self, number: u32, moment: u64, least: u64) -> Option<Readiness> {
         let waits = self.ends.clients.waits(number)?;
         let kind = self.kind_of(number, waits)?;
@@ -68,7 +80,6 @@ impl<R: Relation, S: Stream + Drop, W: Wire + Drop> Gateway<R, S, W> {
         match waits.on {
             On::Rest if !idle && waits.ended => Some(Kind::Gone),
             On::Rest if idle => Some(Kind::Rest),
-            On::Request if idle => Some(Kind::Request),
             _ => None,
         }
     }
@@ -79,8 +90,6 @@ impl<R: Relation, S: Stream + Drop, W: Wire + Drop> Gateway<R, S, W> {
 pub enum Kind {
     /// Its client ended, and its answer isn't there yet.
     Gone,
-    /// It waits for a request.
-    Request,
     /// It waits for the rest of a request.
     Rest,
 }
@@ -107,8 +116,12 @@ pub enum Why {
     Still,
     /// One more came, and its client had left before its answer was there.
     Gone,
-    /// One more came, and no request had come on it for so many milliseconds.
+    /// One more came, and the rest of its request hadn't come for so many milliseconds.
     Idle(u64),
+    /// The head of its request wasn't whole in time.
+    Heading,
+    /// One more came, and of all that were parked it had asked nothing for longest.
+    Crowded,
 }
 
 impl Readiness {
@@ -116,17 +129,16 @@ impl Readiness {
     fn why(self) -> Why {
         match self.kind {
             Kind::Gone => Why::Gone,
-            Kind::Request | Kind::Rest => Why::Idle(self.time),
+            Kind::Rest => Why::Idle(self.time),
         }
     }
 
     /// Whether a connection is closed before the other one.
     fn is_before(self, other: Readiness) -> bool {
         match (self.kind, other.kind) {
-            (Kind::Gone, Kind::Gone) | (Kind::Request, Kind::Request) => self.time > other.time,
-            (Kind::Rest, Kind::Rest) => self.time > other.time,
-            (Kind::Gone, _) | (Kind::Request, Kind::Rest) => true,
-            _ => false,
+            (Kind::Gone, Kind::Gone) | (Kind::Rest, Kind::Rest) => self.time > other.time,
+            (Kind::Gone, Kind::Rest) => true,
+            (Kind::Rest, Kind::Gone) => false,
         }
     }
 }
@@ -146,7 +158,9 @@ impl<R: Relation, S: Stream + Drop, W: Wire + Drop> Loop<R, S, W> {
             return Ok(it);
         }
         it.rest.sweeps = it.rest.moment.saturating_add(SWEEP);
+        it.rest.full = false;
         it.gateway.forget();
+        it.forget_parked();
         'each: for number in it.gateway.first_number()..it.gateway.next_number() {
             it = it.look_at(bank, host, number)?;
         }
@@ -166,14 +180,22 @@ impl<R: Relation, S: Stream + Drop, W: Wire + Drop> Loop<R, S, W> {
         let mut it = self;
         let moment = it.rest.moment;
         it.gateway.look(number, moment);
-        if !it.gateway.stands_still(number, moment, it.rest.idle) {
-            return Ok(it);
+        if it.is_far(number) {
+            return it.queue_up(bank, host, number);
         }
-        it.give_up(bank, host, number, Why::Still)
+        match it.gateway.overdue(number, moment, it.rest.patience) {
+            Some(why) => it.give_up(bank, host, number, why),
+            None => Ok(it),
+        }
+    }
+
+    /// Whether the stream of the connection is parked, and its number is far behind the next.
+    fn is_far(&self, number: u32) -> bool {
+        self.gateway.next_number().saturating_sub(number) > FAR && self.gateway.is_asleep(number)
     }
 
     /// Closes the connection, and keeps why until the next turn.
-    fn give_up<H: Host<S>>(
+    pub(crate) fn give_up<H: Host<S>>(
         self,
         bank: &Bank<R>,
         host: &mut H,
@@ -188,8 +210,8 @@ impl<R: Relation, S: Stream + Drop, W: Wire + Drop> Loop<R, S, W> {
         Ok(it)
     }
 
-    /// Makes place for one more connection, where as many are open as may be and one of them may be
-    /// closed for it.
+    /// Makes place for one more connection, where as many are open as may be: the one that has asked
+    /// nothing for longest is parked, or, where all ask something, one is closed that may be.
     pub(crate) fn make_place<H: Host<S>>(
         self,
         bank: &Bank<R>,
@@ -198,8 +220,11 @@ impl<R: Relation, S: Stream + Drop, W: Wire + Drop> Loop<R, S, W> {
         requires suits { Suits R.holds R.takes self.gateway.world.rules.routes bank.now }
         ensures rules { IfOk result (λ l. l.gateway.world.rules ≡ self.gateway.world.rules) }
     {
-        if self.gateway.open() < MOST_OPEN {
+        if self.gateway.has_place() {
             return Ok(self);
+        }
+        if let Some(number) = self.gateway.longest_idle() {
+            return self.park(bank, host, number);
         }
         match self.readiest() {
             Some((number, readiness)) => self.give_up(bank, host, number, readiness.why()),
@@ -207,14 +232,20 @@ impl<R: Relation, S: Stream + Drop, W: Wire + Drop> Loop<R, S, W> {
         }
     }
 
+    /// Whether there is a place for one more connection, or one can be made.
+    pub(crate) fn may_make_place(&self) -> bool {
+        self.gateway.has_place()
+            || self.gateway.longest_idle().is_some()
+            || self.readiest().is_some()
+    }
+
     /// The connection that is closed for another one, if one may be.
     fn readiest(&self) -> Option<(u32, Readiness)> {
+        let moment = self.rest.moment;
         let mut found: Option<(u32, Readiness)> = None;
-        'each: for number in self.gateway.first_number()..self.gateway.next_number() {
-            let Some(readiness) = self
-                .gateway
-                .readiness(number, self.rest.moment, self.rest.idle)
-            else {
+        'each: for conn in self.gateway.world.core().conns() {
+            let least = self.rest.patience.idle;
+            let Some(readiness) = self.gateway.readiness(conn.id, moment, least) else {
                 continue 'each;
             };
             let is_first = match found {
@@ -222,7 +253,7 @@ impl<R: Relation, S: Stream + Drop, W: Wire + Drop> Loop<R, S, W> {
                 None => true,
             };
             if is_first {
-                found = Some((number, readiness));
+                found = Some((conn.id, readiness));
             }
         }
         found

@@ -2,7 +2,7 @@
 
 ghost use Rattle.std.specs.Prelude.{◌≡◌, ◌↔◌, true, length, option_to_list, IfOk, IsTrue};
 ghost use Rattle.exchange_model.specs.Rotating.{is_nearly_full};
-ghost use Rattle.gateway_loop.specs.Gateways.{IsQuiet, MayAsk, TurnsOrStays};
+ghost use Rattle.gateway_loop.specs.Gateways.{IsDone, IsQuiet, MayAsk, TurnsOrStays};
 ghost use Rattle.transformers.specs.Suits.{Suits};
 
 use crate::delivery::deliver;
@@ -46,6 +46,13 @@ impl<R: Relation, S: Stream + Drop, W: Wire + Drop> Gateway<R, S, W> {
         ensures { IsTrue result ↔ IsQuiet self.now.world.core.state }
     {
         self.world.core().exchanges().is_empty() || self.world.next_due().is_none()
+    }
+
+    /// Whether nothing is waited for: no connection is open, and no exchange.
+    pub fn is_done(&self) -> bool
+        ensures { IsTrue result ↔ IsDone self.now.world.core.state }
+    {
+        self.world.core().conns().is_empty() && self.is_quiet()
     }
 
     /// Whether the connection may be closed: it is open and waits for no answer, and nothing is left

@@ -5,8 +5,8 @@
 pub enum Stage {
     /// What comes is read, asked and answered.
     Open,
-    /// The journal is turned over: nothing is read of it, and then its stream goes on as another
-    /// connection.
+    /// The world has no connection for its stream, which asks nothing, or waits for a place: once one
+    /// is there for what it asks next, it goes on as another connection.
     Parked,
     /// The proxy closed it: it takes leave once all is written.
     Closing,

@@ -74,8 +74,13 @@ impl<R: Relation, S: Stream + Drop, W: Wire + Drop> Loop<R, S, W> {
                 Due::Nothing => {
                     // An answer that it was given in this step, and that is written, lined it up.
                     it.gateway.leave_line(number);
+                    if it.rest.full && it.gateway.is_idle(number) {
+                        it.rest.full = false;
+                    }
                     return Ok(it);
                 }
+                Due::Place => return it.queue_up(bank, host, number),
+                Due::Piece if it.gives_way(number) => return it.park(bank, host, number),
                 Due::Piece => {
                     let when = it.when(host);
                     it.gateway = it.gateway.feed(bank, when, number)?;
@@ -83,6 +88,7 @@ impl<R: Relation, S: Stream + Drop, W: Wire + Drop> Loop<R, S, W> {
                 Due::More => {}
                 Due::Farewell => {
                     it.gateway.leave(number);
+                    it.rest.full = false;
                     let moment = it.rest.moment;
                     if it.rest.farewells.push(number, moment).is_err() {
                         return it.end(bank, host, number);
@@ -106,6 +112,7 @@ impl<R: Relation, S: Stream + Drop, W: Wire + Drop> Loop<R, S, W> {
         ensures rules { IfOk result (λ l. l.gateway.world.rules ≡ self.gateway.world.rules) }
     {
         let mut it = self;
+        it.rest.full = false;
         if it.gateway.has_left(number) {
             it.gateway.remove(number);
         } else {

@@ -1,6 +1,6 @@
 //! The loop turns its journal over each time that it is nearly full: the world's connections are closed
 //! between two requests, and when none is left and no exchange is open the journal is brought to its
-//! seal and given out. Then the clients' streams go on as other connections.
+//! seal and given out. The clients' streams go on as other connections, once they ask something.
 
 ghost use Rattle.std.specs.Prelude.{◌≡◌, IfOk};
 ghost use Rattle.gateway_loop.specs.Gateways.{MayAsk};
@@ -9,7 +9,6 @@ ghost use Rattle.transformers.specs.Suits.{Suits};
 use crate::host::Host;
 use crate::rotation::{Padded, Rotated};
 use crate::sockets::{Stream, Wire};
-use crate::stage::Stage;
 use crate::turns::Loop;
 use gateway_world::{Output, RotateFault};
 use http_edge::Memory;
@@ -73,7 +72,7 @@ impl<R: Relation, S: Stream + Drop, W: Wire + Drop> Loop<R, S, W> {
         // Who was given bytes in this turn has its own first.
         let late = turning.is_late(it.rest.moment) && !it.gateway.have_turns();
         it = it.dismiss_all(bank, host, late)?;
-        if it.rest.moment < turning.again || !it.gateway.is_quiet() || it.is_connected() {
+        if it.rest.moment < turning.again || !it.gateway.is_done() {
             return Ok(it);
         }
         it = it.fill_up(bank, host)?;
@@ -93,15 +92,6 @@ impl<R: Relation, S: Stream + Drop, W: Wire + Drop> Loop<R, S, W> {
         self.rest.turning
     }
 
-    /// Whether a connection is open.
-    fn is_connected(&self) -> bool {
-        let mut connected = false;
-        'each: for number in self.gateway.first_number()..self.gateway.next_number() {
-            connected = connected || self.gateway.stage(number) == Some(Stage::Open);
-        }
-        connected
-    }
-
     /// Parks the connections that are between two requests; and closes those that don't get so far
     /// where it is late.
     fn dismiss_all<H: Host<S>>(
@@ -114,18 +104,39 @@ impl<R: Relation, S: Stream + Drop, W: Wire + Drop> Loop<R, S, W> {
         ensures rules { IfOk result (λ l. l.gateway.world.rules ≡ self.gateway.world.rules) }
     {
         let mut it = self;
-        'each: for number in it.gateway.first_number()..it.gateway.next_number() {
-            if it.gateway.is_between(number) {
-                let when = it.when(host);
-                it.gateway = it.gateway.park(bank, when, number)?;
-                it.rest.parked = true;
-            } else if late && it.gateway.is_written(number) {
-                it = it.dismiss(bank, host, number)?;
-            } else if late && it.gateway.is_idle(number) {
-                it = it.end(bank, host, number)?;
+        let mut place = 0;
+        'each: for _ in 0..MOST_OPENED {
+            let Some(number) = it.gateway.conn_at(place) else {
+                return Ok(it);
+            };
+            it = it.dismiss_one(bank, host, number, late)?;
+            if it.gateway.conn_at(place) == Some(number) {
+                place = place.saturating_add(1);
             }
         }
         Ok(it)
+    }
+
+    /// Parks the connection where it is between two requests, or closes it where it is late.
+    fn dismiss_one<H: Host<S>>(
+        self,
+        bank: &Bank<R>,
+        host: &mut H,
+        number: u32,
+        late: bool,
+    ) -> Result<Loop<R, S, W>, Memory>
+        requires suits { Suits R.holds R.takes self.gateway.world.rules.routes bank.now }
+        ensures rules { IfOk result (λ l. l.gateway.world.rules ≡ self.gateway.world.rules) }
+    {
+        if self.gateway.is_between(number) {
+            self.park(bank, host, number)
+        } else if late && self.gateway.is_written(number) {
+            self.dismiss(bank, host, number)
+        } else if late && self.gateway.is_idle(number) {
+            self.end(bank, host, number)
+        } else {
+            Ok(self)
+        }
     }
 
     /// Closes the connection, which takes leave, where what has to be remembered of that can be kept.
@@ -180,6 +191,7 @@ impl<R: Relation, S: Stream + Drop, W: Wire + Drop> Loop<R, S, W> {
             Some(Output::Rotated(journal)) => {
                 it.rest.journal = Some(journal);
                 it.rest.turning = None;
+                it.rest.full = false;
                 Ok(it)
             }
             Some(Output::Unrotated(RotateFault::Spent)) => {

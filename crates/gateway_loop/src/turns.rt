@@ -6,10 +6,11 @@ ghost use Rattle.transformers.specs.Suits.{Suits};
 
 use crate::farewells::Farewells;
 use crate::gateway::Gateway;
-use crate::host::{Accepted, Host, Sign};
-use crate::patience::{GivenUp, SWEEP};
+use crate::host::{Host, Sign};
+use crate::patience::{GivenUp, Patience};
 use crate::sockets::{Stream, Wire};
 use crate::turning::{LOOK, Turning};
+use crate::waiting::Waiting;
 use gateway_world::When;
 use http_edge::Memory;
 use journal_book::Journal;
@@ -69,11 +70,17 @@ pub(crate) struct Rest<R: Relation> {
     /// Datagrams may have come in.
     pub(crate) wire: bool,
     /// Clients may want connections, and nobody is taken before that moment.
-    clients: bool,
-    resumes: u64,
-    /// For how many milliseconds a client may stand still in a request, and after how many a
-    /// connection may be closed for another one.
-    pub(crate) idle: u64,
+    pub(crate) clients: bool,
+    pub(crate) resumes: u64,
+    /// No place could be made, and none got free since.
+    pub(crate) full: bool,
+    /// The next place is for one more client, if one is there.
+    pub(crate) new_is_next: bool,
+    /// Those whose streams wait for places, and those that were parked: who was first comes first.
+    pub(crate) queue: Waiting,
+    pub(crate) parked: Waiting,
+    /// How long clients are borne with.
+    pub(crate) patience: Patience,
     /// The moment at which connections are looked at again.
     pub(crate) sweeps: u64,
     /// The journal is nearly full, and is to be turned over.
@@ -82,8 +89,6 @@ pub(crate) struct Rest<R: Relation> {
     pub(crate) journal: Option<Journal<R>>,
     /// No numbers are left for the next journal.
     pub(crate) spent: bool,
-    /// Connections were parked.
-    pub(crate) parked: bool,
     /// Those that were given up in the last turn.
     pub(crate) given_up: Vec<GivenUp>,
 }
@@ -97,9 +102,8 @@ pub struct Loop<R: Relation, S: Stream, W: Wire> {
 }
 
 impl<R: Relation, S: Stream + Drop, W: Wire + Drop> Loop<R, S, W> {
-    /// A loop that looks at everything first. A client may stand still in a request for so many
-    /// milliseconds, after which an idle connection may be closed for another one.
-    pub fn new(gateway: Gateway<R, S, W>, idle: u64) -> Result<Loop<R, S, W>, AllocError>
+    /// A loop that looks at everything first, and bears so long with its clients.
+    pub fn new(gateway: Gateway<R, S, W>, patience: Patience) -> Result<Loop<R, S, W>, AllocError>
         ensures { IfOk result (λ l. l.gateway ≡ gateway) }
     {
         let alloc = gateway.alloc();
@@ -113,12 +117,15 @@ impl<R: Relation, S: Stream + Drop, W: Wire + Drop> Loop<R, S, W> {
             wire: true,
             clients: true,
             resumes: 0,
-            idle,
+            full: false,
+            new_is_next: false,
+            queue: Waiting::new(alloc),
+            parked: Waiting::new(alloc),
+            patience,
             sweeps: 0,
             turning: None,
             journal: None,
             spent: false,
-            parked: false,
             given_up: Vec::new(alloc),
         };
         Ok(Loop {
@@ -154,7 +161,7 @@ impl<R: Relation, S: Stream + Drop, W: Wire + Drop> Loop<R, S, W> {
         let mut it = self;
         it.rest.given_up.clear();
         it.take_signs(host);
-        let it = it.take_all(bank, host)?;
+        let it = it.seat_all(bank, host)?;
         let it = it.hear_all(bank, host)?;
         let mut it = it.go_on(bank, host)?;
         it.rest.due = it.gateway.next_due();
@@ -163,26 +170,6 @@ impl<R: Relation, S: Stream + Drop, W: Wire + Drop> Loop<R, S, W> {
             return Ok(it);
         }
         it.end_turn(bank, host)
-    }
-
-    /// Whether there may be connections to be taken.
-    fn may_take(&self) -> bool {
-        let wanted = self.rest.clients
-            && self.rest.moment >= self.rest.resumes
-            && self.rest.turning.is_none();
-        wanted || self.may_resume()
-    }
-
-    /// Goes on with the connections that were parked, and takes those that are there.
-    fn take_all<H: Host<S>>(self, bank: &Bank<R>, host: &mut H) -> Result<Loop<R, S, W>, Memory>
-        requires suits { Suits R.holds R.takes self.gateway.world.rules.routes bank.now }
-        ensures rules { IfOk result (λ l. l.gateway.world.rules ≡ self.gateway.world.rules) }
-    {
-        if !self.may_take() {
-            return Ok(self);
-        }
-        let it = self.resume_all(bank, host)?;
-        it.take_clients(bank, host)
     }
 
     /// Whether nothing else is due in this turn.
@@ -211,15 +198,15 @@ impl<R: Relation, S: Stream + Drop, W: Wire + Drop> Loop<R, S, W> {
     /// a farewell is over, clients are taken again, or connections are looked at whose journal is
     /// turned over.
     fn longest_wait(&self) -> Option<u64> {
-        if self.rest.wire || self.gateway.have_turns() || self.may_resume() {
+        if self.rest.wire || self.gateway.have_turns() || self.has_waiting() {
             return Some(0);
         }
         let resumes = match self.rest.turning {
             Some(turning) => Some(turning.again.max(self.rest.moment.saturating_add(LOOK))),
-            None if self.rest.clients => Some(self.rest.resumes),
+            None if self.wants_clients() => Some(self.rest.resumes),
             None => None,
         };
-        let sweeps = if self.gateway.open() > 0 {
+        let sweeps = if self.gateway.streams() > 0 {
             Some(self.rest.sweeps)
         } else {
             None
@@ -244,57 +231,6 @@ impl<R: Relation, S: Stream + Drop, W: Wire + Drop> Loop<R, S, W> {
                 None => return,
             }
         }
-    }
-
-    /// Takes those who want connections, some of them.
-    fn take_clients<H: Host<S>>(self, bank: &Bank<R>, host: &mut H) -> Result<Loop<R, S, W>, Memory>
-        requires suits { Suits R.holds R.takes self.gateway.world.rules.routes bank.now }
-        ensures rules { IfOk result (λ l. l.gateway.world.rules ≡ self.gateway.world.rules) }
-    {
-        let mut it = self;
-        if !it.rest.clients || it.rest.moment < it.rest.resumes || it.rest.turning.is_some() {
-            return Ok(it);
-        }
-        'each: for _ in 0..AT_ONCE {
-            match host.accept() {
-                Accepted::Client(stream) => it = it.take_client(bank, host, stream)?,
-                Accepted::Later => {
-                    it.rest.clients = false;
-                    return Ok(it);
-                }
-                Accepted::Refused => {
-                    it.rest.resumes = it.rest.moment.saturating_add(PAUSE);
-                    return Ok(it);
-                }
-            }
-        }
-        Ok(it)
-    }
-
-    /// Takes one, where its connection can be watched.
-    fn take_client<H: Host<S>>(
-        self,
-        bank: &Bank<R>,
-        host: &mut H,
-        stream: S,
-    ) -> Result<Loop<R, S, W>, Memory>
-        requires suits { Suits R.holds R.takes self.gateway.world.rules.routes bank.now }
-        requires written { Are (S.written stream) [] }
-        requires gave { Are (S.gave stream) [] }
-        ensures rules { IfOk result (λ l. l.gateway.world.rules ≡ self.gateway.world.rules) }
-    {
-        let mut it = self.make_place(bank, host)?;
-        let mut stream = stream;
-        let Ok(number) = u32::try_from(it.gateway.count()) else {
-            return Ok(it);
-        };
-        if !host.watch(number, &mut stream) {
-            return Ok(it);
-        }
-        let when = it.when(host);
-        it.gateway = it.gateway.admit(bank, when, stream)?;
-        it.gateway.line_up(number);
-        Ok(it)
     }
 
     /// When an input of this turn is, with a word of its own.

@@ -18,6 +18,8 @@ pub struct Times {
     pub since: u64,
     /// when its client went on last
     pub moved: u64,
+    /// since when the head of a request has come that isn't whole, if one has
+    pub heading: Option<u64>,
     /// It waits for something else than when it was looked at last.
     changed: bool,
     /// Its client went on since then.
@@ -30,6 +32,7 @@ impl Times {
         Times {
             since: 0,
             moved: 0,
+            heading: None,
             changed: true,
             went: false,
         }
@@ -63,8 +66,21 @@ impl Times {
         }
     }
 
-    /// It is looked at, at this moment.
-    pub fn look(&mut self, moment: u64) {
+    /// For how many milliseconds the head of a request has come that isn't whole.
+    pub fn headed(self, moment: u64) -> u64 {
+        match self.heading {
+            Some(since) => moment.saturating_sub(since),
+            None => 0,
+        }
+    }
+
+    /// It is looked at, at this moment, at which a part of a head is there or not.
+    pub fn look(&mut self, moment: u64, part: bool) {
+        self.heading = match self.heading {
+            Some(since) if part && !self.changed => Some(since),
+            _ if part => Some(moment),
+            _ => None,
+        };
         if self.changed {
             self.since = moment;
         }

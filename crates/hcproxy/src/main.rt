@@ -50,8 +50,7 @@ A gateway from HTTP/1.1 to CoAP.
   serve FILE --access     .. and notes each answer: who asked for what, and what came of it
   serve FILE --idle SECONDS
                           .. and waits so long for a client that stands still in a request, or doesn't
-                          take its answer; where 256 connections are open, one that is idle for so long
-                          is closed for another one. 60 without it
+                          take its answer. 60 without it
   serve FILE --status ADDRESS:PORT
                           .. and shows how it does there, by HTTP: a page for people, /metrics for
                           Prometheus, /health, /journal. Whoever reaches the address may look

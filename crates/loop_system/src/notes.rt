@@ -260,8 +260,18 @@ fn note_given_up<V: Log>(rt: &V, given_up: GivenUp) {
             info!(
                 rt;
                 target: "hcproxy",
-                "connection {number} is closed for another one: no request came on it for {time} s"
+                "connection {number} is closed for another one: its request didn't go on for {time} s"
             );
         }
+        Why::Heading => info!(
+            rt;
+            target: "hcproxy",
+            "connection {number} is closed: the head of its request wasn't whole in time"
+        ),
+        Why::Crowded => info!(
+            rt;
+            target: "hcproxy",
+            "connection {number} is closed for another one: nothing was asked on it for longest"
+        ),
     }
 }

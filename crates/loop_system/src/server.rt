@@ -12,7 +12,7 @@ use crate::glass::Glass;
 use crate::host::{System, waker_of, watched};
 use crate::ports::Ports;
 use ask_model::Settings;
-use gateway_loop::{Gateway, Loop, Stop};
+use gateway_loop::{Gateway, Loop, Patience, Stop};
 use gateway_window::{Options, Watch, show_all};
 use gateway_world::RotateFault;
 use http_edge::Memory;
@@ -27,6 +27,12 @@ use std::rt::Clock;
 use std::sync::{Arc, Wait};
 use std::thread::{self, Threads};
 use transformers::{Bank, Stored};
+
+/// Within how many milliseconds the head of a request has to be whole.
+const LONGEST_HEAD: u64 = 60_000;
+
+/// How many clients may be connected.
+const MOST_CONNECTIONS: usize = 4096;
 
 /// Runs the gateway at these ports, as the options say, until the clock fails, signs can't be waited
 /// for, memory is refused or the numbers of its journals are spent.
@@ -117,10 +123,19 @@ fn run_on<
     };
     let mut host = System::new(rt, alloc, poll, listener, begin)?;
     let gateway: Gateway<Profile, Client, Devices> = Gateway::new(alloc, settings, devices)?;
-    let it = Loop::new(gateway, options.idle.saturating_mul(1000))?;
+    let it = Loop::new(gateway, patience_of(options))?;
     let archive = Arc::new(alloc, archive)?;
     let after = After::new(alloc, archive, seen(&glass), options.access);
     Ok(go_on(&rt, it, bank, &mut host, after))
+}
+
+/// How long clients are borne with.
+fn patience_of(options: Options) -> Patience {
+    Patience {
+        idle: options.idle.saturating_mul(1000),
+        head: LONGEST_HEAD,
+        connections: MOST_CONNECTIONS,
+    }
 }
 
 /// Notes where the gateway is found.

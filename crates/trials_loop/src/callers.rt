@@ -198,7 +198,7 @@ pub trait Turns {
     /// It is being turned over at this moment.
     fn tell_turning(&mut self);
 
-    /// It was turned over: who isn't patient asks so often besides.
+    /// It was turned over: who isn't patient asks so often besides, and who is once.
     fn tell_turned(&self, more: usize);
 
     /// Whether the connections of all callers are gone.
@@ -219,9 +219,7 @@ impl<'a> Turns for Board<'a> {
 
     fn tell_turned(&self, more: usize) {
         'each: for caller in self.callers {
-            if !caller.patient {
-                caller.ask_on(more);
-            }
+            caller.ask_on(if caller.patient { 1 } else { more });
         }
     }
 

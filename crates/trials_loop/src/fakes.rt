@@ -2,11 +2,20 @@
 //! gives the signs.
 
 use crate::chance::Dice;
-use gateway_loop::{Accepted, Host, Moved, Received, Sign, Stream, Told, Wire};
+use gateway_loop::{Accepted, Host, Moved, Patience, Received, Sign, Stream, Told, Wire};
 use std::alloc::Global;
 use std::cell::Cell;
 use std::collections::VecDeque;
 use uri_map::Peer;
+
+/// Within which time, in milliseconds, a head has to be whole, and a client to go on.
+pub fn patience(idle: u64) -> Patience {
+    Patience {
+        idle,
+        head: idle,
+        connections: 4096,
+    }
+}
 
 /// What a client sends, and what it is to get.
 #[derive(Drop)]

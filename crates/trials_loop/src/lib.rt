@@ -10,6 +10,8 @@ mod callers;
 #[cfg(test)]
 mod chance;
 #[cfg(test)]
+mod crowd;
+#[cfg(test)]
 mod fakes;
 #[cfg(test)]
 mod late;

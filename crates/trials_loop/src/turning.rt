@@ -7,7 +7,7 @@ ghost use Rattle.transformers.specs.Suits.{Suits};
 
 use crate::callers::{Board, Caller, Turns};
 use crate::chance::Dice;
-use crate::fakes::Devices;
+use crate::fakes::{Devices, patience};
 use ask_model::Settings;
 use gateway_loop::{Gateway, Host, Loop, Stream, Wire};
 use std::alloc::{AllocError, Global};
@@ -138,7 +138,7 @@ fn is_run<'a>(alloc: Global, dice: &'a Dice, host: &mut Board<'a>) -> bool {
     let Ok(gateway) = Gateway::new(alloc, settings, Devices::new(alloc, dice)) else {
         return false;
     };
-    match Loop::new(gateway, IDLE) {
+    match Loop::new(gateway, patience(IDLE)) {
         Ok(it) => goes(&bank, it, host),
         Err(_) => false,
     }

@@ -4,8 +4,8 @@ use Rattle.std.proofs.lemmas.Result.{IfOk-weaker}
 use Rattle.gateway_world.specs.Worlds.{WorldValue}
 use Rattle.gateway_loop.proofs.turns.Loop.turn.Goals as goal
 
-pub take_all-requires : goal.take_all-requires
-take_all-requires g c = record { suits = rw c.take_signs.ensures c.requires.suits }
+pub seat_all-requires : goal.seat_all-requires
+seat_all-requires g c = record { suits = rw c.take_signs.ensures c.requires.suits }
 
 pub hear_all-requires : goal.hear_all-requires
 hear_all-requires g c = record { suits = rw (c.in_ok-it.ensures.rules, c.take_signs.ensures) c.requires.suits }

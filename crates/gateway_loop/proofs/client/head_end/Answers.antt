@@ -2,9 +2,9 @@
 use Rattle.std.proofs.Common.{◌≡◌, ◌≢◌, ◌≤◌, ◌<◌, ◌-◌, ◌+◌, ℕ, List, drop, length, length-drop}
 use Rattle.std.proofs.Common.{slice_index, take, take_all, sym, ap, ◌∙◌, arith}
 use Rattle.gateway_loop.proofs.Lines.{further, head_len-all, head_len-end, head_len-line, head_len-text}
-use Rattle.gateway_loop.proofs.client.piece_len.Goals as goal
-use Rattle.gateway_loop.proofs.client.piece_len.Goals.{else-at-bytes-via-else-at-bytes}
-use Rattle.gateway_loop.proofs.client.piece_len.Goals.{else-at-bytes-via-then-at-bytes+else-bytes-at-eq10}
+use Rattle.gateway_loop.proofs.client.head_end.Goals as goal
+use Rattle.gateway_loop.proofs.client.head_end.Goals.{else-at-bytes-via-else-at-bytes}
+use Rattle.gateway_loop.proofs.client.head_end.Goals.{else-at-bytes-via-then-at-bytes+else-bytes-at-eq10}
 
 -- what stands from a place on
 all : (bs : List ℕ) (at : ℕ) → take (length bs - at) (drop at bs) ≡ drop at bs
@@ -38,9 +38,9 @@ lines-preserved c =
     let so = further _ _ _ _ _ to.from line to.empty in
     (to.fits, so ∙ ap (λ n. r + n) (head_len-text bs r other to.behind))
 
-pub returns-clause-head : goal.returns-clause-head
-returns-clause-head c =
+pub returns-clause-none : goal.returns-clause-none
+returns-clause-none c =
     let bs = c.args.bytes.now in
     let at = c.lines.at in
     let so = c.lines.invariant in
-    head_len-all bs at so.1 _ (all bs at) so.0 c.in_default.ensures
+    λ none. sym (head_len-all bs at so.1 _ (all bs at) so.0 c.in_default.ensures)

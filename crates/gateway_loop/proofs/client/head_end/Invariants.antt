@@ -1,7 +1,7 @@
 -- No line ended yet that is empty.
 use Rattle.std.proofs.Common.{◌≡◌, ◌≤◌, ◌+◌, ◌-◌, false, length, drop}
 use Rattle.gateway_loop.specs.Telling.{head_len}
-use Rattle.gateway_loop.proofs.client.piece_len.Given as goal
+use Rattle.gateway_loop.proofs.client.head_end.Given as goal
 
 abbrev pub invariant-lines : goal.invariant-lines
 invariant-lines l = (l.at ≤ length l.bytes)

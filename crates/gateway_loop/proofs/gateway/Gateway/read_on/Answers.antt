@@ -1,6 +1,6 @@
 -- What was read is kept, or lost with its connection.
 use Rattle.gateway_loop.proofs.Standing.{serving-at, serving-read}
-use Rattle.gateway_loop.proofs.gateway.Gateway.drop_some.Goals as goal
+use Rattle.gateway_loop.proofs.gateway.Gateway.read_on.Goals as goal
 
 pub invariant_of-self : goal.invariant_of-self
 invariant_of-self g c =
