@@ -2,17 +2,22 @@
 
 use crate::files::serve_at;
 use crate::journals::Folder;
-use crate::notes::noted;
+use crate::notes::{Notes, noted};
 use ask_model::Settings;
 use command_line::{Report, Serving, followed};
-use log::Log;
+use log::{Log, info};
 use loop_system::{Options, Payloads, Ports, ServeFault, run};
+use proxy_settings::Serve;
 use std::net::{Net, SocketAddr, TcpListener, TcpStream};
 use std::random::RandomSource;
 use std::rt::{Clock, Files};
 use std::sync::Wait;
 use std::thread::Threads;
 use uri_map::Peer;
+
+/// What is noted where whoever reaches the gateway may have any address asked.
+const ANY_ADDRESS: &str = "other hosts can have any address asked, since literals = true: \
+    literals = false leaves only the devices of the settings";
 
 /// Runs the gateway by the settings of a file, or else by those on standard input, until the clock or
 /// the sockets fail. Journals go into the folder, where one is named. Who looks at it is served by
@@ -79,7 +84,13 @@ fn keep_on<
 /// The ports that the settings name, taken, what the gateway goes by, and where its journals go.
 fn opened<
     'a,
-    R: Net<Listener = TcpListener, Stream = TcpStream> + Input + Eprint + Files + AllocGlobal,
+    R: Net<Listener = TcpListener, Stream = TcpStream>
+        + Clock
+        + Input
+        + Eprint
+        + Files
+        + AllocGlobal
+        + Copy,
 >(
     rt: &R,
     host: HostRuntime,
@@ -97,16 +108,25 @@ fn opened<
 
 /// What the gateway goes by, by the settings of a file or of standard input, and which addresses it
 /// takes: of connections, and of datagrams.
-pub fn addressed<'a, R: Input + Files + AllocGlobal>(
+pub fn addressed<'a, R: Clock + Input + Eprint + Files + AllocGlobal + Copy>(
     rt: &R,
     path: Option<&'a str>,
 ) -> Result<(Settings, SocketAddr, SocketAddr), Report<'a>> {
     let serve = serve_at(rt, path)?;
     let (listen, udp) = (socket_of(serve.listen), socket_of(serve.udp));
+    if asks_any_address(&serve) {
+        let notes = Notes(*rt);
+        info!(notes; target: "hcproxy", "{ANY_ADDRESS}");
+    }
     match followed(rt.alloc(), &serve) {
         Ok(settings) => Ok((settings, listen, udp)),
         Err(_) => Err(Report::memory()),
     }
+}
+
+/// Whether hosts besides this one reach the gateway, and it asks any address that they name.
+fn asks_any_address(serve: &Serve) -> bool {
+    serve.literals && !serve.listen.address.is_loopback()
 }
 
 /// The folder of this path, or none.

@@ -44,10 +44,16 @@ pub fn serve_threads<
 }
 
 /// The ports that the settings name, taken, and what the gateway goes by.
-fn opened<'a, R: Net<Listener = TcpListener, Stream = TcpStream> + Input + Files + AllocGlobal>(
-    rt: &R,
-    path: Option<&'a str>,
-) -> Result<(Ports, Settings), Report<'a>> {
+fn opened<
+    'a,
+    R: Net<Listener = TcpListener, Stream = TcpStream>
+        + Clock
+        + Input
+        + Eprint
+        + Files
+        + AllocGlobal
+        + Copy,
+>(rt: &R, path: Option<&'a str>) -> Result<(Ports, Settings), Report<'a>> {
     let (settings, listen, udp) = addressed(rt, path)?;
     let ports = Ports::bind(rt, listen, udp).map_err(Report::serve)?;
     Ok((ports, settings))

@@ -3,21 +3,30 @@
 use std::fs::{File, OpenOptions};
 use std::os::fd::AsRawFd;
 
-/// How many standard descriptors there are: 0, 1 and 2.
-const STANDARD: i32 = 3;
-
-/// A file that takes the number of a standard descriptor which is closed, and gives and keeps nothing.
-/// None where none is closed. While it is open no socket gets that number, and what is printed and
-/// noted reaches no client.
-pub fn filled(rt: &HostRuntime) -> Option<File> {
-    let file = OpenOptions::new()
-        .read(true)
-        .write(true)
+/// A file that gives and keeps nothing.
+fn opened(rt: &HostRuntime, read: bool, write: bool) -> Option<File> {
+    OpenOptions::new()
+        .read(read)
+        .write(write)
         .open(rt, "/dev/null")
-        .ok()?;
-    if file.as_raw_fd() < STANDARD {
-        Some(file)
-    } else {
-        None
+        .ok()
+}
+
+/// The number of the descriptor that is free first.
+fn first_free(rt: &HostRuntime) -> Option<i32> {
+    let file = opened(rt, true, true)?;
+    Some(file.as_raw_fd())
+}
+
+/// A file that takes the number of a standard descriptor which is closed. None where none is closed.
+/// While it is open no socket gets that number, and what is printed and noted reaches no client.
+/// Standard input can't be read from it, nor standard output be written to it: who does is told that
+/// the device failed, as where it is closed. What is noted is kept nowhere.
+pub fn filled(rt: &HostRuntime) -> Option<File> {
+    match first_free(rt)? {
+        0 => opened(rt, false, true),
+        1 => opened(rt, true, false),
+        2 => opened(rt, true, true),
+        _ => None,
     }
 }
