@@ -98,12 +98,20 @@ fn opened<
 ) -> Result<(Ports, Settings, Folder), Report<'a>> {
     let (settings, listen, udp) = addressed(rt, serving.settings)?;
     let folder = folder_of(host, serving.journals)?;
-    let ports = Ports::bind(rt, listen, udp).map_err(Report::serve)?;
+    let ports = told(Ports::bind(rt, listen, udp))?;
     let ports = match serving.status {
-        Some(at) => ports.with_window(rt, socket_of(at)).map_err(Report::serve)?,
+        Some(at) => told(ports.with_window(rt, socket_of(at)))?,
         None => ports,
     };
     Ok((ports, settings, folder))
+}
+
+/// What was taken, or the report of why it wasn't.
+pub fn told<'a, P>(taken: Result<P, ServeFault>) -> Result<P, Report<'a>> {
+    match taken {
+        Ok(ports) => Ok(ports),
+        Err(fault) => Err(Report::serve(fault)),
+    }
 }
 
 /// What the gateway goes by, by the settings of a file or of standard input, and which addresses it

@@ -1,6 +1,6 @@
 //! `hcproxy serve --threads`: the gateway with a thread for each connection, by a file's settings.
 
-use crate::looping::{addressed, options_of};
+use crate::looping::{addressed, options_of, told};
 use crate::notes::noted;
 use ask_model::Settings;
 use command_line::{Report, Serving};
@@ -55,6 +55,6 @@ fn opened<
         + Copy,
 >(rt: &R, path: Option<&'a str>) -> Result<(Ports, Settings), Report<'a>> {
     let (settings, listen, udp) = addressed(rt, path)?;
-    let ports = Ports::bind(rt, listen, udp).map_err(Report::serve)?;
+    let ports = told(Ports::bind(rt, listen, udp))?;
     Ok((ports, settings))
 }
