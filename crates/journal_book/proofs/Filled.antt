@@ -1,14 +1,15 @@
 -- What segments hold, by number.
-use Rattle.std.proofs.Common.{◌≡◌, ℕ, zero, suc, ◌+◌, ◌*◌, ◌/◌, ◌%◌, ◌-◌, ◌<◌, ◌≤◌, ◌⊎◌, inl, inr, min, List, [], ◌∷◌, ◌++◌, map, length, get_or, set, take, Option, Some, option_map, slice_get, refl, sym, ap, subst, ◌∙◌, arith, append_assoc, append-nil, length-append, vec_len, vec_capacity}
+use Rattle.std.proofs.Common.{◌≡◌, ℕ, zero, suc, ◌+◌, ◌*◌, ◌/◌, ◌%◌, ◌-◌, ◌<◌, ◌≤◌, inl, inr, min, List, [], ◌∷◌, ◌++◌, map, length, get_or, set, take, drop, Option, Some, option_map, slice_get, refl, sym, ap, subst, ◌∙◌, arith, append_assoc, append-nil, length-append, vec_len, vec_capacity}
 use Rattle.std.specs.Borrow.{Bor}
-use Rattle.std.specs.Prelude.{MatchOption, None}
+use Rattle.std.specs.Prelude.{MatchOption, None, remove, slice_index_or}
 use Rattle.std.specs.Slice.{IsItemAt}
 use Rattle.std.specs.declared.alloc.Global.{Global}
 use Rattle.std.specs.declared.vec.Vec.{Vec}
 use Rattle.std.proofs.lemmas.Bool.{cases_lt}
-use Rattle.std.proofs.lemmas.List.{length-map, length-take, map_push, nil_from_length, take_more, take-map}
+use Rattle.std.proofs.lemmas.List.{drop_all, length-map, length-take, map_push, nil_from_length, take_more, take-map}
 use Rattle.std.proofs.lemmas.Option.{slice_get-get_or, slice_get-map, slice_get_within, same_Some, get_or_from_slice_get}
 use Rattle.journal_book.specs.Entries.{Written}
+use Rattle.journal_book.specs.Journals.{IsHere}
 use Rattle.journal_book.specs.Segments.{AreFilled, entries_in}
 use Rattle.journal_book.specs.Views.{item_of}
 use Rattle.journal_book.specs.declared.entry.Entry.{Entry}
@@ -29,13 +30,13 @@ within-later k h = omega arith
 
 -- lists, one behind another
 
-get-first : {A : Type 0} (xs ys : List A) (k : ℕ) → k < length xs
+pub get-first : {A : Type 0} (xs ys : List A) (k : ℕ) → k < length xs
     → slice_get (xs ++ ys) k ≡ slice_get xs k
 get-first [] ys k h = absurd (omega (arith, h))
 get-first (x ∷ xs) ys zero h = refl
 get-first (x ∷ xs) ys (suc k) h = get-first xs ys k (omega (arith, h))
 
-get-later : {A : Type 0} (xs ys : List A) (k : ℕ) → length xs ≤ k
+pub get-later : {A : Type 0} (xs ys : List A) (k : ℕ) → length xs ≤ k
     → slice_get (xs ++ ys) k ≡ slice_get ys (k - length xs)
 get-later [] ys k h = ap (λ (n : ℕ). slice_get ys n) (omega arith)
 get-later (x ∷ xs) ys zero h = absurd (omega (arith, h))
@@ -294,3 +295,93 @@ pub first-more : (xs : List Written) (i : ℕ) (x : Written) → slice_get xs i 
 first-more xs i x e =
     take_more xs i x (slice_get_within xs i x e)
     ∙ ap (λ (y : Written). take i xs ++ y ∷ []) (get_or_from_slice_get xs i x x e)
+
+-- the entries behind those that were given out
+
+pub got-behind : {R : Type 0} (past : List Written) (ss : List (Vec (Entry R) Global))
+    (given number place : ℕ) (kept : List ℕ) (r : Option (Bor (Entry R))) → given ≡ length past
+    → given ≤ number → place ≡ number - given
+    → MatchOption r (length (entries_in ss) ≤ place)
+    (λ e. slice_get (entries_in ss) place ≡ Some (item_of e.now))
+    → MatchOption r (IsHere given kept number → length (past ++ entries_in ss) ≤ number)
+    (λ e. slice_get (past ++ entries_in ss) number ≡ Some (item_of e.now))
+got-behind past ss given number place kept None is le at h =
+    λ here. omega (arith, is, le, at, h, length-append past (entries_in ss))
+got-behind past ss given number place kept (Some e) is le at h =
+    let same : number - length past ≡ place = omega (arith, is, at) in
+    get-later past (entries_in ss) number (omega (arith, is, le))
+    ∙ ap (λ (n : ℕ). slice_get (entries_in ss) n) same ∙ h
+
+pub last-taken : (past ents : List Written) (held : ℕ) → length ents ≡ held → 0 < held
+    → past ++ take (held - 1) ents ≡ take (length (past ++ ents) - 1) (past ++ ents)
+last-taken past ents held count some =
+    let all = length-append past ents in
+    let same : held - 1 ≡ length (past ++ ents) - 1 - length past = omega (arith, count, some, all) in
+    ap (λ (n : ℕ). past ++ take n ents) same
+    ∙ sym (take-later past ents (length (past ++ ents) - 1) (omega (arith, count, some, all)))
+
+-- the first segment is given out
+
+pub first-out : {R : Type 0} (ss : List (Vec (Entry R) Global)) (n : ℕ) (s : Vec (Entry R) Global)
+    (rest : List (Vec (Entry R) Global)) → AreFilled ss n → 1024 ≤ n → s ≡ slice_index_or ss 0 s
+    → rest ≡ remove ss 0
+    → AreFilled rest (n - 1024) × (map item_of s.items ++ entries_in rest ≡ entries_in ss)
+    × (length s.items ≡ 1024)
+first-out [] n s rest f full is out = absurd (omega (arith, f, full))
+first-out (x ∷ xs) n s rest f full is out =
+    let same : s ≡ x = is in
+    let left : rest ≡ xs = out in
+    let here : length x.items ≡ min n 1024 = f.0 in
+    let whole : length x.items ≡ 1024 = omega (arith, full) in
+    rw (left, same) (f.2, refl, whole)
+
+pub one-more-in : {R : Type 0} (ss : List (Vec (Entry R) Global)) (s : Vec (Entry R) Global)
+    → entries_in (ss ++ s ∷ []) ≡ entries_in ss ++ map item_of s.items
+one-more-in [] s = append-nil (map item_of s.items)
+one-more-in (x ∷ xs) s =
+    ap (λ zs. map item_of x.items ++ zs) (one-more-in xs s)
+    ∙ sym (append_assoc (map item_of x.items) (entries_in xs) (map item_of s.items))
+
+pub passed-on : (was made now xs rest ents : List Written) → now ≡ made ++ xs → made ≡ was
+    → xs ++ rest ≡ ents → now ++ rest ≡ was ++ ents
+passed-on was made now xs rest ents more same whole =
+    ap (λ (ws : List Written). ws ++ rest) more ∙ append_assoc made xs rest
+    ∙ ap (λ (ws : List Written). ws ++ (xs ++ rest)) same
+    ∙ ap (λ (ws : List Written). was ++ ws) whole
+
+pub past-longer : (given : ℕ) (was made now xs : List Written) → given ≡ length was
+    → now ≡ made ++ xs → made ≡ was → length xs ≡ 1024 → given + 1024 ≡ length now
+past-longer given was made now xs is more same many =
+    let longer = ap (λ (ws : List Written). length ws) more in
+    let alike = ap (λ (ws : List Written). length ws) same in
+    omega (arith, is, longer, alike, length-append made xs, many)
+
+behind-all : (xs ys : List Written) → drop (length xs) (xs ++ ys) ≡ ys
+behind-all [] ys = refl
+behind-all (x ∷ xs) ys = behind-all xs ys
+
+pub first-behind : (was xs rest ents : List Written) (given : ℕ) → given ≡ length was
+    → xs ++ rest ≡ ents → length xs ≡ 1024 → xs ≡ take 1024 (drop given (was ++ ents))
+first-behind was xs rest ents given is whole many =
+    let none : 1024 - length xs ≡ 0 = omega (arith, many) in
+    sym (ap (λ (n : ℕ). take 1024 (drop n (was ++ ents))) is ∙ ap (take 1024) (behind-all was ents)
+    ∙ ap (take 1024) (sym whole) ∙ take-later xs rest 1024 (omega (arith, many))
+    ∙ ap (λ (n : ℕ). xs ++ take n rest) none ∙ append-nil xs)
+
+pub none_first : (g : ℕ) (xs : List Written) → drop g (take g xs) ≡ []
+none_first g xs = drop_all g (take g xs) (omega (arith, length-take g xs))
+
+-- one more behind the first ones
+
+drop-later : (xs : List Written) (x : Written) (g : ℕ) → g ≤ length xs
+    → drop g (xs ++ x ∷ []) ≡ drop g xs ++ x ∷ []
+drop-later xs x zero h = refl
+drop-later [] x (suc g) h = absurd (omega (arith, h))
+drop-later (y ∷ xs) x (suc g) h = drop-later xs x g (omega (arith, h))
+
+pub more-behind : (xs : List Written) (g i : ℕ) (x : Written) → g ≤ i → slice_get xs i ≡ Some x
+    → drop g (take (i + 1) xs) ≡ drop g (take i xs) ++ x ∷ []
+more-behind xs g i x le e =
+    let within : i < length xs = slice_get_within xs i x e in
+    let long = length-take i xs in
+    ap (drop g) (first-more xs i x e) ∙ drop-later (take i xs) x g (omega (arith, long, le))

@@ -55,11 +55,6 @@ abbrev pub carried_as : ℕ → Mark → Written → Option Written
 carried_as n mark w =
     option_map (λ done. record { moment = w.moment; deed = Carries n mark done }) (done_of w.deed)
 
--- what a journal is: its entries, oldest first, and how many more it takes without memory
-pub record JournalValue : Type 0 where
-  pub entries : List Written
-  pub room : ℕ
-
 abbrev pub grounds_size : Grounds → ℕ
 grounds_size (Live js) = 4 * length js
 grounds_size (Kept js) = 4 * length js

@@ -7,7 +7,9 @@
 
 mod entry;
 mod journal;
+mod kept;
 mod numbers;
+mod past;
 mod segments;
 mod size;
 

@@ -1,6 +1,6 @@
 //! Segments of entries: none is moved when more come.
 
-ghost use Rattle.std.specs.Prelude.{ℕ, ◌≡◌, ◌≤◌, ◌<◌, ◌+◌, ◌-◌, ◌*◌, ◌∷◌, ◌++◌, [], length, take, Some, MatchOption, OnOk, OnErr, slice_get, vec_len};
+ghost use Rattle.std.specs.Prelude.{ℕ, ◌≡◌, ◌≤◌, ◌<◌, ◌+◌, ◌-◌, ◌*◌, ◌∷◌, ◌++◌, [], length, map, take, Some, MatchOption, OnOk, OnErr, slice_get, slice_index_or, vec_len};
 ghost use Rattle.journal_book.specs.Segments.{AreFilled, entries_in};
 ghost use Rattle.journal_book.specs.Views.{item_of};
 
@@ -49,6 +49,25 @@ pub fn take_entry<R: Relation>(segments: &mut Vec<Vec<Entry<R>>>, len: usize)
 {
     let last = len - 1;
     segments[last / SEGMENT_LEN].truncate(last % SEGMENT_LEN);
+}
+
+/// Takes the first of the segments out, which hold so many entries, where it is full. The others hold
+/// the number that is given back beside it.
+pub fn take_first<R: Relation>(
+    segments: &mut Vec<Vec<Entry<R>>>,
+    held: usize,
+) -> (Vec<Entry<R>>, usize)
+    requires filled { AreFilled segments.old.items held }
+    requires full { 1024 ≤ held }
+    ensures filled { AreFilled segments.new.items result.1 }
+    ensures first { result.0 ≡ slice_index_or segments.old.items 0 result.0 }
+    ensures count { result.1 + 1024 ≡ held }
+    ensures entries { map item_of result.0.items ++ entries_in segments.new.items
+        ≡ entries_in segments.old.items }
+    ensures len { length result.0.items ≡ 1024 }
+    ensures places { vec_len segments.new + 1 ≡ vec_len segments.old }
+{
+    (segments.remove(0), held - SEGMENT_LEN)
 }
 
 /// Puts one more empty segment last.

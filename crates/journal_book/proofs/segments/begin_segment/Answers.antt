@@ -1,5 +1,3 @@
-use Rattle.std.proofs.Common.{[], ◌∷◌, ◌++◌, ◌≡◌, ap, subst, sym, ◌∙◌}
-use Rattle.journal_book.specs.Segments.{AreFilled, entries_in}
 use Rattle.journal_book.proofs.Filled.{begun-in, same-in}
 use Rattle.journal_book.proofs.segments.begin_segment.Goals as goal
 

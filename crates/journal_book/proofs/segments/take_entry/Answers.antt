@@ -1,4 +1,4 @@
-use Rattle.std.proofs.Common.{ℕ, arith, subst, ◌+◌, ◌-◌}
+use Rattle.std.proofs.Common.{arith, subst, ◌+◌, ◌-◌}
 use Rattle.journal_book.specs.Segments.{AreFilled}
 use Rattle.journal_book.proofs.Filled.{last-below, next-place, place-below, taken-from}
 use Rattle.journal_book.proofs.segments.take_entry.Goals as goal

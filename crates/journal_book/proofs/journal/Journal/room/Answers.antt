@@ -5,6 +5,6 @@ use Rattle.journal_book.proofs.journal.Journal.room.Goals as goal
 pub overflow_sub-result : goal.overflow_sub-result
 overflow_sub-result g c =
     let segments = c.self.inside.segments in
-    let places : c.self.inside.len ≤ 1024 * length segments.items =
-    places-in segments.items c.self.inside.len c.self.invariant.0 in
+    let places : c.self.inside.held ≤ 1024 * length segments.items =
+    places-in segments.items c.self.inside.held c.self.invariant.0 in
     omega (arith, c.len.ensures, segments.ok.0)
