@@ -1,8 +1,7 @@
 -- What each entry takes of a journal's room.
-use Rattle.std.proofs.Common.{◌≡◌, ℕ, ◌+◌, ◌*◌, ◌≤◌, cond, eqb, List, [], ◌∷◌, ◌++◌, length, Option, Some, None, refl, ap, ◌∙◌, arith, length-append}
+use Rattle.std.proofs.Common.{◌≡◌, ℕ, ◌+◌, ◌*◌, ◌≤◌, cond, eqb, List, [], ◌∷◌, ◌++◌, drop, length, Option, Some, None, refl, ap, ◌∙◌, arith, length-append}
 use Rattle.std.specs.Prelude.{count_by, sum_by}
 use Rattle.std.proofs.lemmas.List.{length-map}
-use Rattle.std.proofs.lemmas.List.Sums.{sum_by_push}
 use Rattle.uri_map.specs.declared.peer.Peer.{Peer}
 use Rattle.journal_book.specs.Entries.{Grounds, grounds_size, Written, entry_size}
 use Rattle.message_layer.specs.Hearing.{replies}
@@ -16,6 +15,7 @@ use Rattle.exchange_model.specs.Steps.{answers, sends_first, sends_copy}
 use Rattle.exchange_model.specs.Resting.{HasConn}
 use Rattle.exchange_model.specs.Calls.{next_by, next, given_back}
 use Rattle.exchange_model.specs.Room.{has_asked, asks_waiting, seals_left, entries_taken, bytes_taken}
+use Rattle.exchange_model.proofs.Behind.{push-behind}
 use Rattle.exchange_model.proofs.Tidy.{Tidy, short-link, tidy-with, short-first, short-copy}
 use Rattle.exchange_model.proofs.Waiting.{answers-fewer}
 
@@ -56,37 +56,39 @@ at-most n b m c S S1 le lt x =
 
 -- an entry, after which so many connections are open, and so many of them wait
 pub counted : (n b : ℕ) (S S1 : State) (w : Written) → S1.entries ≡ S.entries ++ w ∷ []
-    → S1.sealed ≡ S.sealed → Tidy S1.links
+    → S1.given ≡ S.given → S1.sealed ≡ S.sealed → Tidy S1.links
     → length S1.conns + asks_waiting S1 + 1 ≤ length S.conns + asks_waiting S + n
     → 64 * length S1.conns + 90000 * asks_waiting S1 + entry_size w ≤ 64 * length
     S.conns + 90000 * asks_waiting S + b
     → Adds n b S S1
-counted n b S S1 w is same tidy more_entries more_bytes =
+counted n b S S1 w is given same tidy more_entries more_bytes =
     let longer = ap length is ∙ length-append S.entries (w ∷ []) in
-    let larger = ap (sum_by entry_size) is ∙ sum_by_push entry_size S.entries w in
+    let behind = ap (λ (k : ℕ). sum_by entry_size (drop k S1.entries)) given
+    ∙ ap (λ (ws : List Written). sum_by entry_size (drop S.given ws)) is in
+    let larger = push-behind entry_size S.given S.entries w in
     let seal = ap seals_left same in
     record {
       sealed = same;
-      entries = omega (arith, longer, seal, more_entries);
-      bytes = omega (arith, larger, seal, more_bytes);
+      entries = omega (arith, longer, given, seal, more_entries);
+      bytes = omega (arith, behind, larger, seal, more_bytes);
       tidy = tidy;
     }
 
 -- one that is nothing to the connections
 pub still-adds : (b : ℕ) (S S1 : State) (w : Written) → S1.entries ≡ S.entries ++ w ∷ []
-    → S1.sealed ≡ S.sealed → S1.conns ≡ S.conns → Tidy S1.links → entry_size w ≤ b → Adds 1 b S S1
-still-adds b S S1 w is same conns tidy size =
+    → S1.given ≡ S.given → S1.sealed ≡ S.sealed → S1.conns ≡ S.conns → Tidy S1.links → entry_size w ≤ b → Adds 1 b S S1
+still-adds b S S1 w is given same conns tidy size =
     let all = ap (λ (cs : List Conn). length cs) conns in
     let waiting = ap (count_by has_asked) conns in
-    counted 1 b S S1 w is same tidy (omega (arith, all, waiting))
+    counted 1 b S S1 w is given same tidy (omega (arith, all, waiting))
     (omega (arith, all, waiting, size))
 
 -- an ACK or RST
 pub given-adds : (t : ℕ) (p : Peer) (mid : ℕ) (r : Reply) (S : State) → Tidy S.links
     → Adds 1 68 S (given_back t p (replies mid r) S)
 given-adds t p mid R.Nothing S h = stays 1 68 S h
-given-adds t p mid R.Ack S h = still-adds 68 S _ _ refl refl refl h (omega arith)
-given-adds t p mid R.Rst S h = still-adds 68 S _ _ refl refl refl h (omega arith)
+given-adds t p mid R.Ack S h = still-adds 68 S _ _ refl refl refl refl h (omega arith)
+given-adds t p mid R.Rst S h = still-adds 68 S _ _ refl refl refl refl h (omega arith)
 
 -- a message, or a copy
 pub next-adds : (t : ℕ) (p : Peer) (S : State) → Tidy S.links → Adds 1 2088 S (next t p S)
@@ -99,7 +101,7 @@ next-adds t p S h = by (link_of S.links p).outstanding (link_of S.links p).waiti
     by None (w ∷ ws) is =
         let short = short-first t (link_of S.links p) w ws (short-link S.links p h.short) is in
         let size = short.0 in
-        still-adds 2088 S (sends_first t p w ws S) _ refl refl refl
+        still-adds 2088 S (sends_first t p w ws S) _ refl refl refl refl
         (tidy-with p _ S.links h short.1) (omega (arith, size))
 
 pub copy-adds : (t : ℕ) (p : Peer) (o : Outstanding) (S : State) → Tidy S.links
@@ -107,7 +109,7 @@ pub copy-adds : (t : ℕ) (p : Peer) (o : Outstanding) (S : State) → Tidy S.li
 copy-adds t p o S h is =
     let short = short-copy t (link_of S.links p) o (short-link S.links p h.short) is in
     let size = short.0 in
-    still-adds 2088 S (sends_copy t p o S) _ refl refl refl (tidy-with p _ S.links h short.1)
+    still-adds 2088 S (sends_copy t p o S) _ refl refl refl refl (tidy-with p _ S.links h short.1)
     (omega (arith, size))
 
 -- An answer was held free.
@@ -117,5 +119,5 @@ answers-adds t c k g S h has small =
     let all = length-map S.conns
     (λ (x : Conn). cond (eqb x.id c) (record x { pending = None }) x) in
     let fewer = answers-fewer c k S.conns has in
-    counted 0 0 S (answers t c k g S) _ refl refl h (omega (arith, all, fewer))
+    counted 0 0 S (answers t c k g S) _ refl refl refl h (omega (arith, all, fewer))
     (omega (arith, all, fewer, small))

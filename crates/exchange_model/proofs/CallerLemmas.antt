@@ -4,11 +4,14 @@ pub use Rattle.exchange_model.proofs.ConnsTell.{conns-tell}
 pub use Rattle.exchange_model.proofs.Counting.{count-cons, one}
 pub use Rattle.exchange_model.proofs.Dropped.{dropped-stays, gone-tokens}
 pub use Rattle.exchange_model.proofs.Due.{any-came, next-due}
-pub use Rattle.exchange_model.proofs.ToldAdds.{AreWaiting, for-served, kept-served, late-served, Served, still-waits}
+pub use Rattle.exchange_model.proofs.ToldAdds.{AreWaiting, few-waiting, for-served, kept-served, late-served, Served, still-waits}
 pub use Rattle.exchange_model.proofs.Entered.{entered-both, entries-more, sent-both}
 pub use Rattle.exchange_model.proofs.Grown.{asks-add, asks-answer, conns-both, hears-add, hears-answer, opens-add, opens-alone, ticks-add, ticks-answer}
 pub use Rattle.exchange_model.proofs.Heeded.{garbled-enters, message-enters, given-conns, next-conns}
 pub use Rattle.exchange_model.proofs.Heeding.{is-bytes}
+pub use Rattle.exchange_model.proofs.Here.{asks-here, gives-here, hears-here, opens-here, shuts-here, ticks-here}
+pub use Rattle.exchange_model.proofs.Giving.{gives-keeps}
+pub use Rattle.exchange_model.proofs.Behind.{more-behind, next-behind, some-behind}
 pub use Rattle.exchange_model.proofs.Held.{held-before}
 pub use Rattle.exchange_model.proofs.InRoom.{asks-in-room, fits-parts, hears-in-room, opens-in-room, shuts-in-room, start-in-room, ticks-in-room, ticks-promptly, within-limits}
 pub use Rattle.exchange_model.proofs.Known.{readers-known, readers-rise}

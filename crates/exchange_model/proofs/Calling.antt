@@ -49,7 +49,7 @@ pub opens-adds : (t : ℕ) (S : State) → Tidy S.links → Adds 2 128 S (opens 
 opens-adds t S h =
     let all = length-append S.conns (record { id = S.opened; pending = None } ∷ []) in
     let none = opens-none S.opened S.conns in
-    counted 2 128 S (opens t S) _ refl refl h (omega (arith, all, none)) (omega (arith, all, none))
+    counted 2 128 S (opens t S) _ refl refl refl h (omega (arith, all, none)) (omega (arith, all, none))
 
 -- An ask, its message and its answer.
 
@@ -61,23 +61,23 @@ has-asked c n p (x ∷ xs) (inl h) = inl
     (elim (eqb_tells x.id c) [ inl w ↦ rw (w.0) (h.0, refl) | inr w ↦ absurd (w.1 h.0) ])
 
 asks-counts : (l : List Noted) (t c : ℕ) (a : Ask) (S S1 : State) → Reads l S
-    → S1.entries ≡ (asks t c a S).entries → S1.sealed ≡ S.sealed → S1.conns ≡ (asks t c a S).conns
+    → S1.entries ≡ (asks t c a S).entries → S1.given ≡ S.given → S1.sealed ≡ S.sealed → S1.conns ≡ (asks t c a S).conns
     → Tidy S1.links
     → Adds 2 (90064 + came_size a.came) S S1
-asks-counts l t c a S S1 r is same conns tidy =
+asks-counts l t c a S S1 r is given same conns tidy =
     let all = ap (λ (cs : List Conn). length cs) conns ∙ length-map S.conns
     (pend c (Some (length S.entries))) in
     let waiting = ap (count_by has_asked) conns in
     let more = asks-more c (length S.entries) S.conns in
     let once = id-once l S c r in
-    counted 2 (90064 + came_size a.came) S S1 _ is same tidy
+    counted 2 (90064 + came_size a.came) S S1 _ is given same tidy
     (omega (arith, all, waiting, more, once)) (omega (arith, all, waiting, more, once))
 
 refused-adds : (l : List Noted) (t c : ℕ) (a : Ask) (cause : Cause) (S : State) → Reads l S
     → Tidy S.links → HasConn S.conns c None
     → Adds 2 (90064 + came_size a.came) S (refused t c a cause S)
 refused-adds l t c a cause S r h has =
-    let one = asks-counts l t c a S (asks t c a S) r refl refl refl h in
+    let one = asks-counts l t c a S (asks t c a S) r refl refl refl refl h in
     let two = answers-adds t c (length S.entries) (Fault cause (length S.entries)) (asks t c a S) h
     (has-asked c (length S.entries) None S.conns has) (omega arith) in
     at-most 2 (90064 + came_size a.came + 0) 2 (90064 + came_size a.came) S (refused t c a cause S)
@@ -92,7 +92,7 @@ begun-adds l t c a q n S r h short =
     let tidy = tidy-with q.peer _ S.links h
     (short-queued t (unwatched q S) n.token n.text n.word
     (record { outstanding = (short-link S.links q.peer h.short).outstanding; waiting = (short-link S.links q.peer h.short).waiting }) short) in
-    let one = asks-counts l t c a S S1 r refl refl refl tidy in
+    let one = asks-counts l t c a S S1 r refl refl refl refl tidy in
     let two = next-adds t q.peer S1 tidy in
     at-most 3 (90064 + came_size a.came + 2088) 3 (92152 + came_size a.came) S (next t q.peer S1)
     (omega arith) (omega arith)
@@ -114,7 +114,7 @@ asked-adds l t c a n S r h has short = by a.sense
         joining : (e : Exchange) → Adds 3 (92152 + came_size a.came) S (joins t c a e.opening S)
         joining e = at-most 2 (90064 + came_size a.came) 3 (92152 + came_size a.came) S
             (joins t c a e.opening S) (omega arith) (omega arith)
-            (asks-counts l t c a S (joins t c a e.opening S) r refl refl refl h)
+            (asks-counts l t c a S (joins t c a e.opening S) r refl refl refl refl h)
 
         place : (b : Bool)
             → Adds 3 (92152 + came_size a.came) S
@@ -134,7 +134,7 @@ asked-adds l t c a n S r h has short = by a.sense
             at-most 2 (90064 + came_size a.came + 0) 3 (92152 + came_size a.came) S (serves t c a q s S)
             (omega arith) (omega arith)
             (both-add 2 (90064 + came_size a.came) 0 0 S S1 (serves t c a q s S)
-            (asks-counts l t c a S S1 r refl refl refl h)
+            (asks-counts l t c a S S1 r refl refl refl refl h)
             (answers-adds t c (length S.entries) (Kept s.list) S1 h
             (has-asked c (length S.entries) None S.conns has) (omega (arith, few))))
 
@@ -146,7 +146,7 @@ asked-adds l t c a n S r h has short = by a.sense
 
 nothing-adds : (t : ℕ) (p : Peer) (d : List ℕ) (S : State) → Tidy S.links → length d ≤ 2048
     → Adds 1 2112 S (hears_nothing t p d S)
-nothing-adds t p d S h short = still-adds 2112 S (hears_nothing t p d S) _ refl refl refl h
+nothing-adds t p d S h short = still-adds 2112 S (hears_nothing t p d S) _ refl refl refl refl h
     (omega (arith, short))
 
 answered-adds : (t : ℕ) (p : Peer) (d : List ℕ) (mid : ℕ) (r : Reply) (S : State) → Tidy S.links
@@ -178,7 +178,7 @@ new-adds t p d m v n S h served short little brief =
     let tidy = tidy-with p _ S.links h
     (short-more t x n _ little (short-heard t m.mid m.token (is_one_of (gone_by m S.entries x S.watches)) (verdict_of t (link_of S.links p) m) (link_of S.links p)
     (short-link S.links p h.short))) in
-    let one = still-adds 2112 S S1 _ refl refl refl tidy (omega (arith, short)) in
+    let one = still-adds 2112 S S1 _ refl refl refl refl tidy (omega (arith, short)) in
     let S2 = given_back t p (replies m.mid v.reply) S1 in
     let two = given-adds t p m.mid v.reply S1 tidy in
     let S3 = next t p S2 in

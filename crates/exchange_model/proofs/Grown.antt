@@ -48,6 +48,7 @@ record Such (t : ℕ) (P : Deed → Type 0) (S S1 : State) : Type 0 where
   entries : S1.entries ≡ S.entries ++ more
   are : AllByRecursion (λ (w : Written). (w.moment ≡ t) × P w.deed) more
   conns : S1.conns ≡ conns_with S.conns (length S.entries) more
+  memory : (S1.given ≡ S.given) × (S1.kept ≡ S.kept)
 
 all-both-lists : (Q : Written → Type 0) (xs ys : List Written)
     → AllByRecursion Q xs → AllByRecursion Q ys → AllByRecursion Q (xs ++ ys)
@@ -56,15 +57,17 @@ all-both-lists Q (x ∷ xs) ys a b = (a.0, all-both-lists Q xs ys a.1 b)
 
 module _ (t : ℕ) (P : Deed → Type 0) where
   none : (S : State) → Such t P S S
-  none S = record { more = []; entries = sym (append-nil S.entries); are = tt; conns = refl }
+  none S = record { more = []; entries = sym (append-nil S.entries); are = tt; conns = refl; memory = (refl, refl) }
 
   one : (d : Deed) (S S1 : State) → S1.entries ≡ S.entries ++ at_moment t d ∷ []
-      → S1.conns ≡ conns_after S.conns (length S.entries) d → P d → Such t P S S1
-  one d S S1 entries conns p = record {
+      → S1.conns ≡ conns_after S.conns (length S.entries) d → (S1.given ≡ S.given) × (S1.kept ≡ S.kept) → P d
+      → Such t P S S1
+  one d S S1 entries conns memory p = record {
     more = at_moment t d ∷ [];
     entries = entries;
     are = ((refl, p), tt);
     conns = conns;
+    memory = memory;
   }
 
   both : (S S1 S2 : State) → Such t P S S1 → Such t P S1 S2 → Such t P S S2
@@ -80,6 +83,7 @@ module _ (t : ℕ) (P : Deed → Type 0) where
             b.conns ∙ ap (λ (cs : List Conn). conns_with cs (length S1.entries) b.more) a.conns
             ∙ ap (λ (k : ℕ). conns_with (conns_with S.conns (length S.entries) a.more) k b.more) long
             ∙ sym (conns-both S.conns (length S.entries) a.more b.more);
+        memory = (b.memory.0 ∙ a.memory.0, b.memory.1 ∙ a.memory.1);
       }
 
   either : (b : Bool) (S S1 S2 : State) → Such t P S S1 → Such t P S S2
@@ -94,7 +98,7 @@ module _ (t : ℕ) (P : Deed → Type 0) where
       both S (f S x) (fold f (f S x) xs) (step S x) (all-fold f step xs (f S x))
 
   in-room : (S S1 : State) → P Seals → Such t P S S1 → Such t P S (in_room t S1 S)
-  in-room S S1 p x = either (fits S1) S S1 (seals t S) x (one Seals S (seals t S) refl refl p)
+  in-room S S1 p x = either (fits S1) S S1 (seals t S) x (one Seals S (seals t S) refl refl (refl, refl) p)
 
   unsealed : (S S1 : State) → P Seals → Such t P S S1 → Such t P S (if_unsealed t S1 S)
   unsealed S S1 p x = either S.sealed S S (in_room t S1 S) (none S) (in-room S S1 p x)
@@ -106,12 +110,12 @@ module _ (t : ℕ) (P : Deed → Type 0) where
         by : (v : Option Outstanding) (ws : List Waiting) → Such t P S (next_by t p v ws S)
         by None [] = none S
         by (Some o) ws = none S
-        by None (w ∷ ws) = one (Sends p _ _) S (sends_first t p w ws S) refl refl (sends p _ _)
+        by None (w ∷ ws) = one (Sends p _ _) S (sends_first t p w ws S) refl refl (refl, refl) (sends p _ _)
 
     given-such : (p : Peer) (bs : List (List ℕ)) (S : State) → Such t P S (given_back t p bs S)
     given-such p [] S = none S
     given-such p (b ∷ bs) S =
-        both S _ (given_back t p (b ∷ bs) S) (one (Sends p b None) S _ refl refl (sends p b None))
+        both S _ (given_back t p (b ∷ bs) S) (one (Sends p b None) S _ refl refl (refl, refl) (sends p b None))
         (given-such p bs _)
 
     moves-such : (S : State) (p : Peer) → Such t P S (moves t S p)
@@ -120,11 +124,11 @@ module _ (t : ℕ) (P : Deed → Type 0) where
         by : (v : Option Outstanding) → Such t P S (moves_by t p v S)
         by None = next-such p S
         by (Some o) = either (is_due t (Some o)) S (sends_copy t p o S) S
-            (one (Sends p _ None) S (sends_copy t p o S) refl refl (sends p _ None)) (none S)
+            (one (Sends p _ None) S (sends_copy t p o S) refl refl (refl, refl) (sends p _ None)) (none S)
 
   module _ (answer : (c k : ℕ) (g : Grounds) → P (Answers c k g)) where
     all-told-such : (xs : List Telling) (S : State) → Such t P S (fold (tells t) S xs)
-    all-told-such xs S = all-fold (tells t) (λ S x. one (answer_of x) S (tells t S x) refl refl (answer x.reader.conn x.reader.ask x.grounds)) xs S
+    all-told-such xs S = all-fold (tells t) (λ S x. one (answer_of x) S (tells t S x) refl refl (refl, refl) (answer x.reader.conn x.reader.ask x.grounds)) xs S
 
 -- An ask.
 
@@ -141,15 +145,15 @@ asked-such t c a n S = by (IsOfAsk (length S.entries) c a) (refl, refl) (λ g. (
         turned_away : (cause : Cause) → Such t P S (refused t c a cause S)
         turned_away cause =
             both t P S (asks t c a S) (refused t c a cause S)
-            (one t P (Asks c a) S (asks t c a S) refl refl ask)
+            (one t P (Asks c a) S (asks t c a S) refl refl (refl, refl) ask)
             (one t P (Answers c (length S.entries) (Fault cause (length S.entries))) (asks t c a S)
-            (refused t c a cause S) refl refl (answer (Fault cause (length S.entries))))
+            (refused t c a cause S) refl refl (refl, refl) (answer (Fault cause (length S.entries))))
 
         begun : (q : CoapRequest)
             → Such t P S (next t q.peer (begins t c a q n.token n.text n.word S))
         begun q =
             let S1 = begins t c a q n.token n.text n.word S in
-            both t P S S1 (next t q.peer S1) (one t P (Asks c a) S S1 refl refl ask)
+            both t P S S1 (next t q.peer S1) (one t P (Asks c a) S S1 refl refl (refl, refl) ask)
             (next-such t P sends q.peer S1)
 
         sense : (s : Sense) → Such t P S (asked_by s t c a n S)
@@ -157,7 +161,7 @@ asked-such t c a n S = by (IsOfAsk (length S.entries) c a) (refl, refl) (λ g. (
         sense (Requests q) = for (served_in q t S)
           where
             with : (v : Option Exchange) → Such t P S (asked_with v t c a q n S)
-            with (Some e) = one t P (Asks c a) S (joins t c a e.opening S) refl refl ask
+            with (Some e) = one t P (Asks c a) S (joins t c a e.opening S) refl refl (refl, refl) ask
             with None = either t P (has_place t q.peer S)
                 S (next t q.peer (begins t c a q n.token n.text n.word S)) (refused t c a C.Busy S)
                 (begun q) (turned_away C.Busy)
@@ -165,9 +169,9 @@ asked-such t c a n S = by (IsOfAsk (length S.entries) c a) (refl, refl) (λ g. (
             for : (v : Option Stored) → Such t P S (asked_for v t c a q n S)
             for (Some s) =
                 both t P S (recalls t c a (asked_key q) S) (serves t c a q s S)
-                (one t P (Asks c a) S (recalls t c a (asked_key q) S) refl refl ask)
+                (one t P (Asks c a) S (recalls t c a (asked_key q) S) refl refl (refl, refl) ask)
                 (one t P (Answers c (length S.entries) (Kept s.list)) (recalls t c a (asked_key q) S)
-                (serves t c a q s S) refl refl (answer (Kept s.list)))
+                (serves t c a q s S) refl refl (refl, refl) (answer (Kept s.list)))
             for None = with (joined q S)
 
 asks-such : (t c : ℕ) (a : Ask) (n : Numbers) (S : State)
@@ -197,7 +201,7 @@ heard-such t p d n S =
     nothing : (bs : List (List ℕ)) → Such t Inner S (given_back t p bs (hears_nothing t p d S))
     nothing bs =
         both t Inner S (hears_nothing t p d S) (given_back t p bs (hears_nothing t p d S))
-        (one t Inner (Hears p d) S (hears_nothing t p d S) refl refl (refl, refl))
+        (one t Inner (Hears p d) S (hears_nothing t p d S) refl refl (refl, refl) (refl, refl))
         (given-such t Inner sends-inner p bs (hears_nothing t p d S))
 
     new : (m : Content) (v : Verdict) → Such t Inner S (takes_new t p d m v n S)
@@ -207,7 +211,7 @@ heard-such t p d n S =
         let S3 = next t p S2 in
         both t Inner S S3 (takes_new t p d m v n S)
         (both t Inner S S2 S3
-        (both t Inner S S1 S2 (one t Inner (Hears p d) S S1 refl refl (refl, refl))
+        (both t Inner S S1 S2 (one t Inner (Hears p d) S S1 refl refl (refl, refl) (refl, refl))
         (given-such t Inner sends-inner p (replies m.mid v.reply) S1))
         (next-such t Inner sends-inner p S2))
         (all-told-such t Inner answer-inner (told_for (length S.entries) (matter_of t p m v S) S.readers) S3)
@@ -243,7 +247,7 @@ ticked-such t S =
     let S2 = move_all t S1 in
     either t Inner (something_due t S) S (fold (tells t) S2 (told_late (timed_out t S) S.readers)) S
     (both t Inner S S2 (fold (tells t) S2 (told_late (timed_out t S) S.readers))
-    (both t Inner S S1 S2 (one t Inner Passes S S1 refl refl (refl, refl))
+    (both t Inner S S1 S2 (one t Inner Passes S S1 refl refl (refl, refl) (refl, refl))
     (all-fold t Inner (moves t) (moves-such t Inner sends-inner) (map peer_of S1.links) S1))
     (all-told-such t Inner answer-inner (told_late (timed_out t S) S.readers) S2)) (none t Inner S)
 
@@ -252,7 +256,7 @@ ticks-such t S =
     either t Inner S.sealed S (late t S) _ (late-such t S)
     (either t Inner (fits (ticked t S)) S (ticked t S) (late t (seals t S)) (ticked-such t S)
     (both t Inner S (seals t S) (late t (seals t S))
-    (one t Inner Seals S (seals t S) refl refl (refl, refl)) (late-such t (seals t S))))
+    (one t Inner Seals S (seals t S) refl refl (refl, refl) (refl, refl)) (late-such t (seals t S))))
 
 -- What is added is the same, however it is said.
 
@@ -264,6 +268,8 @@ adds-such t P S S1 own a = record {
       (λ w h. h.0) a.more a.are;
   own = all-more (λ (w : Written). (w.moment ≡ t) × P w.deed) (λ (w : Written). Own w.deed)
       (λ w h. own w.deed h.1) a.more a.are;
+  given = a.memory.0;
+  kept = a.memory.1;
   conns = a.conns;
 }
 
@@ -287,13 +293,13 @@ of-ask-own k c a d h = refl
 
 pub opens-add : OpensAdd
 opens-add t S = adds-such t Own S (opens_in_room t S) own-itself
-    (unsealed t Own S (opens t S) refl (one t Own (Opens S.opened) S (opens t S) refl refl refl))
+    (unsealed t Own S (opens t S) refl (one t Own (Opens S.opened) S (opens t S) refl refl (refl, refl) refl))
 
 pub shuts-add : ShutsAdd
-shuts-add t c S = adds-such t Own S (shuts t c S) own-itself (one t Own (Shuts c) S (shuts t c S) refl refl refl)
+shuts-add t c S = adds-such t Own S (shuts t c S) own-itself (one t Own (Shuts c) S (shuts t c S) refl refl (refl, refl) refl)
 
 pub seals-add : SealsAdd
-seals-add t S = adds-such t Own S (seals t S) own-itself (one t Own Seals S (seals t S) refl refl refl)
+seals-add t S = adds-such t Own S (seals t S) own-itself (one t Own Seals S (seals t S) refl refl (refl, refl) refl)
 
 pub asks-add : AsksAdd
 asks-add t c a n S = adds-such t _ S (asks_in_room t c a n S) (of-ask-own (length S.entries) c a) (asks-such t c a n S)

@@ -4,7 +4,6 @@ use Rattle.std.specs.Prelude.{nat_le, count_by, sum_by, map, filter}
 use Rattle.std.specs.List.{AllByRecursion}
 use Rattle.std.proofs.Math.Nat.{le-max_left, le-max_right}
 use Rattle.std.proofs.lemmas.Bool.{false≢true, and_parts}
-use Rattle.std.proofs.lemmas.List.Sums.{sum_by_push}
 use Rattle.std.proofs.lemmas.Bool.Decides.{leb_tells}
 use Rattle.limits.specs.declared.TheConstants.{MAX_TRANSMIT_WAIT}
 use Rattle.ask_model.specs.Sizes.{came_size}
@@ -21,13 +20,16 @@ use Rattle.exchange_model.specs.Steps.{opens, shuts, seals}
 use Rattle.exchange_model.specs.Hearing.{is_past}
 use Rattle.exchange_model.specs.Calls.{peer_of, asked, heard, ticked}
 use Rattle.exchange_model.specs.Keeping.{Kept, MayStep}
+use Rattle.exchange_model.specs.Memory.{Here}
 use Rattle.exchange_model.specs.Room.{has_asked, seals_left, entries_taken, bytes_taken, fits, KeptInRoom, WithinLimits}
 use Rattle.exchange_model.specs.Sealing.{in_room, if_unsealed, late, StartInRoom, OpensInRoom, ShutsInRoom, AsksInRoom, HearsInRoom, TicksInRoom, IsPrompt, ArePrompt, TicksPromptly}
 use Rattle.exchange_model.proofs.Adding.{Adds, counted}
+use Rattle.exchange_model.proofs.Behind.{push-behind, some-behind}
 use Rattle.exchange_model.proofs.ToldAdds.{late-adds, kept-served}
 use Rattle.exchange_model.proofs.Calling.{opens-adds, asked-adds, heard-adds}
 use Rattle.exchange_model.proofs.Counting.{count-filter}
 use Rattle.exchange_model.proofs.Heeding.{hears-keeps, heard-brief}
+use Rattle.exchange_model.proofs.Here.{asked-here, heard-here, late-here, opened-here, sealed-here, shuts-here, starts-here, ticked-here}
 use Rattle.exchange_model.proofs.Late.{late-kept, late-prompt}
 use Rattle.exchange_model.proofs.Started.{start-keeps}
 use Rattle.exchange_model.proofs.Stepping.{opens-keeps, shuts-keeps, seals-keeps, asks-keeps}
@@ -85,12 +87,13 @@ full l S S1 n b r unsealed a e few small =
     let k = a.bytes in
     let long = ap length r.entries_are in
     let large = ap (sum_by entry_size) r.entries_are in
+    let held = some-behind entry_size S.given S.entries in
     let conns = conns-count l S r in
     let asked = asks-count l S r in
     let seal = ap seals_left unsealed in
     elim (fits-not S1 e) [
       | inl w ↦ inl (let h = w in omega (arith, h, g, long, conns, asked, seal, few))
-      | inr w ↦ inr (let h = w in omega (arith, h, k, large, conns, asked, seal, small))
+      | inr w ↦ inr (let h = w in omega (arith, h, k, large, held, conns, asked, seal, small))
     ]
 
 abbrev may-step : (t : ℕ) (S : State) (k : KeptInRoom S) → S.sealed ≡ false → S.moment ≤ t
@@ -105,13 +108,14 @@ sealed-fits t S unsealed h =
     let seal = ap seals_left unsealed in
     let w : Written = record { moment = t; deed = Seals } in
     let longer = length-append S.entries (w ∷ []) in
-    let larger = sum_by_push entry_size S.entries w in
+    let larger = push-behind entry_size S.given S.entries w in
     fits-from (seals t S) (omega (arith, e, seal, longer)) (omega (arith, f, seal, larger))
 
 seals-in-room : (t : ℕ) (S : State) (k : KeptInRoom S) → S.sealed ≡ false → S.moment ≤ t
     → H.MaySeal k.kept.reading → KeptInRoom (seals t S)
 seals-in-room t S k unsealed later may = record {
   kept = seals-keeps t S (may-step t S k unsealed later) may;
+  here = sealed-here t S k.here;
   fit = sealed-fits t S unsealed k.fit;
   short = k.short;
   apart = k.apart;
@@ -119,13 +123,13 @@ seals-in-room t S k unsealed later may = record {
 
 -- A step that is kept, and adds no more than one may.
 stepped : (t : ℕ) (S S1 : State) (n b : ℕ) (k : KeptInRoom S) → S.sealed ≡ false → S.moment ≤ t
-    → Kept S1 → Adds n b S S1
+    → Kept S1 → Here S1 → Adds n b S S1
     → n ≤ H.step_entries k.kept.reading → b ≤ H.step_bytes k.kept.reading
     → KeptInRoom (in_room t S1 S)
-stepped t S S1 n b k unsealed later kept a few small = by (fits S1) refl
+stepped t S S1 n b k unsealed later kept here a few small = by (fits S1) refl
   where
     by : (v : Bool) → fits S1 ≡ v → KeptInRoom (cond v S1 (seals t S))
-    by true e = record { kept = kept; fit = e; short = a.tidy.short; apart = a.tidy.apart }
+    by true e = record { kept = kept; here = here; fit = e; short = a.tidy.short; apart = a.tidy.apart }
     by false e = seals-in-room t S k unsealed later
         (full k.kept.reading S S1 n b k.kept.rests.reads unsealed a e few small)
 
@@ -148,7 +152,7 @@ an-ask l = le-max_left 2189304 (64 + H.sending_size * H.outstanding_count l)
 -- the calls
 
 pub start-in-room : StartInRoom
-start-in-room = record { kept = start-keeps; fit = refl; short = tt; apart = tt }
+start-in-room = record { kept = start-keeps; here = starts-here; fit = refl; short = tt; apart = tt }
 
 pub within-limits : WithinLimits
 within-limits S k =
@@ -164,16 +168,18 @@ opens-in-room t S k later = guarded t S (opens t S) k
     let few = three l in
     let small = an-ask l in
     stepped t S (opens t S) 2 128 k unsealed later (opens-keeps t S (may-step t S k unsealed later))
+    (opened-here t S k.here)
     (opens-adds t S (tidy-of S k)) (omega (arith, few)) (omega (arith, small)))
 
 pub shuts-in-room : ShutsInRoom
 shuts-in-room t c p S k later has =
     let fewer = shuts-fewer c p S.conns has in
     let none = count-filter has_asked (λ (x : Conn). not (eqb x.id c)) S.conns in
-    let adds = counted 0 0 S (shuts t c S) _ refl refl (tidy-of S k) (omega (arith, fewer, none))
+    let adds = counted 0 0 S (shuts t c S) _ refl refl refl (tidy-of S k) (omega (arith, fewer, none))
     (omega (arith, fewer, none)) in
     record {
       kept = shuts-keeps t c p S k.kept later has;
+      here = (shuts-here t c S k.here).here;
       fit = adds-fit S (shuts t c S) adds k.fit;
       short = k.short;
       apart = k.apart;
@@ -188,6 +194,7 @@ asks-in-room t c a n S k later has proper numbered sized = guarded t S (asked t 
     let size = sized.request in
     stepped t S (asked t c a n S) 3 (92152 + came_size a.came) k unsealed later
     (asks-keeps t c a n S (may-step t S k unsealed later) has proper numbered)
+    (asked-here t c a n S k.here)
     (asked-adds l t c a n S k.kept.rests.reads (tidy-of S k) has sized.message) few
     (omega (arith, small, size)))
 
@@ -198,6 +205,7 @@ hears-in-room t p d n S k later bytes onward short = guarded t S (heard t p d n 
     let small = an-ask l in
     let may = may-step t S k unsealed later in
     stepped t S (heard t p d n S) 3 4268 k unsealed later (hears-keeps t p d n S may bytes onward)
+    (heard-here t p d n S k.here)
     (heard-adds t p d n S (tidy-of S k) (kept-served l S k.kept.rests.reads) short (heard-brief t p d S may))
     (three l) (omega (arith, small)))
 
@@ -210,6 +218,7 @@ late-in-room t S k sealed later =
     let adds = late-adds t (filter (is_past t) S.exchanges) S.readers S (tidy-of S k) served.waits served.apart in
     record {
       kept = late-kept t S k.kept sealed later;
+      here = late-here t S k.here;
       fit = adds-fit S (late t S) adds k.fit;
       short = adds.tidy.short;
       apart = adds.tidy.apart;
@@ -242,6 +251,7 @@ ticks-in-room t S k later = by S.sealed refl
         let adds = ticked-adds t _ S (tidy-of S k) (kept-served k.kept.reading S k.kept.rests.reads) k.kept.rests.links in
         record {
           kept = ticks-keeps t S (may-step t S k unsealed later);
+          here = ticked-here t S k.here;
           fit = e;
           short = adds.tidy.short;
           apart = adds.tidy.apart;

@@ -43,6 +43,9 @@ mod Settling
 mod Retiring
 mod Settled
 mod Hearing
+mod Here
+mod Named
+mod NamedMatters
 mod Heard
 mod Conns
 mod ConnsTell
@@ -89,6 +92,7 @@ mod Counting
 mod Waiting
 mod Tallies
 mod Tidy
+mod Behind
 mod Adding
 mod ToldAdds
 mod Calling
@@ -96,6 +100,7 @@ mod TickAdds
 mod Late
 mod Alone
 mod InRoom
+mod Giving
 mod Grown
 mod Numbered
 mod Held

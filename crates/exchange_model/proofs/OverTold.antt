@@ -22,7 +22,7 @@ use Rattle.history_links.specs.Steps.{ended_token, heard}
 use Rattle.exchange_model.specs.declared.kept.Exchange.{Exchange}
 use Rattle.exchange_model.specs.State.{State, link_of}
 use Rattle.exchange_model.specs.Steps.{reply_at}
-use Rattle.exchange_model.specs.Matters.{Nothing, Goes, Over, answered_in, has_next_place, matter_by, matter_of, stale_in}
+use Rattle.exchange_model.specs.Matters.{Nothing, Over, answered_in, has_next_place, matter_by, matter_of, stale_in}
 use Rattle.exchange_model.specs.Hearing.{Numbers, hears}
 use Rattle.exchange_model.specs.Calls.{repeats, goes_with}
 use Rattle.exchange_model.specs.Growing.{AreHeardAt, IsWorkOf, IsHeardAt, IsKeptIn}

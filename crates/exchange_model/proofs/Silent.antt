@@ -41,6 +41,8 @@ pub silent-reads : (l : List Noted) (t : ℕ) (d : Deed) (note : Note) (S : Stat
     → Follows l t d note → Reads (noted t d note ∷ l) (record {
       entries = (entered t d S).entries;
       sealed = sealed_by d S.sealed;
+      given = S.given;
+      kept = S.kept;
       moment = t;
       opened = opened_by d S.opened;
       issued = S.issued;

@@ -185,6 +185,8 @@ pub still-reads : (l : List Noted) (t : ℕ) (d : Deed) (note : Note) (S : State
     → Reads (noted t d note ∷ l) (record {
       entries = S.entries ++ record { moment = t; deed = d } ∷ [];
       sealed = sealed_by d S.sealed;
+      given = S.given;
+      kept = S.kept;
       moment = t;
       opened = opened_by d S.opened;
       issued = S.issued;

@@ -147,7 +147,7 @@ ticked-adds t tick S h served rests = by (something_due t S)
     by false = stays (1 + n) (64 + 2088 * n) S h
     by true =
         let tidy = tidy-passed t S S.links h in
-        let one = still-adds 64 S S1 _ refl refl refl tidy (omega arith) in
+        let one = still-adds 64 S S1 _ refl refl refl refl tidy (omega arith) in
         let two = all-move-adds t S.links (map peer_of S1.links) S1 tidy
         (passed-idle t tick S rests) in
         let S2 = move_all t S1 in

@@ -1,6 +1,6 @@
 -- What is told takes nothing of a journal's room but what was held free.
-use Rattle.std.proofs.Common.{◌≡◌, ◌≢◌, ℕ, ◌≤◌, Bool, true, false, cond, inl, inr, List, [], ◌∷◌, map, filter, Some, None, sym, subst, ◌∙◌, arith}
-use Rattle.std.specs.Prelude.{fold}
+use Rattle.std.proofs.Common.{◌≡◌, ◌≢◌, ℕ, ◌≤◌, Bool, true, false, cond, inl, inr, List, [], ◌∷◌, length, map, filter, Some, None, sym, subst, ◌∙◌, arith}
+use Rattle.std.specs.Prelude.{count_by, fold}
 use Rattle.std.specs.List.{AllByRecursion, Contains}
 use Rattle.std.proofs.lemmas.Bool.Decides.{eqb_tells}
 use Rattle.journal_book.specs.Entries.{grounds_size}
@@ -14,6 +14,7 @@ use Rattle.exchange_model.specs.State.{State, pend}
 use Rattle.exchange_model.specs.Matters.{Matter, Over}
 use Rattle.exchange_model.specs.Reads.{Reads}
 use Rattle.exchange_model.specs.Resting.{HasConn}
+use Rattle.exchange_model.specs.Room.{has_asked}
 use Rattle.exchange_model.specs.Calls.{Telling, grounds_for, tells, told_for, told_late}
 use Rattle.exchange_model.specs.Growing.{RiseByAsk}
 use Rattle.exchange_model.proofs.Adding.{Adds, stays, at-most, both-add, answers-adds}
@@ -22,6 +23,7 @@ use Rattle.exchange_model.proofs.Readers.{ReaderIn, readers-wait, readers-rise-i
 use Rattle.exchange_model.proofs.Telling.{readers_in, all-in}
 use Rattle.exchange_model.proofs.Tellings.{over_in, reads_it, readers-for, for-all, late_reads, readers-late, late-all}
 use Rattle.exchange_model.proofs.Tidy.{Tidy}
+use Rattle.exchange_model.proofs.Waiting.{answers-fewer}
 
 -- Who is told waits, each on a connection of its own.
 abbrev pub AreWaiting : List Reader → List Conn → Type 0
@@ -44,6 +46,16 @@ all-told-adds t (x ∷ xs) S h waits apart small =
     let left = still-waits x.reader.conn (readers_in xs) S.conns (all-more _ (λ (r : Reader). x.reader.conn ≢ r.conn) (λ r k. k.1) (readers_in xs) apart.0) waits.1 in
     at-most 0 0 0 0 S _ (omega arith) (omega arith)
     (both-add 0 0 0 0 S (tells t S x) _ one (all-told-adds t xs (tells t S x) one.tidy left apart.1 small.1))
+
+-- So they are no more than those that wait.
+pub few-waiting : (rs : List Reader) (cs : List Conn) → AreWaiting rs cs → Apart rs
+    → length rs ≤ count_by has_asked cs
+few-waiting [] cs waits apart = omega arith
+few-waiting (r ∷ rs) cs waits apart =
+    let left = still-waits r.conn rs cs (all-more _ (λ (x : Reader). r.conn ≢ x.conn) (λ x k. k.1) rs apart.0) waits.1 in
+    let rest = few-waiting rs (map (pend r.conn None) cs) left apart.1 in
+    let fewer = answers-fewer r.conn r.ask cs waits.0 in
+    omega (arith, rest, fewer)
 
 -- So are the readers of a state between two steps.
 pub record Served (S : State) : Type 0 where

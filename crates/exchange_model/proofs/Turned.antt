@@ -28,7 +28,7 @@ use Rattle.exchange_model.specs.State.{PeerLink, State, link_of}
 use Rattle.exchange_model.specs.Reads.{PairIn, Reads, held_of}
 use Rattle.exchange_model.specs.Resting.{LinkRests}
 use Rattle.exchange_model.specs.Keeping.{HasMids}
-use Rattle.exchange_model.specs.Rotating.{RotatesKeeps, Backed, carried_numbers, copied_entries, copies_with, has, place_of, taken, fault_of, has_copy, is_spent, keep_peer, turned, all_over, Unsealed, Connected, Exchanging, Spent}
+use Rattle.exchange_model.specs.Rotating.{RotatesKeeps, Backed, carried_numbers, copied_entries, copies_with, has, place_of, taken, fault_of, has_copy, is_spent, keep_peer, turned, all_over, Unsealed, Given, Connected, Exchanging, Spent}
 use Rattle.exchange_model.proofs.CopiedIdle.{conns-copied, readers-copied, has-copied, none-issued, none-open, opened-copied, opens-copied, sealed-copied, unwatched}
 use Rattle.exchange_model.proofs.Tables.{reads-from, reads-later}
 use Rattle.exchange_model.proofs.Shapes.{Sending, Hearing, Copy, Sent, Aimed, Heard, Bare, kept_as, still_kept, copy_as, copy_by, past_if, past_of, kept-copy, Fits, opening_as, first_as, firsts-as, if_such}
@@ -53,10 +53,11 @@ pub first-none : {X : Type 0} (b : Bool) (x : X) (rest : Option X) → cond b (S
 first-none true x rest e = cc
 first-none false x rest e = (refl, e)
 
-few-left : (t : ℕ) (S : State) → fault_of t S ≡ None → (S.issued ≤ MAX_NUMBERED) × (S.opened ≤ MAX_NUMBERED)
+pub few-left : (t : ℕ) (S : State) → fault_of t S ≡ None → (S.issued ≤ MAX_NUMBERED) × (S.opened ≤ MAX_NUMBERED)
 few-left t S e =
     let a = first-none (not S.sealed) Unsealed _ e in
-    let b = first-none (nat_lt 0 (length S.conns)) Connected _ a.1 in
+    let g = first-none (nat_lt 0 S.given) Given _ a.1 in
+    let b = first-none (nat_lt 0 (length S.conns)) Connected _ g.1 in
     let c = first-none (not (all_over t S)) Exchanging _ b.1 in
     let d = first-none (is_spent S) Spent _ c.1 in
     let both = or-false (nat_lt MAX_NUMBERED S.issued) (nat_lt MAX_NUMBERED S.opened) d.0 in

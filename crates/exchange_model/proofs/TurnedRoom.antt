@@ -10,7 +10,8 @@ use Rattle.exchange_model.specs.State.{PeerLink, State}
 use Rattle.exchange_model.specs.Calls.{peer_of}
 use Rattle.exchange_model.specs.Entering.{StandsOnce}
 use Rattle.exchange_model.specs.Room.{AreApart, IsShort}
-use Rattle.exchange_model.specs.Rotating.{RotatesInRoom, RotatesDrained, Unsealed, Connected, Exchanging, Spent, Crowded, Backed, all_over, are_few, backed, carried_numbers, copied_entries, copies, copies_with, few_of, fault_of, has_copy, is_spent, keep_peer, turned}
+use Rattle.exchange_model.specs.Rotating.{RotatesInRoom, RotatesDrained, Unsealed, Given, Connected, Exchanging, Spent, Crowded, Backed, all_over, are_few, backed, carried_numbers, copied_entries, copies, copies_with, few_of, fault_of, has_copy, is_spent, keep_peer, turned}
+use Rattle.exchange_model.proofs.Here.{turns-here}
 use Rattle.exchange_model.proofs.InRoom.{fits-from, le-true}
 use Rattle.exchange_model.proofs.Turned.{first-none, rotates-keeps}
 
@@ -23,7 +24,8 @@ is-true false e = absurd (false≢true (sym e))
 few-remembered : (t : ℕ) (S : State) → fault_of t S ≡ None → are_few (copies t S.entries) ≡ true
 few-remembered t S e =
     let a = first-none (not S.sealed) Unsealed _ e in
-    let b = first-none (nat_lt 0 (length S.conns)) Connected _ a.1 in
+    let g = first-none (nat_lt 0 S.given) Given _ a.1 in
+    let b = first-none (nat_lt 0 (length S.conns)) Connected _ g.1 in
     let c = first-none (not (all_over t S)) Exchanging _ b.1 in
     let d = first-none (is_spent S) Spent _ c.1 in
     let f = first-none (not (are_few (copies t S.entries))) Crowded None d.1 in
@@ -138,6 +140,7 @@ rotates-in-room t S k later fit =
     let bytes = few.1 in
     record {
       kept = rotates-keeps t S k.kept later fit;
+      here = turns-here t S fit;
       fit = fits-from (turned t S) (omega (arith, entries)) (omega (arith, bytes));
       short = all-short t (copied_entries t S) S.links;
       apart = apart-kept t (copied_entries t S) S.links k.apart;

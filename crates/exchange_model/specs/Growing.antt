@@ -29,11 +29,13 @@ abbrev pub conns_with : List Conn → ℕ → List Written → List Conn
 conns_with cs n [] = cs
 conns_with cs n (w ∷ ws) = conns_with (conns_after cs n w.deed) (n + 1) ws
 
--- A step at this moment adds to the journal, and no copies, and the connections follow from what it
--- adds.
+-- A step at this moment adds to the journal, and no copies, and gives nothing of it out; and the
+-- connections follow from what it adds.
 pub record Adds (t : ℕ) (S S1 : State) : Type 0 where
   pub more : List Written
   pub entries : S1.entries ≡ S.entries ++ more
+  pub given : S1.given ≡ S.given
+  pub kept : S1.kept ≡ S.kept
   pub at : AllByRecursion (λ (w : Written). w.moment ≡ t) more
   pub own : AllByRecursion (λ (w : Written). carries w.deed ≡ false) more
   pub conns : S1.conns ≡ conns_with S.conns (length S.entries) more

@@ -40,6 +40,8 @@ abbrev pub start : State
 start = record {
   entries = [];
   sealed = false;
+  given = 0;
+  kept = [];
   moment = 0;
   opened = 0;
   issued = 0;

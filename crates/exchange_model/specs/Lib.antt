@@ -11,8 +11,10 @@ pub mod Laws
 pub mod Calls
 pub mod Due
 pub mod Keeping
+pub mod Memory
 pub mod Room
 pub mod Sealing
 pub mod Worked
 pub mod Entering
 pub mod Growing
+pub mod Here

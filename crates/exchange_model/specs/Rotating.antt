@@ -1,5 +1,5 @@
--- A sealed journal is given out, and the core goes on with one that begins with copies of its
--- entries.
+-- A sealed journal that stands in memory whole is given out, and the core goes on with one that
+-- begins with copies of its entries.
 use Rattle.std.specs.Prelude.{◌≡◌, ℕ, ◌≤◌, ◌+◌, Bool, true, false, not, ◌&&◌, ◌||◌, ◌==◌, nat_le, nat_lt, List, [], ◌∷◌, ◌++◌, length, map, filter, sum_by, Option, Some, None, is_some, Result, Ok, Err, if◌then◌else◌}
 use Rattle.std.specs.List.{list_all, list_any}
 use Rattle.std.specs.Option.{option_map_or}
@@ -37,6 +37,8 @@ is_nearly_full h = nat_le NEARLY_ALL_ENTRIES (length h)
 pub data RotateFault : Type 0 where
   -- the journal takes entries yet
   Unsealed : RotateFault
+  -- its first entries were given out before
+  Given : RotateFault
   -- a connection is open
   Connected : RotateFault
   -- an exchange is open, or a message on its way
@@ -204,10 +206,11 @@ is_spent S = nat_lt MAX_NUMBERED S.issued || nat_lt MAX_NUMBERED S.opened
 abbrev pub fault_of : ℕ → State → Option RotateFault
 fault_of t S =
     if not S.sealed then Some Unsealed
+    else (if nat_lt 0 S.given then Some Given
     else (if nat_lt 0 (length S.conns) then Some Connected
     else (if not (all_over t S) then Some Exchanging
     else (if is_spent S then Some Spent
-    else (if not (are_few (copies t S.entries)) then Some Crowded else None))))
+    else (if not (are_few (copies t S.entries)) then Some Crowded else None)))))
 
 -- What it goes on with: numbers, what is remembered, and the stored responses that are carried
 -- over. What was observed is asked for anew, and no open exchange asks about anything any more.
@@ -215,6 +218,8 @@ abbrev pub turned_with : ℕ → List Written → List Backed → State → Stat
 turned_with t ws bs S = record {
   entries = ws;
   sealed = false;
+  given = 0;
+  kept = [];
   moment = t;
   opened = S.opened;
   issued = S.issued;

@@ -21,6 +21,10 @@ pub record State : Type 0 where
   -- the journal, and whether it is sealed
   pub entries : List Written
   pub sealed : Bool
+  -- how many of its first entries were given out, and the numbers of those of them that stand in
+  -- memory all the same
+  pub given : ℕ
+  pub kept : List ℕ
   -- the moment of its last entry
   pub moment : ℕ
   -- how many connections were opened, and tokens issued

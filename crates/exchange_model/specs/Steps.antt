@@ -22,7 +22,7 @@ use Rattle.blockwise.specs.Downloads.{no_pieces}
 use Rattle.blockwise.specs.Uploads.{begun}
 use Rattle.history_laws.specs.Readings.{Note, Begins, Renews}
 use Rattle.history_laws.specs.Responses.{valid}
-use Rattle.history_laws.specs.Progress.{Reply, Fetches, Gives}
+use Rattle.history_laws.specs.Progress.{Reply}
 use Rattle.history_laws.specs.Observing.{manner_by, tag_of}
 use Rattle.history_links.specs.Steps.{lets_go}
 use Rattle.exchange_model.specs.declared.kept.Exchange.{Exchange}

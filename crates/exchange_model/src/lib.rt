@@ -13,6 +13,7 @@
 #![tactic(auto)]
 
 mod growing;
+mod in_memory;
 mod kept;
 mod laws;
 mod sealing;

@@ -1,6 +1,6 @@
 //! That the journal stays within its limits, as contracts of functions that do nothing.
 
-ghost use Rattle.exchange_model.specs.Room.{WithinLimits};
+ghost use Rattle.exchange_model.specs.Room.{WithinLimits, GivesKeeps, GivesFree};
 ghost use Rattle.exchange_model.specs.Rotating.{RotatesKeeps, RotatesInRoom, RotatesDrained};
 ghost use Rattle.exchange_model.specs.Sealing.{
   StartInRoom,
@@ -13,8 +13,8 @@ ghost use Rattle.exchange_model.specs.Sealing.{
   SealedAnswers,
 };
 
-/// A journal has 65,536 entries and 256 MiB at most, with what has to come, and each call keeps
-/// this: one that doesn't fit seals it and does nothing else, and after that a connection may be
+/// A journal has 65,536 entries and 256 MiB in memory at most, with what has to come, and each call
+/// keeps this: one that doesn't fit seals it and does nothing else, and after that a connection may be
 /// shut still.
 pub fn calls_keep_room()
     ensures start { StartInRoom }
@@ -31,6 +31,13 @@ pub fn ticks_keep_room()
     ensures keeps { TicksInRoom }
     ensures promptly { TicksPromptly }
     ensures sealed { SealedAnswers }
+{}
+
+/// Entries may be given out between any two calls, where what is looked up stands in memory after
+/// that: what is kept stays kept, and what they took of the limits is free again.
+pub fn giving_keeps()
+    ensures keeps { GivesKeeps }
+    ensures free { GivesFree }
 {}
 
 /// A journal that begins with copies of one that is given out stands, is within its limits, and
