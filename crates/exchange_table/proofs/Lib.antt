@@ -12,3 +12,4 @@ mod Joined
 mod Among
 mod AnyRead
 mod Leaving
+mod Asks

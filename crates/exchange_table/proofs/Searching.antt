@@ -119,6 +119,15 @@ find-push p (z ∷ zs) x y e = by (p z) e (find-push p zs x y)
     by true h f = h
     by false h f = f h
 
+pub all-found : {X : Type 0} (P : X → Type 0) (p : X → Bool) (xs : List X) (y : X)
+    → AllByRecursion P xs → find p xs ≡ Some y → P y
+all-found P p [] y a e = absurd (none-some y e)
+all-found P p (x ∷ xs) y a e = by (p x) e (all-found P p xs y a.1)
+  where
+    by : (b : Bool) → cond b (Some x) (find p xs) ≡ Some y → (find p xs ≡ Some y → P y) → P y
+    by true h f = subst P (some-is x y h) a.0
+    by false h f = f h
+
 pub find-last : {X : Type 0} (p : X → Bool) (xs : List X) (y : X) → IsNowhere p xs → p y ≡ true → find p (xs ++ y ∷ []) ≡ Some y
 find-last p [] y none e = rw e refl
 find-last p (x ∷ xs) y none e = rw none.0 (find-last p xs y none.1 e)

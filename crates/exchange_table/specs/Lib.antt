@@ -7,3 +7,4 @@ pub mod Groups
 pub mod Readers
 pub mod Marks
 pub mod Joining
+pub mod Asks

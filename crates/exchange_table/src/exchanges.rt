@@ -7,6 +7,7 @@ ghost use Rattle.std.specs.List.{AllByRecursion, list_any};
 ghost use Rattle.exchange_model.specs.Steps.{is_under, read_at, went_out};
 ghost use Rattle.exchange_model.specs.Matters.{IsDigested, is_other, is_reading, left_by};
 ghost use Rattle.exchange_model.specs.Hearing.{outdated_by};
+ghost use Rattle.exchange_table.specs.Asks.{IsAskedHere};
 ghost use Rattle.exchange_table.specs.Joining.{is_joined_by};
 ghost use Rattle.exchange_table.specs.Tables.{IsLatest, IsNewest, is_under_none, went_on};
 
@@ -86,7 +87,9 @@ impl Exchanges {
     /// The exchange that the request joins, where each has the digests of what it was opened for.
     /// No other is looked at than those whose keys have the digest of what it reads.
     pub fn joined<R: Relation>(&self, journal: &Journal<R>, mapped: &Mapped<R>) -> Option<&Exchange>
-        requires { AllByRecursion (IsDigested journal.now.entries) self.now.exchanges }
+        requires digested { AllByRecursion (IsDigested journal.now.entries) self.now.exchanges }
+        requires here { AllByRecursion (IsAskedHere journal.now.given journal.now.kept)
+            self.now.exchanges }
         ensures { option_copied result
             ≡ find (is_joined_by journal.now.entries mapped.now.sense) self.now.exchanges }
     {
@@ -96,7 +99,9 @@ impl Exchanges {
     /// Whether any of them reads what is under the key. No other is looked at than those whose keys
     /// have its digest.
     pub fn is_read<R: Relation>(&self, journal: &Journal<R>, key: &Key) -> bool
-        requires { AllByRecursion (IsDigested journal.now.entries) self.now.exchanges }
+        requires digested { AllByRecursion (IsDigested journal.now.entries) self.now.exchanges }
+        requires here { AllByRecursion (IsAskedHere journal.now.given journal.now.kept)
+            self.now.exchanges }
         ensures { result ≡ list_any (is_reading journal.now.entries key.now) self.now.exchanges }
     {
         keyed::is_read(&self.rows, &self.keys, journal, key)
@@ -163,7 +168,9 @@ impl Exchanges {
     /// A notification of this key counts: what exchanges fetch of that is out of date. No other is
     /// looked at than those whose keys have its digest. It takes no memory.
     pub fn outdate<R: Relation>(&mut self, journal: &Journal<R>, key: &Key)
-        requires { AllByRecursion (IsDigested journal.now.entries) self.old.exchanges }
+        requires digested { AllByRecursion (IsDigested journal.now.entries) self.old.exchanges }
+        requires here { AllByRecursion (IsAskedHere journal.now.given journal.now.kept)
+            self.old.exchanges }
         ensures exchanges { self.new.exchanges
             ≡ map (outdated_by journal.now.entries key.now) self.old.exchanges }
         ensures room { self.new.room ≡ self.old.room }
@@ -174,7 +181,10 @@ impl Exchanges {
     /// An exchange has ended: where it was a write, GETs join those of its place no more. No other
     /// is looked at than those whose places have its digest.
     pub fn outrun<R: Relation>(&mut self, journal: &Journal<R>, ended: &Exchange)
-        requires { AllByRecursion (IsDigested journal.now.entries) self.old.exchanges }
+        requires digested { AllByRecursion (IsDigested journal.now.entries) self.old.exchanges }
+        requires here { AllByRecursion (IsAskedHere journal.now.given journal.now.kept)
+            self.old.exchanges }
+        requires ended { IsAskedHere journal.now.given journal.now.kept ended.now }
         ensures exchanges { self.new.exchanges
             ≡ left_by journal.now.entries (ended.now ∷ []) self.old.exchanges }
         ensures room { self.new.room ≡ self.old.room }

@@ -72,6 +72,13 @@ impl Fetched {
         self.pieces.push_reserved(Piece { opening, number });
     }
 
+    /// All of them, in the order of their entries.
+    pub fn as_slice(&self) -> &[Piece]
+        ensures { result.now ≡ self.now.pieces }
+    {
+        &self.pieces
+    }
+
     /// Among which those of the exchange with this opening are, in order: none, where it has none.
     pub fn among(&self, opening: u32) -> &[Piece]
         ensures { filter (is_piece_of opening) result.now

@@ -6,6 +6,7 @@ ghost use Rattle.std.specs.Option.{option_copied};
 ghost use Rattle.cache_key.specs.Digests.{digests_of};
 ghost use Rattle.exchange_model.specs.Matters.{IsDigested};
 ghost use Rattle.exchange_table.specs.declared.marks.Mark.{Mark as Row};
+ghost use Rattle.exchange_table.specs.Asks.{IsAskedHere};
 ghost use Rattle.exchange_table.specs.Joining.{is_joined_at, is_joined_by, is_joined_marked};
 ghost use Rattle.exchange_table.specs.Marks.{AreMarked, key_in};
 ghost use Rattle.exchange_table.specs.Places.{RiseBy};
@@ -22,6 +23,7 @@ use transformers::Relation;
 
 /// Whether the request joins the exchange: both are equal GETs, and no write has outrun it.
 fn is_joined<R: Relation>(exchange: &Exchange, journal: &Journal<R>, mapped: &Mapped<R>) -> bool
+    requires { IsAskedHere journal.now.given journal.now.kept exchange.now }
     ensures { result ≡ is_joined_by journal.now.entries mapped.now.sense exchange.now }
 {
     if !exchange.current {
@@ -49,7 +51,8 @@ fn joined_at<'a, R: Relation>(
     journal: &Journal<R>,
     mapped: &Mapped<R>,
 ) -> Option<&'a Exchange>
-    requires { RiseBy opening_of rows.now }
+    requires ordered { RiseBy opening_of rows.now }
+    requires here { AllByRecursion (IsAskedHere journal.now.given journal.now.kept) rows.now }
     ensures row { IsSome result
         → option_copied result ≡ find (is_opened_at opening) rows.now }
     ensures joined { is_some result
@@ -70,7 +73,8 @@ fn find_marked<'a, R: Relation>(
     journal: &Journal<R>,
     mapped: &Mapped<R>,
 ) -> Option<&'a Exchange>
-    requires { RiseBy opening_of rows.now }
+    requires ordered { RiseBy opening_of rows.now }
+    requires here { AllByRecursion (IsAskedHere journal.now.given journal.now.kept) rows.now }
     ensures { option_copied result ≡ option_and_then
         (λ (m : Row). find (is_opened_at m.opening) rows.now)
         (find (is_joined_marked journal.now.entries mapped.now.sense rows.now) marks.now) }
@@ -100,6 +104,7 @@ pub fn joined<'a, R: Relation>(
     requires ordered { RiseBy opening_of rows.now }
     requires marked { AreMarked key_in rows.now keys.now }
     requires digested { AllByRecursion (IsDigested journal.now.entries) rows.now }
+    requires here { AllByRecursion (IsAskedHere journal.now.given journal.now.kept) rows.now }
     ensures { option_copied result
         ≡ find (is_joined_by journal.now.entries mapped.now.sense) rows.now }
 {

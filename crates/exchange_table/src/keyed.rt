@@ -3,6 +3,7 @@
 ghost use Rattle.std.specs.Prelude.{◌≡◌, find};
 ghost use Rattle.std.specs.List.{AllByRecursion, list_any};
 ghost use Rattle.exchange_model.specs.Matters.{IsDigested, is_reading};
+ghost use Rattle.exchange_table.specs.Asks.{IsAskedHere};
 ghost use Rattle.exchange_table.specs.Joining.{is_reading_at, is_reading_marked};
 ghost use Rattle.exchange_table.specs.Marks.{AreMarked, key_in};
 ghost use Rattle.exchange_table.specs.Places.{RiseBy};
@@ -18,6 +19,7 @@ use transformers::Relation;
 
 /// Whether the row reads what is under the key.
 pub fn reads<R: Relation>(row: &Exchange, journal: &Journal<R>, key: &Key) -> bool
+    requires { IsAskedHere journal.now.given journal.now.kept row.now }
     ensures { result ≡ is_reading journal.now.entries key.now row.now }
 {
     let Some(mapped) = asked(journal, row.ask) else {
@@ -31,7 +33,8 @@ pub fn reads<R: Relation>(row: &Exchange, journal: &Journal<R>, key: &Key) -> bo
 
 /// Whether the row that the entry with this number opened does.
 fn reads_at<R: Relation>(rows: &[Exchange], opening: u32, journal: &Journal<R>, key: &Key) -> bool
-    requires { RiseBy opening_of rows.now }
+    requires ordered { RiseBy opening_of rows.now }
+    requires here { AllByRecursion (IsAskedHere journal.now.given journal.now.kept) rows.now }
     ensures { result ≡ is_reading_at journal.now.entries key.now rows.now opening }
 {
     match row_at(rows, opening) {
@@ -51,6 +54,7 @@ pub fn is_read<R: Relation>(
     requires ordered { RiseBy opening_of rows.now }
     requires keyed { AreMarked key_in rows.now keys.now }
     requires digested { AllByRecursion (IsDigested journal.now.entries) rows.now }
+    requires here { AllByRecursion (IsAskedHere journal.now.given journal.now.kept) rows.now }
     ensures { result ≡ list_any (is_reading journal.now.entries key.now) rows.now }
 {
     let alike = marked(keys, half_of(key.digests().key));

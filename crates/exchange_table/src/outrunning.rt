@@ -6,6 +6,8 @@ ghost use Rattle.cache_key.specs.Digests.{digests_of};
 ghost use Rattle.cache_key.specs.Keys.{key_of};
 ghost use Rattle.exchange_model.specs.Matters.{IsDigested, asked_in, left_by, request_in};
 ghost use Rattle.exchange_model.specs.Hearing.{outdated_by};
+ghost use Rattle.journal_book.specs.Journals.{IsHere};
+ghost use Rattle.exchange_table.specs.Asks.{IsAskedHere};
 ghost use Rattle.exchange_table.specs.Marks.{AreMarked, key_in, place_in};
 ghost use Rattle.exchange_table.specs.Outrunning.{only_at, outrun_with};
 ghost use Rattle.exchange_table.specs.Places.{RiseBy};
@@ -22,6 +24,7 @@ use transformers::Relation;
 
 /// The request of the ask in the entry with this number, if one is there.
 pub fn asked<R: Relation>(journal: &Journal<R>, ask: u32) -> Option<&Mapped<R>>
+    requires { IsHere journal.now.given journal.now.kept ask }
     ensures { option_and_then (λ m. request_in m.now.sense) result
         ≡ asked_in journal.now.entries ask }
 {
@@ -33,6 +36,7 @@ pub fn asked<R: Relation>(journal: &Journal<R>, ask: u32) -> Option<&Mapped<R>>
 
 /// GETs join the exchange no more where the write was to its place.
 fn outrun_row<R: Relation>(row: &mut Exchange, journal: &Journal<R>, write: &Mapped<R>)
+    requires { IsAskedHere journal.now.given journal.now.kept row.old }
     ensures { row.new ≡ outrun_with (request_in write.now.sense) journal.now.entries row.old }
 {
     if let Some(other) = asked(journal, row.ask) {
@@ -49,7 +53,8 @@ fn outrun_at<R: Relation>(
     journal: &Journal<R>,
     write: &Mapped<R>,
 )
-    requires { RiseBy opening_of rows.old }
+    requires ordered { RiseBy opening_of rows.old }
+    requires here { AllByRecursion (IsAskedHere journal.now.given journal.now.kept) rows.old }
     ensures { rows.new ≡ map (only_at opening
         (outrun_with (request_in write.now.sense) journal.now.entries)) rows.old }
 {
@@ -76,6 +81,8 @@ pub fn outrun<R: Relation>(
     requires ordered { RiseBy opening_of rows.old }
     requires placed { AreMarked place_in rows.old places.now }
     requires digested { AllByRecursion (IsDigested journal.now.entries) rows.old }
+    requires here { AllByRecursion (IsAskedHere journal.now.given journal.now.kept) rows.old }
+    requires ended { IsAskedHere journal.now.given journal.now.kept ended.now }
     ensures { rows.new ≡ left_by journal.now.entries (ended.now ∷ []) rows.old }
 {
     let Some(write) = asked(journal, ended.ask) else {
@@ -92,6 +99,7 @@ pub fn outrun<R: Relation>(
 
 /// What the row fetches is out of date, where it is of this key.
 fn outdate_row<R: Relation>(row: &mut Exchange, journal: &Journal<R>, key: &Key)
+    requires { IsAskedHere journal.now.given journal.now.kept row.old }
     ensures { row.new ≡ outdated_by journal.now.entries key.now row.old }
 {
     if reads(row, journal, key) {
@@ -101,7 +109,8 @@ fn outdate_row<R: Relation>(row: &mut Exchange, journal: &Journal<R>, key: &Key)
 
 /// The same of the row that the entry with this number opened.
 fn outdate_at<R: Relation>(rows: &mut [Exchange], opening: u32, journal: &Journal<R>, key: &Key)
-    requires { RiseBy opening_of rows.old }
+    requires ordered { RiseBy opening_of rows.old }
+    requires here { AllByRecursion (IsAskedHere journal.now.given journal.now.kept) rows.old }
     ensures { rows.new
         ≡ map (only_at opening (outdated_by journal.now.entries key.now)) rows.old }
 {
@@ -115,6 +124,7 @@ pub fn outdate<R: Relation>(rows: &mut [Exchange], keys: &[Mark], journal: &Jour
     requires ordered { RiseBy opening_of rows.old }
     requires keyed { AreMarked key_in rows.old keys.now }
     requires digested { AllByRecursion (IsDigested journal.now.entries) rows.old }
+    requires here { AllByRecursion (IsAskedHere journal.now.given journal.now.kept) rows.old }
     ensures { rows.new ≡ map (outdated_by journal.now.entries key.now) rows.old }
 {
     let alike = marked(keys, half_of(key.digests().key));

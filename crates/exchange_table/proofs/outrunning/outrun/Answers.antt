@@ -1,15 +1,18 @@
 use Rattle.std.proofs.Common.{ℕ, Option, List, map, sym, ap, subst, ◌∙◌, arith}
 use Rattle.std.specs.Prelude.{filter, option_and_then, option_map}
+use Rattle.std.specs.List.{AllByRecursion}
 use Rattle.cache_key.specs.Digests.{digests_of}
 use Rattle.cache_key.specs.Keys.{key_of}
 use Rattle.ask_model.specs.Requests.{CoapRequest}
 use Rattle.exchange_model.specs.Matters.{request_in}
+use Rattle.exchange_table.specs.Asks.{IsAskedHere}
 use Rattle.exchange_table.specs.declared.marks.Mark.{Mark}
 use Rattle.exchange_table.specs.Marks.{has_digest, place_in}
 use Rattle.exchange_table.specs.Outrunning.{outrun_with}
 use Rattle.exchange_table.specs.Places.{RiseBy}
 use Rattle.exchange_table.specs.Tables.{opening_of}
 use Rattle.exchange_table.proofs.Among.{among, among-all, among-done, among-next, among-none, among-rise, outrun-others, outrun-settles}
+use Rattle.exchange_table.proofs.Asks.{among-asks, here-map, outrun-asks}
 use Rattle.exchange_table.proofs.Outrun.{left-one, none-outrun, read-outrun}
 use Rattle.exchange_table.proofs.outrunning.outrun.Goals as goal
 
@@ -22,11 +25,18 @@ marked-alike-requires g c = c.requires.placed.order
 pub each-init : goal.each-init
 each-init g c = sym (among-none (outrun_with (request_in c.in-Some.write.now.sense) c.args.journal.now.entries) c.args.rows.now)
 
-pub outrun_at-requires : goal.outrun_at-requires
-outrun_at-requires g c =
+pub outrun_at-requires-clause-ordered : goal.outrun_at-requires-clause-ordered
+outrun_at-requires-clause-ordered g c =
     let f = outrun_with (request_in c.in-Some.write.now.sense) c.args.journal.now.entries in
     subst (RiseBy opening_of) (sym c.each.invariant)
     (among-rise f (outrun-settles (request_in c.in-Some.write.now.sense) c.args.journal.now.entries) _ c.args.rows.now c.requires.ordered)
+
+pub outrun_at-requires-clause-here : goal.outrun_at-requires-clause-here
+outrun_at-requires-clause-here g c =
+    let j = c.args.journal.now in
+    let f = outrun_with (request_in c.in-Some.write.now.sense) j.entries in
+    subst (AllByRecursion (IsAskedHere j.given j.kept)) (sym c.each.invariant)
+    (here-map j.given j.kept _ (among-asks _ f (outrun-asks (request_in c.in-Some.write.now.sense) j.entries)) c.args.rows.now c.requires.here)
 
 pub each-preserved : goal.each-preserved
 each-preserved g c =

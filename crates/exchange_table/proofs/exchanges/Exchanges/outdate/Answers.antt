@@ -16,7 +16,7 @@ pub outdate-requires-clause-keyed : goal.outdate-requires-clause-keyed
 outdate-requires-clause-keyed g c = rw (c.deref_mut.ensures.value, c.deref.ensures.value) c.self.invariant.keyed
 
 pub outdate-requires-clause-digested : goal.outdate-requires-clause-digested
-outdate-requires-clause-digested g c = rw (c.deref_mut.ensures.value) (rw (← c.self.view_is) at c.requires)
+outdate-requires-clause-digested g c = rw (c.deref_mut.ensures.value) (rw (← c.self.view_is) at c.requires.digested)
 
 pub invariant_of-self : goal.invariant_of-self
 invariant_of-self g c =
@@ -32,3 +32,6 @@ invariant_of-self g c =
     subst (λ (es : List Exchange). IsTable es names keys places)
     (sym (put-back new old c.self.inside.rows.len (ap length is ∙ length-map old f) len ∙ is))
     (table-map f old names names keys places (outdated-marks ws c.args.key.now) (index-map f old names (outdated-names ws c.args.key.now) c.self.invariant.indexed) c.self.invariant)
+
+pub outdate-requires-clause-here : goal.outdate-requires-clause-here
+outdate-requires-clause-here g c = rw (c.deref_mut.ensures.value) (rw (← c.self.view_is) at c.requires.here)

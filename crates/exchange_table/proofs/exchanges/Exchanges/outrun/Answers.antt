@@ -16,7 +16,7 @@ pub outrun-requires-clause-placed : goal.outrun-requires-clause-placed
 outrun-requires-clause-placed g c = rw (c.deref_mut.ensures.value, c.deref.ensures.value) c.self.invariant.placed
 
 pub outrun-requires-clause-digested : goal.outrun-requires-clause-digested
-outrun-requires-clause-digested g c = rw (c.deref_mut.ensures.value) (rw (← c.self.view_is) at c.requires)
+outrun-requires-clause-digested g c = rw (c.deref_mut.ensures.value) (rw (← c.self.view_is) at c.requires.digested)
 
 pub invariant_of-self : goal.invariant_of-self
 invariant_of-self g c =
@@ -33,3 +33,6 @@ invariant_of-self g c =
     subst (λ (es : List Exchange). IsTable es names keys places)
     (sym (put-back new old c.self.inside.rows.len (ap length is ∙ length-map old f) len ∙ is))
     (table-map f old names names keys places (left-marks ws over) (index-map f old names (left-names ws over) c.self.invariant.indexed) c.self.invariant)
+
+pub outrun-requires-clause-here : goal.outrun-requires-clause-here
+outrun-requires-clause-here g c = rw (c.deref_mut.ensures.value) (rw (← c.self.view_is) at c.requires.here)
