@@ -1,13 +1,15 @@
 //! What an exchange comes to by a reply.
 
-ghost use Rattle.std.specs.Prelude.{◌≡◌, ◌≤◌, ◌∷◌, ◌++◌, List, [], IfOk, IfSome, IfNone};
+ghost use Rattle.std.specs.Prelude.{◌≡◌, ◌≤◌, ◌∷◌, ◌++◌, List, [], filter, IfOk, IfSome, IfNone};
+ghost use Rattle.std.specs.List.{AllByRecursion};
 ghost use Rattle.coap_codec.specs.Spelling.{content};
 ghost use Rattle.history_laws.specs.Progress.{Reply, Ends, NotUnderstood, Whole, anew, answered, fetched, fetched_whole};
 ghost use Rattle.history_laws.specs.Responses.{response_of};
 ghost use Rattle.exchange_model.specs.Growing.{IsFewTimes};
 ghost use Rattle.exchange_model.specs.Steps.{reply_at};
-ghost use Rattle.exchange_model.specs.Matters.{fetched_in};
+ghost use Rattle.exchange_model.specs.Matters.{fetched_in, is_piece_of};
 ghost use Rattle.exchange_progress.specs.Coming.{AsksSayable, IsComing, comes_by};
+ghost use Rattle.exchange_progress.specs.Pieces.{IsPieceHere};
 
 use crate::fetching::{Earlier, fetched_in};
 use ask_model::Cause;
@@ -97,6 +99,8 @@ fn join<R: Relation>(
     number: u32,
     m: Message,
 ) -> Result<Coming, AllocError>
+    requires { AllByRecursion (IsPieceHere journal.now.given journal.now.kept)
+        (filter (is_piece_of opening) pieces.now) }
     ensures coming { IfOk result (λ x. IsComing number x (Ends (fetched_whole
         (fetched_in journal.now.entries opening pieces.now ++ reply_at number (content m) ∷ [])))) }
     ensures sayable { IfOk result AsksSayable }
@@ -116,6 +120,8 @@ fn answer<R: Relation>(
     number: u32,
     m: Message,
 ) -> Result<Coming, AllocError>
+    requires { AllByRecursion (IsPieceHere journal.now.given journal.now.kept)
+        (filter (is_piece_of opening) pieces.now) }
     ensures coming { IfOk result (λ x. IsComing number x (Ends (Whole (response_of (content m))
         (fetched_in journal.now.entries opening pieces.now ++ reply_at number (content m) ∷ [])))) }
     ensures sayable { IfOk result AsksSayable }
@@ -196,7 +202,9 @@ pub fn comes_to<R: Relation>(
     number: u32,
     m: Message,
 ) -> Result<Coming, AllocError>
-    requires { IsFewTimes exchange.now.work }
+    requires few { IsFewTimes exchange.now.work }
+    requires here { AllByRecursion (IsPieceHere journal.now.given journal.now.kept)
+        (filter (is_piece_of exchange.now.opening) pieces.now) }
     ensures coming { IfOk result (λ x. IsComing number x
         (comes_by journal.now.entries pieces.now exchange.now number (content m))) }
     ensures sayable { IfOk result AsksSayable }

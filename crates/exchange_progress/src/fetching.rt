@@ -1,10 +1,13 @@
 //! The pieces that an exchange has fetched.
 
-ghost use Rattle.std.specs.Prelude.{◌≡◌, ◌∷◌, ◌++◌, [], map, option_map, IfOk, OnOk};
+ghost use Rattle.std.specs.Prelude.{◌≡◌, ◌∷◌, ◌++◌, [], true, filter, map, option_map, IfOk, OnOk};
+ghost use Rattle.std.specs.List.{AllByRecursion};
 ghost use Rattle.coap_codec.specs.Spelling.{content};
 ghost use Rattle.history_laws.specs.Progress.{messages, numbers};
 ghost use Rattle.exchange_model.specs.Steps.{heard_in, reply_at};
-ghost use Rattle.exchange_model.specs.Matters.{fetched_in};
+ghost use Rattle.journal_book.specs.Journals.{IsHere};
+ghost use Rattle.exchange_model.specs.Matters.{fetched_in, is_piece_of};
+ghost use Rattle.exchange_progress.specs.Pieces.{IsPieceHere};
 
 use coap_codec::{CodecFault, Message, decode};
 use exchange_model::Piece;
@@ -25,6 +28,7 @@ fn heard_in<R: Relation>(
     journal: &Journal<R>,
     number: u32,
 ) -> Result<Option<Message>, AllocError>
+    requires { IsHere journal.now.given journal.now.kept number }
     ensures { IfOk result (λ o. option_map (λ m. reply_at number (content m)) o
         ≡ heard_in journal.now.entries number) }
 {
@@ -49,6 +53,8 @@ fn add_piece<R: Relation>(
     piece: &Piece,
     earlier: &mut Earlier,
 ) -> Result<(), AllocError>
+    requires { is_piece_of opening piece.now ≡ true
+        → IsPieceHere journal.now.given journal.now.kept piece.now }
     ensures messages { OnOk result (map content earlier.new.messages.items
         ≡ map content earlier.old.messages.items
         ++ messages (fetched_in journal.now.entries opening (piece.now ∷ []))) }
@@ -73,6 +79,8 @@ pub fn fetched_in<R: Relation>(
     pieces: &[Piece],
     opening: u32,
 ) -> Result<Earlier, AllocError>
+    requires { AllByRecursion (IsPieceHere journal.now.given journal.now.kept)
+        (filter (is_piece_of opening) pieces.now) }
     ensures messages { IfOk result (λ x. map content x.messages.items
         ≡ messages (fetched_in journal.now.entries opening pieces.now)) }
     ensures numbers { IfOk result (λ x. x.numbers.items
