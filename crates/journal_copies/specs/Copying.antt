@@ -62,8 +62,11 @@ pub record Looks {S : Type 0} (t n : ℕ) (w : Written) (old : List Seen) (m : H
   pub kept_is : mark_if t (seen_by n w.moment (done_of w.deed) old) [] n w.moment (done_of w.deed)
       ≡ past_if kept
 
--- These are the copies, counted, with the peers of each, and a place for one more entry.
+-- These are the copies, counted, with the peers of each, and a place for one more entry. None of
+-- them was given out.
 pub record AreCounted {R : Type 0} (c : Copies R) : Type 0 where
   pub bytes : c.bytes ≡ capped (sum_by entry_size c.journal.entries)
   pub peers : c.peers.items ≡ peers_in c.journal.entries
   pub place : 0 < c.journal.room
+  pub given : c.journal.given ≡ 0
+  pub kept : c.journal.kept ≡ []

@@ -100,7 +100,8 @@ pub fn copies_of<R: Relation>(
     journal: &Journal<R>,
     marks: &Marks,
 ) -> Result<Copies<R>, AllocError>
-    requires { length journal.now.entries ≤ MAX_ENTRIES }
+    requires few { length journal.now.entries ≤ MAX_ENTRIES }
+    requires whole { journal.now.given ≡ 0 }
     ensures entries { (t : ℕ) (gs : List ℕ) → AreMarks t journal.now.entries gs marks.now
         → IfOk result (λ c. c.journal.entries ≡ copies_with t journal.now.entries gs) }
     ensures counted { IfOk result (λ c. AreCounted c) }

@@ -127,6 +127,7 @@ impl Marks {
 
     /// An answer may rest on the entry with this number, where it may be copied.
     fn mark<R: Relation>(&mut self, journal: &Journal<R>, number: u32)
+        requires { journal.now.given ≡ 0 }
         ensures { (t : ℕ) (gs : List ℕ) → AreMarks t journal.now.entries gs self.old
             → AreMarks t journal.now.entries (gs ++ number ∷ []) self.new }
     {
@@ -142,6 +143,7 @@ impl Marks {
 
     /// An answer may rest on the entries with these numbers.
     pub fn mark_all<R: Relation>(&mut self, journal: &Journal<R>, numbers: &[u32])
+        requires { journal.now.given ≡ 0 }
         ensures { (t : ℕ) (gs : List ℕ) → AreMarks t journal.now.entries gs self.old
             → AreMarks t journal.now.entries (gs ++ numbers.now) self.new }
     {

@@ -109,7 +109,8 @@ pub fn remembered<R: Relation>(
     journal: &Journal<R>,
     moment: u64,
 ) -> Result<Marks, AllocError>
-    requires { length journal.now.entries ≤ MAX_ENTRIES }
+    requires few { length journal.now.entries ≤ MAX_ENTRIES }
+    requires whole { journal.now.given ≡ 0 }
     ensures { IfOk result (AreMarks moment journal.now.entries []) }
 {
     let mut seen = SeenMessages::new(alloc);

@@ -58,6 +58,7 @@ fn mark_few<R: Relation>(
     marks: &mut Marks,
     numbers: &[u32],
 ) -> bool
+    requires { journal.now.given ≡ 0 }
     ensures few { (t : ℕ) (gs : List ℕ) → AreMarks t journal.now.entries gs trial.old
         → result ≡ are_few (copies_with t journal.now.entries (gs ++ numbers.now)) }
     ensures trial { (t : ℕ) (gs : List ℕ) → AreMarks t journal.now.entries gs trial.old
@@ -84,6 +85,7 @@ fn take<R: Relation>(
     choice: &mut Choice,
     pair: &Pair,
 ) -> Result<bool, AllocError>
+    requires whole { journal.now.given ≡ 0 }
     requires traced { AreTraced journal.now.entries traces.now.replied.items }
     requires choice { IsChoice moment journal.now.entries trial.old choice.old }
     ensures { (bs : List Backed) → IfOk result (GoesOn moment journal.now.entries bs pair.now
@@ -113,6 +115,7 @@ pub fn chosen<R: Relation>(
     pairs: &[Pair],
 ) -> Result<Choice, AllocError>
     requires few { length journal.now.entries ≤ MAX_ENTRIES }
+    requires whole { journal.now.given ≡ 0 }
     requires marks { AreMarks moment journal.now.entries [] marks }
     ensures taken { IfOk result (λ c. map taken_as c.taken.items
         ≡ few_of moment journal.now.entries [] (backed_in moment journal.now.entries pairs.now)) }

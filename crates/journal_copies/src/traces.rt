@@ -64,7 +64,8 @@ impl Unanswered {
 impl Traces {
     /// The traces of a journal.
     pub fn of<R: Relation>(alloc: Global, journal: &Journal<R>) -> Result<Traces, AllocError>
-        requires { length journal.now.entries ≤ MAX_ENTRIES }
+        requires few { length journal.now.entries ≤ MAX_ENTRIES }
+        requires whole { journal.now.given ≡ 0 }
         ensures { IfOk result (λ x. AreTraced journal.now.entries x.replied.items) }
     {
         let mut unanswered = Unanswered::new(alloc);

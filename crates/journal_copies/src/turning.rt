@@ -34,6 +34,7 @@ pub fn begin<R: Relation>(
     pairs: &[Pair],
 ) -> Result<Begun<R>, AllocError>
     requires few { length journal.now.entries ≤ MAX_ENTRIES }
+    requires whole { journal.now.given ≡ 0 }
     requires marks { AreMarks moment journal.now.entries [] remembered }
     requires store { IsStore pairs.now }
     ensures entries { IfOk result (λ b. b.copies.journal.entries ≡ copies_with moment

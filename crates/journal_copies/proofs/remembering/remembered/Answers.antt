@@ -1,4 +1,4 @@
-use Rattle.std.proofs.Common.{length-append, ◌≡◌, ℕ, ◌+◌, [], ◌∷◌, ◌++◌, List, length, take, sym, subst, arith, take_all}
+use Rattle.std.proofs.Common.{length-append, ◌≡◌, ℕ, ◌+◌, [], ◌∷◌, ◌++◌, List, length, take, sym, subst, arith, inl, take_all}
 use Rattle.std.proofs.lemmas.List.{length-take-le}
 use Rattle.journal_book.specs.Entries.{Written}
 use Rattle.journal_book.specs.Views.{item_of}
@@ -12,7 +12,8 @@ use Rattle.journal_copies.proofs.remembering.remembered.Goals as goal
 
 pub unreachable-requires : goal.unreachable-requires
 unreachable-requires g c =
-    omega (arith, c.in_default.ensures, c.each-test.true, c.len-number-end.ensures)
+    let past = c.in_default.ensures.entry (inl (omega (arith, c.requires.whole))) in
+    omega (arith, past, c.each-test.true, c.len-number-end.ensures)
 
 pub each-init : goal.each-init
 each-init g c = record {
@@ -27,7 +28,7 @@ each-preserved g c =
     let n : ℕ = c.each.number in
     let ws : List Written = take n es in
     let w : Written = item_of c.in-Some.entry.now in
-    let next : take (n + 1) es ≡ ws ++ w ∷ [] = first-more es n w c.in-Some.ensures in
+    let next : take (n + 1) es ≡ ws ++ w ∷ [] = first-more es n w c.in-Some.ensures.entry in
     let below = c.each-test.true in
     let end = c.len-number-end.ensures in
     let len : length ws ≡ n = length-take-le n es (omega (arith, below, end)) in

@@ -25,4 +25,6 @@ returns-clause-counted g c =
           ∙ (ap (λ (ps : List Peer). ps ++ option_to_list (peer_of w.deed)) c.requires.peers
           ∙ (sym (peers-push es w) ∙ ap peers_in (sym added)));
       place = omega (arith, c.in_ok-make_room.ensures.ok, c.add.ensures.room);
+      given = c.add.ensures.given ∙ c.in_ok-make_room.ensures.given ∙ c.requires.given;
+      kept = c.add.ensures.kept ∙ c.in_ok-make_room.ensures.kept ∙ c.requires.kept;
     }

@@ -1,4 +1,4 @@
-use Rattle.std.proofs.Common.{◌≡◌, ℕ, ◌+◌, [], ◌∷◌, ◌++◌, List, length, take, ap, sym, subst, ◌∙◌, arith, take_all}
+use Rattle.std.proofs.Common.{◌≡◌, ℕ, ◌+◌, [], ◌∷◌, ◌++◌, List, length, take, ap, sym, subst, ◌∙◌, arith, inl, take_all}
 use Rattle.std.proofs.lemmas.List.{length-take-le}
 use Rattle.journal_book.specs.Entries.{Written, done_of}
 use Rattle.journal_book.specs.Views.{item_of}
@@ -7,13 +7,18 @@ use Rattle.journal_copies.specs.Tracing.{Awaits, Traced}
 use Rattle.journal_copies.proofs.Replied.{awaits-next, told-next, told_from, traced-all}
 use Rattle.journal_copies.proofs.traces.Traces.of.Goals as goal
 
+pub unreachable-requires : goal.unreachable-requires
+unreachable-requires g c =
+    let past = c.in_default.ensures.entry (inl (omega (arith, c.requires.whole))) in
+    omega (arith, past, c.each-test.true, c.len-number-end.ensures)
+
 pub each-preserved : goal.each-preserved
 each-preserved g c =
     let es : List Written = c.args.journal.now.entries in
     let n : ℕ = c.each.number in
     let ws : List Written = take n es in
     let w : Written = item_of c.in-Some.entry.now in
-    let next : take (n + 1) es ≡ ws ++ w ∷ [] = first-more es n w c.in-Some.ensures in
+    let next : take (n + 1) es ≡ ws ++ w ∷ [] = first-more es n w c.in-Some.ensures.entry in
     let below = c.each-test.true in
     let end = c.len-number-end.ensures in
     let len : length ws ≡ n = length-take-le n es (omega (arith, below, end)) in
