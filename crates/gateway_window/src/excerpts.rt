@@ -19,8 +19,8 @@ pub enum Found {
     Turning,
 }
 
-/// The journal from this entry on. The excerpt is empty for the number of the next entry; later
-/// numbers have none.
+/// The journal from this entry on, or from the first that wasn't given out. The excerpt is empty for
+/// the number of the next entry; later numbers have none.
 pub fn found_from<W: Wait, G: Shown>(
     rt: &W,
     alloc: Global,
@@ -34,7 +34,7 @@ pub fn found_from<W: Wait, G: Shown>(
     if from > extract.total {
         return Ok(Found::Nothing);
     }
-    let mut excerpt = Excerpt::new(alloc, from as u64);
+    let mut excerpt = Excerpt::new(alloc, extract.first as u64);
     'each: for entry in &extract.entries {
         add_line(alloc, &mut excerpt, entry, gateway.payloads())?;
     }

@@ -1,1 +1,2 @@
 mod Later
+mod Seen

@@ -1,8 +1,8 @@
 //! Entries of a journal, copied for who looks at it.
 
-ghost use Rattle.std.specs.Prelude.{◌≡◌, ◌≤◌, ◌<◌, ◌+◌, ◌-◌, ◌++◌, length, map, take, drop, slice_get, IfOk, OnOk};
+ghost use Rattle.std.specs.Prelude.{◌≡◌, ◌≤◌, ◌<◌, ◌+◌, ◌-◌, ◌++◌, length, map, take, drop, IfOk, OnOk};
 ghost use Rattle.journal_book.specs.Views.{item_of};
-ghost use Rattle.journal_extracts.specs.Extracts.{IsExtract, entries_at, place_of, placed};
+ghost use Rattle.journal_extracts.specs.Extracts.{IsExtract, entries_at, entry_at, place_of};
 
 use journal_book::{Entry, Journal};
 use std::alloc::AllocError;
@@ -19,6 +19,8 @@ pub const MOST_COPIED_LEN: u64 = 262_144;
 pub struct Extract<R: Relation> {
     /// how many entries the journal has
     pub total: usize,
+    /// the number of the first of these
+    pub first: usize,
     pub entries: Vec<Entry<R>>,
 }
 
@@ -57,21 +59,24 @@ fn copied_end<R: Relation>(journal: &Journal<R>, from: usize) -> usize
     most
 }
 
-/// The entries from this number on, which come into this list in place of what is there.
+/// The entries from this number on that weren't given out, which come into this list in place of
+/// what is there.
 pub fn extract_of<R: Relation>(
     journal: &Journal<R>,
     from: usize,
     entries: Vec<Entry<R>>,
 ) -> Result<Extract<R>, AllocError>
-    ensures { IfOk result (IsExtract journal.now.entries from) }
+    ensures { IfOk result (IsExtract journal.now from) }
 {
-    let first = from.min(journal.len());
-    let end = copied_end(journal, first);
+    let first = from.max(journal.given());
+    let start = first.min(journal.len());
+    let end = copied_end(journal, start);
     let mut entries = entries;
     entries.clear();
-    add_copies(&mut entries, journal, first, end)?;
+    add_copies(&mut entries, journal, start, end)?;
     Ok(Extract {
         total: journal.len(),
+        first,
         entries,
     })
 }
@@ -84,6 +89,7 @@ fn add_copies<R: Relation>(
     to: usize,
 ) -> Result<(), AllocError>
     requires empty { length entries.old.items ≡ 0 }
+    requires here { journal.now.given ≤ from }
     requires order { from ≤ to }
     requires within { to ≤ length journal.now.entries }
     ensures copied { OnOk result (map item_of entries.new.items
@@ -99,14 +105,15 @@ fn add_copies<R: Relation>(
     Ok(())
 }
 
-/// The entries with these numbers, which come into this list in place of what is there.
+/// The entries with these numbers, but for those given out and not kept, which come into
+/// this list in place of what is there.
 pub fn numbered_of<R: Relation>(
     journal: &Journal<R>,
     numbers: &[u32],
     entries: Vec<Numbered<R>>,
 ) -> Result<Vec<Numbered<R>>, AllocError>
     ensures placed { IfOk result (λ v.
-        map place_of v.items ≡ entries_at journal.now.entries numbers.now) }
+        map place_of v.items ≡ entries_at journal.now numbers.now) }
     ensures few { IfOk result (λ v. length v.items ≤ length numbers.now) }
 {
     let mut entries = entries;
@@ -117,14 +124,14 @@ pub fn numbered_of<R: Relation>(
     Ok(entries)
 }
 
-/// Adds the entry with this number, where there is one.
+/// Adds the entry with this number, where there is one that can be read.
 fn add_numbered<R: Relation>(
     entries: &mut Vec<Numbered<R>>,
     journal: &Journal<R>,
     number: u32,
 ) -> Result<(), AllocError>
     ensures placed { OnOk result (map place_of entries.new.items
-        ≡ map place_of entries.old.items ++ placed number (slice_get journal.now.entries number)) }
+        ≡ map place_of entries.old.items ++ entry_at journal.now number) }
     ensures few { OnOk result (length entries.new.items ≤ length entries.old.items + 1) }
 {
     if let Some(entry) = journal.get(number as usize) {

@@ -11,9 +11,9 @@ use uri_map::{Peer, is_same_peer};
 /// How many entries a search looks at in one round.
 const MOST_SEEN: usize = 4096;
 
-/// How many rounds a search takes at most. It looks at each entry of the journal three times: to
-/// find the answer, to find the connection, and to choose. Each of these begins with a round of its
-/// own.
+/// How many rounds a search takes at most. It looks at each entry that the journal holds three
+/// times: to find the answer, to find the connection, and to choose. Each of these begins with a
+/// round of its own.
 pub const MOST_GOES: usize = 64;
 
 /// What the entry is that a search begins at.
@@ -57,7 +57,8 @@ enum Stage {
 
 /// A search for the entries that tell of one request: its connection's, its own, those of the
 /// datagrams to and from its device until it was answered, its answer's, and those that the answer
-/// rests on. It looks at some entries at a time; meanwhile more may be added to the journal.
+/// rests on. It looks at some entries at a time; meanwhile more may be added to the journal. Entries
+/// that were given out aren't looked through.
 #[derive(Drop)]
 pub struct Search {
     /// the entry that it begins at
@@ -107,6 +108,7 @@ impl Search {
             self.stage = Stage::Done;
             return;
         };
+        let from = from.max(journal.given());
         let to = from.saturating_add(MOST_SEEN).min(journal.len());
         let answer = answer_in(journal, start, self.number, from, to);
         if answer.is_none() && to < journal.len() {
@@ -122,9 +124,9 @@ impl Search {
     /// Looks for the connection's entry, before this one, and then chooses what stands before the
     /// request.
     fn find_opened<R: Relation>(&mut self, journal: &Journal<R>, request: Request, before: usize) {
-        let from = before.saturating_sub(MOST_SEEN);
+        let from = before.saturating_sub(MOST_SEEN).max(journal.given());
         let opened = opened_in(journal, request.conn, from, before);
-        if opened.is_none() && from > 0 {
+        if opened.is_none() && from > journal.given() {
             self.stage = Stage::Opened(request, from);
             return;
         }
@@ -139,6 +141,7 @@ impl Search {
     /// Chooses the datagrams between the gateway and the device, from this entry on until the
     /// request is answered; and then the answer.
     fn choose_between<R: Relation>(&mut self, journal: &Journal<R>, request: Request, from: usize) {
+        let from = from.max(journal.given());
         let to = from.saturating_add(MOST_SEEN).min(request.end);
         let cause = cause_at(journal, request);
         'each: for number in from..to {

@@ -5,6 +5,6 @@ use Rattle.journal_extracts.proofs.extract.numbered_of.Given as goal
 
 abbrev pub invariant-each : goal.invariant-each
 invariant-each g l = record {
-  placed : map place_of l.entries.items ≡ entries_at l.journal.entries (take l.number-index l.numbers);
+  placed : map place_of l.entries.items ≡ entries_at l.journal (take l.number-index l.numbers);
   few : length l.entries.items ≤ l.number-index;
 }
