@@ -22,11 +22,10 @@ use Rattle.message_layer.specs.Sending.{waits, IsNext}
 use Rattle.message_layer.specs.Prepared.{at_once as next_list, IsUnnumberedCon}
 use Rattle.message_layer.specs.declared.prepared.FirstSending.{FirstSending}
 use Rattle.message_layer.specs.declared.state.Waiting.{Waiting}
-use Rattle.history_laws.specs.Readings.{entries}
-use Rattle.history_laws.proofs.CallerLemmas.{entries-length, issued-few}
 use Rattle.exchange_model.specs.declared.kept.Exchange.{Exchange}
 use Rattle.exchange_model.specs.declared.kept.Reader.{Reader}
 use Rattle.exchange_model.specs.State.{State, link_of}
+use Rattle.exchange_model.proofs.CallerLemmas.{within-limits}
 use Rattle.exchange_core.specs.declared.fault.AskFault.{AskFault}
 use Rattle.exchange_core.specs.declared.fault.AskFault.TheVariants as Ask
 use Rattle.exchange_core.specs.declared.state.State.{State as RustState}
@@ -41,19 +40,14 @@ use Rattle.exchange_core.specs.Values.{Outgoing}
 use Rattle.exchange_core.specs.Watching.{observed_by}
 use Rattle.exchange_core.proofs.Begins.{sound-begun, begun-so, sound-sealed, sealed-so}
 use Rattle.exchange_core.proofs.MatterBy.{unnumbered as con-under}
-use Rattle.exchange_core.proofs.Sounding.{place-left, roomier}
+use Rattle.exchange_core.proofs.Sounding.{roomier}
 
--- as many tokens were issued as there are entries, at most
+-- the numbers of tokens have 32 bits
 pub issued-below : (S : State) (bytes room : ℕ) (gs : List Given) → SoundState S bytes room gs → S.issued < 4294967295
 issued-below S bytes room gs s =
-    let r = s.kept.kept.rests.reads in
-    let few = issued-few s.kept.kept.reading in
-    let is = r.issued_are in
-    let len = entries-length s.kept.kept.reading in
-    let same : length (entries s.kept.kept.reading) ≡ length S.entries = ap (λ (xs : List Written). length xs) r.entries_are in
-    let left = place-left S bytes room gs s in
-    let begins = r.few.0 in
-    omega (arith, few, is, len, same, left, begins)
+    let held = (within-limits S s.kept).0 in
+    let within = s.kept.here.counted.within in
+    let issued = s.kept.here.counted.issued in omega (arith, held, within, issued)
 
 -- where nothing but places changes
 sound-same : (S S1 : State) (bytes bytes1 room room1 : ℕ) (gs gs1 : List Given) → SoundState S bytes room gs

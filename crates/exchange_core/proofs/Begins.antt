@@ -257,7 +257,7 @@ module _ (t word c : ℕ) (m : Mapping) (p : Peer) (token text : List ℕ) (S : 
           (second-of S.sealed S (cond (fits (asked t c a n S)) (asked t c a n S) (seals t S)) b.unsealed rests) in
           let drained : IsDrained S1 = subst IsDrained (sym (begun-is b h next)) ((stays-drained t S s.drained).0 c a b.spelled.request n) in
           subst (λ (U : State). SoundState U bytes1 room1 gs1) (sym at)
-          (sound-drafted t S S1 bytes bytes1 room room1 gs gs1 ds d s (answers-none t S ds d h none) refl b.early refl
+          (sound-drafted t S S1 bytes bytes1 room room1 gs gs1 ds d s (answers-none t S ds d h none) refl refl b.early refl
           (subst KeptInRoom (sym is) kept) drained bs rs gave)
 
       pub begun-so : (S2 : State) (gs1 : List Given) (os1 : List Outgoing) → fits (with_draft t d S) ≡ true → S2 ≡ S1

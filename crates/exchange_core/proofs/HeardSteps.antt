@@ -262,7 +262,7 @@ module _ (t word : ℕ) (p : Peer) (d : List ℕ) (S : State) (link : LinkValue)
         ∙ (sym (heard-so t word p d S link h k i at made ws gone comes (idle-waits p S s.kept.kept) watched) ∙ sym new-is))
         ((stays-drained t S s.drained).1 p d h.heeding.mid h.heeding.token h.heeding.verdict f) in
         subst (λ (V : State). SoundState V bytes1 room1 gs1) (sym is)
-        (sound-drafted t S U bytes bytes1 room room1 gs gs1 _ dv s drafted refl early refl
+        (sound-drafted t S U bytes bytes1 room room1 gs gs1 _ dv s drafted refl refl early refl
         (subst KeptInRoom (in-room fit) kept) drained bs rs gave)
 
     so-by : (os : List Outgoing) (v : CoreValue) → v ≡ stepped (hears_in_room t p d n S) (core_of S gs os) → HearsSo t word p d (core_of S gs os) v

@@ -64,7 +64,7 @@ module _ (t c o : ℕ) (a : Ask) (S : State) (d : DraftValue) (h : Drafts t S (A
         let V = with_reader t a.sense (reader_of (length S.entries) c o) (with_draft t d S) in
         let drained : IsDrained V = record { once = s.drained.once; out = s.drained.out } in
         subst (λ (U : State). SoundState U bytes1 room1 gs1) (sym is)
-        (sound-drafted t S V bytes bytes1 room room1 gs gs1 (Asks c a ∷ []) d s (answers-none t S _ d h none) refl early refl
+        (sound-drafted t S V bytes bytes1 room room1 gs gs1 (Asks c a ∷ []) d s (answers-none t S _ d h none) refl refl early refl
         (subst KeptInRoom (sym joined-is) (first-of (fits (joins t c a o S)) (joins t c a o S) (seals t S) (fit-same ∙ fit) j.kept)) drained bs rs gave)
 
     pub join-steps : (S2 : State) (gs1 : List Given) (os1 : List Outgoing) (n : Numbers) → fits (with_draft t d S) ≡ true

@@ -48,3 +48,8 @@ mod Watched
 mod Notified
 mod Started
 mod HeardNotes
+mod Read
+mod ComesHere
+mod Naming
+mod Gives
+mod TickFull

@@ -9,8 +9,11 @@ use Rattle.resp_cache.specs.Stored.{Stored}
 use Rattle.resp_cache.specs.Stores.{is_stale_under, stale_under, stored_in}
 use Rattle.resp_cache.specs.declared.pair.Pair.{Pair}
 use Rattle.journal_book.specs.Entries.{Written}
+use Rattle.journal_book.specs.Journals.{IsHere}
 use Rattle.history_laws.proofs.CallerLemmas.{got-last, some-is}
+use Rattle.exchange_model.specs.Memory.{IsLast}
 use Rattle.exchange_model.specs.Steps.{as_pieces, if_tagged, is_piece_at}
+use Rattle.exchange_core.specs.Reading.{IsPairHere}
 use Rattle.exchange_core.specs.Renewing.{AreAskable, IsAskable, IsListed, IsPiece, IsRenewedLast, IsShortTag, ends_as_heard, ends_heard, hears_valid, is_as_heard, stale_read}
 use Rattle.exchange_core.proofs.Settling.{last-got}
 
@@ -64,6 +67,16 @@ heard-none ws (j ∷ js) e = absurd (there js j e)
         by : (is : List ℕ) (i : ℕ) → slice_get (i ∷ is) (length is) ≡ None → ⊥
         by [] i g = absurd (none-some i (sym g))
         by (m ∷ is) i g = by is m g
+
+-- What is so of the last is so of that.
+pub last-here : (P : ℕ → Type 0) (js : List ℕ) (n : ℕ) → slice_get js (length js - 1) ≡ Some n → IsLast P js → P n
+last-here P [] n e h = absurd (none-some n e)
+last-here P (j ∷ js) n e h =
+    by js j (subst (λ (i : ℕ). slice_get (j ∷ js) i ≡ Some n) (let same : length (j ∷ js) - 1 ≡ length js = omega arith in same) e) h
+  where
+    by : (is : List ℕ) (i : ℕ) → slice_get (i ∷ is) (length is) ≡ Some n → IsLast P (i ∷ is) → P n
+    by [] i g k = subst P (some-is i n g) k
+    by (m ∷ is) i g k = by is m g k
 
 pub heard-ends : (ws : List Written) (js : List ℕ) → IsListed ws js → ends_heard ws js ≡ list_all (is_piece_at ws) js
 heard-ends ws js l = by (slice_get js (length js - 1)) refl
@@ -119,6 +132,16 @@ stale-askable ws k t s (p ∷ ps) a e = by (is_stale_under k t p) e (stale-askab
   where
     by : (b : Bool) → stored_in (cond b (Some p) (find (is_stale_under k t) ps)) ≡ Some s → (stored_in (find (is_stale_under k t) ps) ≡ Some s → IsAskable ws s) → IsAskable ws s
     by true f ih = subst (IsAskable ws) (some-is p.stored s f) a.0
+    by false f ih = ih f
+
+pub stale-here : (given : ℕ) (kept : List ℕ) (k : CacheKey) (t : ℕ) (s : Stored) (ps : List Pair) → AllByRecursion (IsPairHere given kept) ps
+    → stale_under k t ps ≡ Some s → IsLast (IsHere given kept) s.list
+stale-here given kept k t s [] a e = absurd (none-some s e)
+stale-here given kept k t s (p ∷ ps) a e = by (is_stale_under k t p) e (stale-here given kept k t s ps a.1)
+  where
+    by : (b : Bool) → stored_in (cond b (Some p) (find (is_stale_under k t) ps)) ≡ Some s
+        → (stored_in (find (is_stale_under k t) ps) ≡ Some s → IsLast (IsHere given kept) s.list) → IsLast (IsHere given kept) s.list
+    by true f ih = subst (λ (v : Stored). IsLast (IsHere given kept) v.list) (some-is p.stored s f) a.0
     by false f ih = ih f
 
 tagged-short : (ws : List Written) (u s : Stored) (b : Bool) → IfSome u.response.etag IsShortTag → option_map (as_pieces ws) (cond b (Some u) None) ≡ Some s

@@ -36,6 +36,7 @@ use Rattle.exchange_core.specs.declared.matter.Starting.{Starting}
 use Rattle.exchange_core.specs.declared.notifying.Watching.{Watching}
 use Rattle.exchange_core.specs.Matters.{IsMatter, more_in, IsNextToken, IsPrepared, matter_for}
 use Rattle.exchange_core.proofs.MatterBy.{prepared-still}
+use Rattle.exchange_core.specs.Reading.{IsWatchHere}
 use Rattle.exchange_core.specs.Notifying.{IsNoted, IsWatchedBy, IsWatchedFor, ReadsSo, is_alone, matter_alone, matter_told, registered_by, registered_for, unless_more}
 use Rattle.blockwise.specs.Downloads.{no_pieces}
 use Rattle.reply_reading.specs.Findings.{Found}
@@ -110,6 +111,11 @@ pub counted-watched : (ws : List Written) (q : Registration → Bool) (rs : List
     → AllByRecursion (IsWatchedFor ws) rs → Some r ≡ if_counts notice t (find q rs) → IsWatchedFor ws r
 counted-watched ws q rs notice t r all e =
     all-of (IsWatchedFor ws) rs r all (find-some q rs r (counted-found notice t (find q rs) r e)).0
+
+pub watch-here : (given : ℕ) (kept : List ℕ) (q : Registration → Bool) (rs : List Registration) (notice : Notice) (t : ℕ) (r : Registration)
+    → AllByRecursion (IsWatchHere given kept) rs → Some r ≡ if_counts notice t (find q rs) → IsWatchHere given kept r
+watch-here given kept q rs notice t r all e =
+    all-of (IsWatchHere given kept) rs r all (find-some q rs r (counted-found notice t (find q rs) r e)).0
 
 -- what isn't found
 

@@ -1,18 +1,19 @@
 -- Who waits for an exchange, and what they are told.
-use Rattle.std.proofs.Common.{◌≡◌, ℕ, ◌+◌, ◌<◌, ◌≤◌, suc, zero, List, [], ◌∷◌, length, map, Option, Some, None, refl, sym, ap, subst, ◌∙◌, arith}
-use Rattle.std.specs.Prelude.{filter_map, option_map, slice_get}
+use Rattle.std.proofs.Common.{◌≡◌, ℕ, ◌+◌, ◌≤◌, suc, List, [], ◌∷◌, length, map, Option, Some, None, refl, sym, ap, subst, ◌∙◌, arith}
+use Rattle.std.specs.Prelude.{filter_map, option_map}
 use Rattle.std.specs.List.{AllByRecursion, cons_option}
+use Rattle.std.proofs.lemmas.List.Sums.{count_by-le-length}
 use Rattle.journal_book.specs.Entries.{Deed, Written}
 use Rattle.history_laws.proofs.CallerLemmas.{all-more}
 use Rattle.exchange_model.specs.declared.kept.Exchange.{Exchange}
 use Rattle.exchange_model.specs.declared.kept.Reader.{Reader}
 use Rattle.exchange_model.specs.Calls.{read_by, timeout_for, told_late}
 use Rattle.exchange_model.specs.Entering.{answer_of}
-use Rattle.exchange_model.specs.Growing.{IsKnown, RiseByAsk}
-use Rattle.exchange_model.specs.Room.{KeptInRoom}
+use Rattle.exchange_model.specs.Growing.{IsKnown}
+use Rattle.exchange_model.specs.Room.{KeptInRoom, asks_waiting, has_asked}
 use Rattle.exchange_model.specs.State.{State}
 use Rattle.exchange_model.specs.Resting.{HasConn}
-use Rattle.exchange_model.proofs.CallerLemmas.{conns-tell, kept-served, readers-known, readers-rise, within-limits}
+use Rattle.exchange_model.proofs.CallerLemmas.{conns-tell, few-waiting, kept-served, readers-known}
 use Rattle.exchange_core.specs.Asked.{IsAskedIn}
 use Rattle.exchange_core.specs.Ending.{IsTold, deed_of, late_of, out_of_time}
 
@@ -33,37 +34,17 @@ waits-on S c p k has =
     (λ r waits on. sym (tells p has).1 ∙ (tells (Some r.ask) (subst (λ (d : ℕ). HasConn S.conns d (Some r.ask)) on waits)).1)
     S.readers (kept-served l S reads).waits
 
--- There are no more than entries.
+-- They are no more than wait for an answer, and no more than are connected.
 
-place-in : {X : Type 0} (xs : List X) (i : ℕ) (x : X) → slice_get xs i ≡ Some x → i < length xs
-place-in [] i x e = absurd cc
-place-in (y ∷ ys) zero x e = omega arith
-place-in (y ∷ ys) (suc i) x e = let below = place-in ys i x e in omega (arith, below)
-
-count-rising : (n b : ℕ) (rs : List Reader) → b ≤ n → AllByRecursion (λ (r : Reader). b ≤ r.ask) rs
-    → RiseByAsk rs → AllByRecursion (λ (r : Reader). r.ask < n) rs → length rs + b ≤ n
-count-rising n b [] le low rise high = omega (arith, le)
-count-rising n b (r ∷ rs) le low rise high =
-    let least = low.0 in
-    let here = high.0 in
-    let rest =
-    count-rising n (r.ask + 1) rs (omega (arith, here))
-    (all-more (λ (y : Reader). r.ask < y.ask) (λ (y : Reader). r.ask + 1 ≤ y.ask)
-    (λ y lt. omega (arith, lt)) rs rise.0) rise.1 high.1 in
-    omega (arith, rest, least)
-
-all-above : (rs : List Reader) → AllByRecursion (λ (r : Reader). 0 ≤ r.ask) rs
-all-above [] = tt
-all-above (r ∷ rs) = (omega arith, all-above rs)
-
-pub few-readers : (S : State) → KeptInRoom S → length S.readers ≤ 65536
+pub few-readers : (S : State) → KeptInRoom S → length S.readers ≤ asks_waiting S
 few-readers S k =
-    let limit = (within-limits S k).0 in
-    let few =
-    count-rising (length S.entries) 0 S.readers (omega arith) (all-above S.readers) (readers-rise S k)
-    (all-more (IsKnown S) (λ (r : Reader). r.ask < length S.entries)
-    (λ r h. place-in S.entries r.ask _ h.stands) S.readers (readers-known S k)) in
-    omega (arith, few, limit)
+    let served = kept-served k.kept.reading S k.kept.rests.reads in
+    few-waiting S.readers S.conns served.waits served.apart
+
+pub readers-connected : (S : State) → KeptInRoom S → length S.conns ≤ 256 → length S.readers ≤ 256
+readers-connected S k few =
+    let waiting = few-readers S k in
+    let all = count_by-le-length has_asked S.conns in omega (arith, waiting, all, few)
 
 -- No more are told.
 pub few-told : {X : Type 0} (f : Reader → Option X) (rs : List Reader)

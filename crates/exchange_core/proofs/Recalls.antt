@@ -229,7 +229,7 @@ module _ (t c : ℕ) (m : Mapping) (s : Stored) (S : State) (d : DraftValue)
     recall-sound S2 bytes1 room1 gs1 early fit is bs rs gave =
         let drained : IsDrained V = record { once = sound.drained.once; out = sound.drained.out } in
         subst (λ (W : State). SoundState W bytes1 room1 gs1) (sym is)
-        (sound-drafted t S V bytes bytes1 room room1 gs gs1 (recall_deeds c (ask_of m) s S) d sound drafted refl early refl
+        (sound-drafted t S V bytes bytes1 room room1 gs gs1 (recall_deeds c (ask_of m) s S) d sound drafted refl refl early refl
         (subst KeptInRoom (sym recalled-is) (first-of (fits U) U (seals t S) (fit-same ∙ fit) j.kept)) drained bs rs gave)
 
     pub recall-steps : (S2 : State) (gs1 : List Given) (os1 : List Outgoing) (n : Numbers) → fits (with_draft t d S) ≡ true → S2 ≡ V

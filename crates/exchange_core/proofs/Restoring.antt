@@ -12,7 +12,7 @@ use Rattle.exchange_core.specs.Values.{CoreValue, Outgoing}
 use Rattle.exchange_core.proofs.Sounding.{seals-few}
 
 pub restored-sound : (s : SnapshotValue) (S S1 : State) (bytes room bytes1 room1 : ℕ) (gs gs1 : List Given) (os : List Outgoing)
-    → SoundState S bytes room gs → MayRestore s (core_of S gs os) → S1 ≡ restored (take s.count S.entries) s → bytes1 ≡ s.bytes
+    → SoundState S bytes room gs → MayRestore s (core_of S gs os) → S1 ≡ restored (take s.count S.entries) S.given S.kept s → bytes1 ≡ s.bytes
     → gs1 ≡ s.answers
     → (s.count ≤ length S.entries → min (room + length S.entries) (s.count + 1024) ≤ room1 + s.count)
     → SoundState S1 bytes1 room1 gs1
@@ -28,7 +28,10 @@ restored-sound s S S1 bytes room bytes1 room1 gs gs1 os sound may is bs gave lef
     let front : take s.count S.entries ≡ old.state.entries =
     ap (λ (ws : List Written). take s.count ws) grown ∙ take_at old.state.entries more s.count (sym count) in
     let same : S1 ≡ old.state =
-    is ∙ (ap (λ (ws : List Written). restored ws s) front ∙ ap (λ (v : CoreValue). v.state) taken.shows) in
+    is ∙ (ap (λ (ws : List Written). restored ws S.given S.kept s) front
+    ∙ (ap (λ (n : ℕ). restored old.state.entries n S.kept s) may.given
+    ∙ (ap (λ (ks : List ℕ). restored old.state.entries old.state.given ks s) may.kept
+    ∙ ap (λ (v : CoreValue). v.state) taken.shows))) in
     let held = held-before old.state S more was.kept sound.kept grown in
     let places = sound.places in
     let few = was.few in

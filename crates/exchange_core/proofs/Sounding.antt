@@ -1,5 +1,5 @@
 -- What the type of a core keeps, after entries have come.
-use Rattle.std.proofs.Common.{◌≡◌, ℕ, ◌+◌, ◌-◌, ◌^◌, ◌≤◌, ◌<◌, min, Bool, true, false, cond, List, [], ◌∷◌, ◌++◌, length, Option, None, refl, sym, ap, subst, ◌∙◌, arith, length-append, append-nil}
+use Rattle.std.proofs.Common.{◌≡◌, ℕ, ◌+◌, ◌-◌, ◌^◌, ◌≤◌, ◌<◌, min, Bool, true, false, cond, List, [], ◌∷◌, ◌++◌, drop, length, Option, None, refl, sym, ap, subst, ◌∙◌, arith, length-append, append-nil}
 use Rattle.std.specs.Prelude.{sum_by}
 use Rattle.std.specs.List.{AllByRecursion}
 use Rattle.std.specs.Prelude.{not}
@@ -8,12 +8,9 @@ use Rattle.std.specs.Prelude.{count_by}
 use Rattle.std.proofs.lemmas.Bool.{eq-eqb}
 use Rattle.std.proofs.lemmas.List.Sums.{sum_by-append, length-filter, count_by-le-length}
 use Rattle.ask_model.specs.Sizes.{capped}
-use Rattle.journal_book.specs.Entries.{Deed, Opens, Written, entry_size}
-use Rattle.history_laws.specs.Readings.{Noted, entries}
-use Rattle.history_laws.proofs.CallerLemmas.{entries-length}
+use Rattle.journal_book.specs.Entries.{Deed, Written, entry_size}
 use Rattle.exchange_model.specs.declared.kept.Conn.{Conn}
 use Rattle.exchange_model.specs.State.{State}
-use Rattle.exchange_model.specs.Reads.{opens_once, opens_in}
 use Rattle.exchange_model.specs.Room.{asks_waiting, KeptInRoom, seals_left}
 use Rattle.exchange_model.specs.Entering.{IsDrained}
 use Rattle.exchange_model.specs.Resting.{HasConn}
@@ -29,7 +26,8 @@ use Rattle.exchange_model.specs.State.{PeerLink}
 use Rattle.exchange_model.specs.Growing.{conns_with}
 use Rattle.exchange_core.specs.Drafts.{DraftValue, IsDrafted}
 use Rattle.exchange_core.specs.States.{with_draft}
-use Rattle.exchange_model.proofs.CallerLemmas.{count-cons, fits-parts, one, opens-in-room, rotates-drained, rotates-in-room, shuts-in-room, start-in-room, within-limits}
+use Rattle.exchange_model.specs.Memory.{most_entries}
+use Rattle.exchange_model.proofs.CallerLemmas.{count-cons, fits-parts, more-behind, one, opens-in-room, rotates-drained, rotates-in-room, shuts-in-room, start-in-room, within-limits}
 use Rattle.exchange_model.specs.Rotating.{fault_of, turned}
 use Rattle.exchange_core.specs.Answering.{Given, IsGiven}
 use Rattle.exchange_core.specs.Sound.{SoundState}
@@ -41,11 +39,14 @@ small-count b m top small large = omega arith
 
 pub sound-more : (S S1 : State) (bytes bytes1 room room1 : ℕ) (gs gs1 more : List Given) (ws : List Written)
     → SoundState S bytes room gs → KeptInRoom S1 → IsDrained S1 → S1.moment ≤ 2 ^ 62 → length S1.conns ≤ 256
-    → S1.entries ≡ S.entries ++ ws → bytes1 ≡ capped (bytes + capped (sum_by entry_size ws)) → length S1.conns + seals_left S1.sealed ≤ room1
+    → S1.entries ≡ S.entries ++ ws → S1.given ≡ S.given → bytes1 ≡ capped (bytes + capped (sum_by entry_size ws)) → length S1.conns + seals_left S1.sealed ≤ room1
     → gs1 ≡ gs ++ more → AllByRecursion (IsGiven S1.entries) more
     → SoundState S1 bytes1 room1 gs1
-sound-more S S1 bytes bytes1 room room1 gs gs1 more ws s kept drained early few es bs rs gave given =
-    let sums : sum_by entry_size S1.entries ≡ sum_by entry_size S.entries + sum_by entry_size ws = ap (sum_by entry_size) es ∙ sum_by-append entry_size S.entries ws in
+sound-more S S1 bytes bytes1 room room1 gs gs1 more ws s kept drained early few es still bs rs gave given =
+    let sums : sum_by entry_size (drop S1.given S1.entries) ≡ sum_by entry_size (drop S.given S.entries) + sum_by entry_size ws =
+    ap (λ (k : ℕ). sum_by entry_size (drop k S1.entries)) still
+    ∙ ap (λ (vs : List Written). sum_by entry_size (drop S.given vs)) es
+    ∙ more-behind entry_size S.given S.entries ws s.kept.here.counted.within in
     let limits = within-limits S1 kept in
     let small : bytes + sum_by entry_size ws ≤ 268435456 = let c = s.count in let l = limits.1 in omega (arith, c, l, sums) in
     record {
@@ -88,41 +89,35 @@ roomier S bytes room room1 gs s more =
       given = s.given;
     }
 
+-- all numbers have 32 bits
+pub all-below : (S : State) → KeptInRoom S → length S.entries + length S.conns + asks_waiting S ≤ most_entries
+all-below S k =
+    let held = (within-limits S k).0 in
+    let given = k.here.numbered in omega (arith, held, given)
+
+pub few-entries : (S : State) → KeptInRoom S → length S.entries ≤ most_entries
+few-entries S k = let all = all-below S k in omega (arith, all)
+
 -- there is a place for each Shut, and for the seal
 pub place-left : (S : State) (bytes room : ℕ) (gs : List Given) → SoundState S bytes room gs
-    → length S.entries + length S.conns + asks_waiting S ≤ 65536
-place-left S bytes room gs s = (within-limits S s.kept).0
+    → length S.entries + length S.conns + asks_waiting S ≤ most_entries
+place-left S bytes room gs s = all-below S s.kept
 
--- as many connections were opened as there are entries, at most
-opened-once : (d : Deed) (old : ℕ) → opens_once d old ≤ old + 1
-opened-once (Opens c) old = omega arith
-opened-once d old = omega arith
-
-opened-few : (l : List Noted) → opens_in l ≤ length l
-opened-few [] = omega arith
-opened-few (x ∷ older) =
-    let ih = opened-few older in
-    let one = opened-once x.written.deed (opens_in older) in omega (arith, ih, one)
-
+-- so have those of connections
 pub opened-below : (S : State) (bytes room : ℕ) (gs : List Given) → SoundState S bytes room gs → S.opened < 4294967295
 opened-below S bytes room gs s =
-    let r = s.kept.kept.rests.reads in
-    let few = opened-few s.kept.kept.reading in
-    let is = r.opens_are in
-    let begins = r.few.1 in
-    let len = entries-length s.kept.kept.reading in
-    let same : length (entries s.kept.kept.reading) ≡ length S.entries = ap (λ (xs : List Written). length xs) r.entries_are in
-    let left = place-left S bytes room gs s in
-    omega (arith, few, is, begins, len, same, left)
+    let held = (within-limits S s.kept).0 in
+    let within = s.kept.here.counted.within in
+    let opened = s.kept.here.counted.opened in omega (arith, held, within, opened)
 
 -- one entry more, which is no answer
 one-more : (S S1 : State) (bytes bytes1 room room1 : ℕ) (gs gs1 : List Given) (w : Written)
     → SoundState S bytes room gs → KeptInRoom S1 → IsDrained S1 → S1.moment ≤ 2 ^ 62 → length S1.conns ≤ 256
-    → S1.entries ≡ S.entries ++ w ∷ [] → entry_size w ≡ 64 → bytes1 ≡ capped (bytes + 64) → length S1.conns + seals_left S1.sealed ≤ room1 → gs1 ≡ gs
+    → S1.entries ≡ S.entries ++ w ∷ [] → S1.given ≡ S.given → entry_size w ≡ 64 → bytes1 ≡ capped (bytes + 64) → length S1.conns + seals_left S1.sealed ≤ room1 → gs1 ≡ gs
     → SoundState S1 bytes1 room1 gs1
-one-more S S1 bytes bytes1 room room1 gs gs1 w s kept drained early few es size bs rs same =
+one-more S S1 bytes bytes1 room room1 gs gs1 w s kept drained early few es still size bs rs same =
     let sum : sum_by entry_size (w ∷ []) ≡ 64 = omega (arith, size) in
-    sound-more S S1 bytes bytes1 room room1 gs gs1 [] (w ∷ []) s kept drained early few es
+    sound-more S S1 bytes bytes1 room room1 gs gs1 [] (w ∷ []) s kept drained early few es still
     (bs ∙ ap (λ (k : ℕ). capped (bytes + capped k)) (sym sum)) rs (same ∙ sym (append-nil gs)) tt
 
 -- which of two states it is
@@ -145,7 +140,7 @@ sound-open t S S1 bytes bytes1 room room1 gs gs1 s unsealed fit later early few 
     let d = s.drained in
     let len : length (opens t S).conns ≡ length S.conns + 1 = length-append S.conns (record { id = S.opened; pending = None } ∷ []) in
     subst (λ (U : State). SoundState U bytes1 room1 gs1) (sym is)
-    (one-more S (opens t S) bytes bytes1 room room1 gs gs1 _ s kept (record { once = d.once; out = d.out }) early (omega (arith, len, few)) refl refl bs
+    (one-more S (opens t S) bytes bytes1 room room1 gs gs1 _ s kept (record { once = d.once; out = d.out }) early (omega (arith, len, few)) refl refl refl bs
     (let one = seals-few S.sealed in omega (arith, len, one, rs)) same)
 
 pub sound-seal : (t : ℕ) (S S1 : State) (bytes bytes1 room room1 : ℕ) (gs gs1 : List Given)
@@ -158,7 +153,7 @@ sound-seal t S S1 bytes bytes1 room room1 gs gs1 s unsealed kept early is bs rs 
     let p = s.places in
     let one = seal-held S.sealed unsealed in
     subst (λ (U : State). SoundState U bytes1 room1 gs1) (sym is)
-    (one-more S (seals t S) bytes bytes1 room room1 gs gs1 _ s kept (record { once = d.once; out = d.out }) early few refl refl bs
+    (one-more S (seals t S) bytes bytes1 room room1 gs gs1 _ s kept (record { once = d.once; out = d.out }) early few refl refl refl bs
     (omega (arith, p, one, rs)) same)
 
 pub unopened : (t : ℕ) (S : State) → KeptInRoom S → S.sealed ≡ false → fits (opens t S) ≡ false → S.moment ≤ t → KeptInRoom (seals t S)
@@ -203,15 +198,15 @@ sound-shut t c p S S1 bytes bytes1 room room1 gs gs1 s has later early is bs rs 
     let most = fewer S.conns c p has in
     let held = s.places in
     subst (λ (U : State). SoundState U bytes1 room1 gs1) (sym is)
-    (one-more S (shuts t c S) bytes bytes1 room room1 gs gs1 _ s (shuts-in-room t c p S s.kept later has) (record { once = d.once; out = d.out }) early (omega (arith, less, few, most)) refl refl bs
+    (one-more S (shuts t c S) bytes bytes1 room room1 gs gs1 _ s (shuts-in-room t c p S s.kept later has) (record { once = d.once; out = d.out }) early (omega (arith, less, few, most)) refl refl refl bs
     (omega (arith, less, most, held, rs)) same)
 
 -- a core with no entry
-pub sound-start : (h : List Written) (cs : List Conn) (es : List Exchange) (fs : List Piece) (qs : List Stale) (rs : List Reader) (us : List Registration) (ps : List Pair) (xs : List PeerLink) (gs : List Given) (room : ℕ)
-    → h ≡ [] → cs ≡ [] → es ≡ [] → fs ≡ [] → qs ≡ [] → rs ≡ [] → us ≡ [] → ps ≡ [] → xs ≡ [] → gs ≡ [] → 1 ≤ room
-    → SoundState (record { entries = h; sealed = false; moment = 0; opened = 0; issued = 0; conns = cs; exchanges = es; pieces = fs; stales = qs; readers = rs; watches = us; store = ps; links = xs }) 0 room gs
-sound-start h cs es fs qs rs us ps xs gs room a b c f q r u p d e large =
-    rw (a, b, c, f, q, r, u, p, d, e) (record {
+pub sound-start : (h : List Written) (given : ℕ) (kept : List ℕ) (cs : List Conn) (es : List Exchange) (fs : List Piece) (qs : List Stale) (rs : List Reader) (us : List Registration) (ps : List Pair) (xs : List PeerLink) (gs : List Given) (room : ℕ)
+    → h ≡ [] → given ≡ 0 → kept ≡ [] → cs ≡ [] → es ≡ [] → fs ≡ [] → qs ≡ [] → rs ≡ [] → us ≡ [] → ps ≡ [] → xs ≡ [] → gs ≡ [] → 1 ≤ room
+    → SoundState (record { entries = h; sealed = false; given = given; kept = kept; moment = 0; opened = 0; issued = 0; conns = cs; exchanges = es; pieces = fs; stales = qs; readers = rs; watches = us; store = ps; links = xs }) 0 room gs
+sound-start h given kept cs es fs qs rs us ps xs gs room a g k b c f q r u p d e large =
+    rw (a, g, k, b, c, f, q, r, u, p, d, e) (record {
       kept = start-in-room;
       drained = record { once = tt; out = tt };
       early = omega arith;
@@ -223,27 +218,28 @@ sound-start h cs es fs qs rs us ps xs gs room a b c f q r u p d e large =
 
 -- what was drafted has come
 pub sound-drafted : (t : ℕ) (S S1 : State) (bytes bytes1 room room1 : ℕ) (gs gs1 : List Given) (ds : List Deed) (d : DraftValue)
-    → SoundState S bytes room gs → IsDrafted t S ds d → S1.entries ≡ S.entries ++ d.entries → S1.moment ≤ 2 ^ 62
+    → SoundState S bytes room gs → IsDrafted t S ds d → S1.entries ≡ S.entries ++ d.entries → S1.given ≡ S.given → S1.moment ≤ 2 ^ 62
     → S1.conns ≡ conns_with S.conns (length S.entries) d.entries
     → KeptInRoom S1 → IsDrained S1 → bytes1 ≡ capped (bytes + capped (sum_by entry_size d.entries)) → length S.conns + 1 ≤ room1
     → gs1 ≡ gs ++ d.answers
     → SoundState S1 bytes1 room1 gs1
-sound-drafted t S S1 bytes bytes1 room room1 gs gs1 ds d s h es early conns kept drained bs rs gave =
+sound-drafted t S S1 bytes bytes1 room room1 gs gs1 ds d s h es still early conns kept drained bs rs gave =
     let few = s.few in
     let open_now : length S1.conns ≡ length S.conns = ap (λ (cs : List Conn). length cs) conns ∙ conns-keep d.entries (length S.entries) S.conns h.drafts.keep in
     sound-more S S1 bytes bytes1 room room1 gs gs1 d.answers d.entries s kept drained early (omega (arith, open_now, few))
-    es bs (let one = seals-few S1.sealed in omega (arith, open_now, one, rs)) gave (subst (λ (ws : List Written). AllByRecursion (IsGiven ws) d.answers) (sym es) h.given)
+    es still bs (let one = seals-few S1.sealed in omega (arith, open_now, one, rs)) gave (subst (λ (ws : List Written). AllByRecursion (IsGiven ws) d.answers) (sym es) h.given)
 
 -- what fits is within the limits
-pub few-for : (t : ℕ) (S : State) (d : DraftValue) → fits (with_draft t d S) ≡ true → length S.entries + length d.entries ≤ 65536
-few-for t S d fit =
+pub few-for : (t : ℕ) (S : State) (d : DraftValue) → KeptInRoom S → fits (with_draft t d S) ≡ true → length S.entries + length d.entries ≤ most_entries
+few-for t S d k fit =
     let e = (fits-parts (with_draft t d S) fit).0 in
-    let len = length-append S.entries d.entries in omega (arith, e, len)
+    let given = k.here.numbered in
+    let len = length-append S.entries d.entries in omega (arith, e, given, len)
 
-pub few-in : (S V : State) (d : DraftValue) → V.entries ≡ S.entries ++ d.entries → KeptInRoom V → length S.entries + length d.entries ≤ 65536
+pub few-in : (S V : State) (d : DraftValue) → V.entries ≡ S.entries ++ d.entries → KeptInRoom V → length S.entries + length d.entries ≤ most_entries
 few-in S V d es kept =
     let all : length V.entries ≡ length S.entries + length d.entries = ap (λ (ws : List Written). length ws) es ∙ length-append S.entries d.entries in
-    let limit = (within-limits V kept).0 in omega (arith, all, limit)
+    let limit = all-below V kept in omega (arith, all, limit)
 
 capped-small : (n : ℕ) → n ≤ 268435456 → capped n ≡ n
 capped-small n small = omega (arith, small)
@@ -260,7 +256,11 @@ sound-turned t S S1 bytes bytes1 room room1 gs gs1 s later early fit is count pl
       drained = subst IsDrained (sym is) (rotates-drained t S s.drained);
       early = let m = ap (λ (U : State). U.moment) is in omega (arith, m, early);
       few = let cs = ap (λ (U : State). length U.conns) is in omega (arith, cs);
-      count = count ∙ (let small = (within-limits S1 kept).1 in capped-small (sum_by entry_size S1.entries) small);
+      count =
+          let whole : sum_by entry_size (drop S1.given S1.entries) ≡ sum_by entry_size S1.entries =
+          ap (λ (k : ℕ). sum_by entry_size (drop k S1.entries)) (ap (λ (U : State). U.given) is) in
+          let small = (within-limits S1 kept).1 in
+          count ∙ (capped-small (sum_by entry_size S1.entries) (omega (arith, small, whole)) ∙ sym whole);
       places =
           let closed = ap (λ (U : State). length U.conns) is in
           let unsealed = ap (λ (U : State). seals_left U.sealed) is in

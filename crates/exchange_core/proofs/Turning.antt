@@ -22,12 +22,12 @@ use Rattle.exchange_model.specs.Rotating.{RotateFault, Crowded, are_few, copied_
 use Rattle.endpoint_table.specs.Keeping.{is_any, marked}
 use Rattle.endpoint_table.proofs.CallerLemmas.{copies-kept}
 
-pub state-turned : (t : ℕ) (S : State) (ws : List Written) (cs : List Conn) (es : List Exchange) (gs : List Piece) (qs : List Stale) (rs : List Reader) (us : List Registration) (ps : List Pair) (xs : List PeerLink)
-    → ws ≡ copied_entries t S → cs ≡ [] → es ≡ [] → gs ≡ [] → qs ≡ [] → rs ≡ [] → us ≡ [] → ps ≡ map (pair_at ws) (taken t S)
+pub state-turned : (t : ℕ) (S : State) (ws : List Written) (given : ℕ) (kept : List ℕ) (cs : List Conn) (es : List Exchange) (gs : List Piece) (qs : List Stale) (rs : List Reader) (us : List Registration) (ps : List Pair) (xs : List PeerLink)
+    → ws ≡ copied_entries t S → given ≡ 0 → kept ≡ [] → cs ≡ [] → es ≡ [] → gs ≡ [] → qs ≡ [] → rs ≡ [] → us ≡ [] → ps ≡ map (pair_at ws) (taken t S)
     → xs ≡ filter (has_copy ws) (map (keep_peer t) S.links)
-    → record { entries = ws; sealed = false; moment = t; opened = S.opened; issued = S.issued; conns = cs; exchanges = es; pieces = gs; stales = qs; readers = rs; watches = us; store = ps; links = xs }
+    → record { entries = ws; sealed = false; given = given; kept = kept; moment = t; opened = S.opened; issued = S.issued; conns = cs; exchanges = es; pieces = gs; stales = qs; readers = rs; watches = us; store = ps; links = xs }
     ≡ turned t S
-state-turned t S ws cs es gs qs rs us ps xs a b c g q r u p d = rw (d, p, a, b, c, g, q, r, u) refl
+state-turned t S ws given kept cs es gs qs rs us ps xs a m k b c g q r u p d = rw (d, p, a, m, k, b, c, g, q, r, u) refl
 
 -- the links of the endpoints of which something is copied
 pub links-kept : (t : ℕ) (ps : List Peer) (ws : List Written) (xs ys : List PeerLink) (ms : List Bool) → ps ≡ peers_in ws

@@ -132,6 +132,32 @@ unwatched-all t ws over i old now new end here last =
     ∙ (sym (goes-either (is_written_late ws over) (is_idle t) old)
     ∙ goes-same (λ r. is_written_late ws over r || is_idle t r) (is_unwatched_by t ws over) old (λ r. or-turned (is_written_late ws over r) (is_idle t r)))
 
+-- whether one of them passes
+
+late-first : (q : Exchange → Bool) (over : List Exchange) (i : ℕ) (e : Exchange) → i < length over → e ≡ get_or over i e
+    → list_any q (drop i over) ≡ (q e || list_any q (drop (i + 1) over))
+late-first q over i e lt at =
+    ap (list_any q) (drop-next over i e lt)
+    ∙ (ap (λ (x : Exchange). q x || list_any q (drop (suc i) over)) (sym at)
+    ∙ ap (λ (k : ℕ). q e || list_any q (drop k over)) more)
+  where
+    more : suc i ≡ i + 1
+    more = omega arith
+
+pub late-next : (q : Exchange → Bool) (over : List Exchange) (i : ℕ) (e : Exchange) → i < length over → e ≡ get_or over i e → q e ≡ false
+    → list_any q (drop i over) ≡ list_any q over → list_any q (drop (i + 1) over) ≡ list_any q over
+late-next q over i e lt at isnt here =
+    ap (λ (b : Bool). b || list_any q (drop (i + 1) over)) (sym isnt) ∙ (sym (late-first q over i e lt at) ∙ here)
+
+pub late-found : (q : Exchange → Bool) (over : List Exchange) (i : ℕ) (e : Exchange) → i < length over → e ≡ get_or over i e → q e ≡ true
+    → list_any q (drop i over) ≡ list_any q over → true ≡ list_any q over
+late-found q over i e lt at is here =
+    ap (λ (b : Bool). b || list_any q (drop (i + 1) over)) (sym is) ∙ (sym (late-first q over i e lt at) ∙ here)
+
+pub late-end : (q : Exchange → Bool) (over : List Exchange) (i : ℕ) → (i < length over → ⊥) → list_any q (drop i over) ≡ list_any q over
+    → false ≡ list_any q over
+late-end q over i end here = ap (list_any q) (sym (drop-all over i end)) ∙ here
+
 -- the tokens of those that pass
 
 some-none : {X Y : Type 0} (f : X → Y) (p : X → Bool) (xs : List X) → ((x : X) → p x ≡ false) → [] ≡ map f (filter p xs)

@@ -20,6 +20,7 @@ asking_text Ask.Memory = codes "out of memory"
 
 abbrev pub rotating_text : RotateFault → List ℕ
 rotating_text Rotate.Unsealed = codes "the journal isn't sealed"
+rotating_text Rotate.Given = codes "its first entries were given out"
 rotating_text Rotate.Connected = codes "a connection is open"
 rotating_text Rotate.Exchanging = codes "an exchange is open"
 rotating_text Rotate.Spent = codes "too few numbers are left"

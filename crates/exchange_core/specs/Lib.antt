@@ -30,3 +30,5 @@ pub mod Turns
 pub mod Values
 pub mod Watching
 pub mod Wording
+pub mod Reading
+pub mod Giving

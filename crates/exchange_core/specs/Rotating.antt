@@ -2,7 +2,7 @@
 use Rattle.std.specs.Prelude.{◌≡◌, ◌⊎◌, ℕ, List, [], Option, Some, None, Ok}
 use Rattle.journal_book.specs.Entries.{Written}
 use Rattle.exchange_model.specs.State.{State}
-use Rattle.exchange_model.specs.Rotating.{RotateFault, Unsealed, Connected, Exchanging, Spent, Crowded, fault_of, rotated}
+use Rattle.exchange_model.specs.Rotating.{RotateFault, Unsealed, Given, Connected, Exchanging, Spent, Crowded, fault_of, rotated}
 use Rattle.exchange_core.specs.declared.fault.RotateFault.{RotateFault as Refusal}
 use Rattle.exchange_core.specs.declared.fault.RotateFault.TheVariants as F
 use Rattle.exchange_core.specs.Values.{CoreValue}
@@ -16,6 +16,7 @@ pub record IsTurned (t : ℕ) (given : List Written) (old new : CoreValue) : Typ
 
 abbrev pub fault_in : Refusal → Option RotateFault
 fault_in F.Unsealed = Some Unsealed
+fault_in F.Given = Some Given
 fault_in F.Connected = Some Connected
 fault_in F.Exchanging = Some Exchanging
 fault_in F.Spent = Some Spent

@@ -1,5 +1,5 @@
 -- What the type of a core keeps.
-use Rattle.std.specs.Prelude.{◌≡◌, ℕ, ◌+◌, ◌≤◌, List, length, sum_by}
+use Rattle.std.specs.Prelude.{◌≡◌, ℕ, ◌+◌, ◌≤◌, List, drop, length, sum_by}
 use Rattle.std.specs.List.{AllByRecursion}
 use Rattle.limits.specs.declared.TheConstants.{LAST_MOMENT, MAX_CONNECTIONS}
 use Rattle.journal_book.specs.Entries.{entry_size}
@@ -10,14 +10,15 @@ use Rattle.exchange_core.specs.declared.state.State.{State as RustState}
 use Rattle.exchange_core.specs.Answering.{Given, IsGiven}
 use Rattle.exchange_core.specs.States.{state_of, given_in}
 
--- A journal that stands within its limits counts so many bytes, and has a place for the Shut of
--- each connection and one for the Sealed; the answers that aren't taken stand in it.
+-- What a journal that stands within its limits has in memory counts so many bytes, and it has a
+-- place for the Shut of each connection and one for the Sealed; the answers that aren't taken stand
+-- in it.
 pub record SoundState (S : State) (bytes room : ℕ) (gs : List Given) : Type 0 where
   pub kept : KeptInRoom S
   pub drained : IsDrained S
   pub early : S.moment ≤ LAST_MOMENT
   pub few : length S.conns ≤ MAX_CONNECTIONS
-  pub count : bytes ≡ sum_by entry_size S.entries
+  pub count : bytes ≡ sum_by entry_size (drop S.given S.entries)
   pub places : length S.conns + seals_left S.sealed ≤ room
   pub given : AllByRecursion (IsGiven S.entries) gs
 

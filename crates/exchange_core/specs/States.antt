@@ -19,6 +19,8 @@ abbrev pub state_of : {R : Type 0} → RustState R → State
 state_of s = record {
   entries = s.journal.entries;
   sealed = s.sealed;
+  given = s.journal.given;
+  kept = s.journal.kept;
   moment = s.moment;
   opened = s.opened;
   issued = s.issued;

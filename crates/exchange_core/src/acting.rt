@@ -1,8 +1,8 @@
 //! What a datagram does, which is this to the exchanges and to what is observed.
 
-ghost use Rattle.std.specs.Prelude.{ℕ, ◌≡◌, ◌≤◌, ◌<◌, ◌+◌, ◌++◌, [], List, Some, true, false, map, is_some, sum_by, length, IfOk, IfSome, OnOk, OnErr};
+ghost use Rattle.std.specs.Prelude.{ℕ, ◌≡◌, ◌≤◌, ◌<◌, ◌+◌, ◌++◌, [], List, Some, true, false, map, is_some, drop, sum_by, length, IfOk, IfSome, OnOk, OnErr};
 ghost use Rattle.std.specs.List.{AllByRecursion};
-ghost use Rattle.limits.specs.declared.TheConstants.{LAST_MOMENT, MAX_ENTRIES};
+ghost use Rattle.limits.specs.declared.TheConstants.{LAST_MOMENT, MAX_CONNECTIONS, MAX_NUMBERED};
 ghost use Rattle.coap_codec.specs.Spelling.{Content};
 ghost use Rattle.ask_model.specs.Sizes.{capped};
 ghost use Rattle.journal_book.specs.Entries.{Deed, entry_size};
@@ -26,6 +26,9 @@ ghost use Rattle.exchange_core.specs.Sending.{IsTimed};
 ghost use Rattle.exchange_core.specs.Sound.{IsSound};
 ghost use Rattle.exchange_core.specs.States.{state_of, seen, given_in, outgoing, with_draft, HasPlaces, SeesSame};
 ghost use Rattle.exchange_core.specs.Storing.{HasRoomToPut, put_in};
+ghost use Rattle.exchange_core.specs.Reading.{IsMatterHere, IsReaderHere};
+ghost use Rattle.exchange_table.specs.Asks.{IsAskedHere};
+ghost use Rattle.exchange_model.specs.Memory.{most_entries};
 
 use crate::changing::change_tables;
 use crate::draft::Draft;
@@ -76,7 +79,7 @@ pub fn draft_link<R: Relation>(
     heeding: &Heeding,
     next: &Option<FirstSending>,
 ) -> Result<(), AllocError>
-    requires few { length s.now.journal.entries ≤ MAX_ENTRIES }
+    requires few { length s.now.journal.entries ≤ most_entries }
     requires timed { IsTimed next.now }
     ensures drafts { OnOk result (Drafts moment (state_of s.now)
         (link_deeds peer datagram.now heeding.now next.now) draft.new) }
@@ -119,11 +122,14 @@ fn draft_heard<R: Relation>(
     heeding: &Heeding,
     matter: &Matter,
 ) -> Result<(), AllocError>
-    requires few { length s.now.journal.entries ≤ MAX_ENTRIES }
-    requires readers { length s.now.readers.items ≤ MAX_ENTRIES }
+    requires few { length s.now.journal.entries ≤ most_entries }
+    requires readers { length s.now.readers.items ≤ MAX_CONNECTIONS }
     requires timed { IsTimed (next_in heeding.now matter.now) }
     requires tells { TellsSo moment (link_deeds peer datagram.now heeding.now
         (next_in heeding.now matter.now)) matter.now (state_of s.now) }
+    requires here { IsMatterHere s.now.journal.given s.now.journal.kept matter.now }
+    requires waiting { AllByRecursion (IsReaderHere s.now.journal.given s.now.journal.kept)
+        s.now.readers.items }
     ensures { (new : Numbers) (x : ModelMatter)
         → IsMatter (length s.now.journal.entries) new matter.now x
         → OnOk result (IsDrafted moment (state_of s.now) (hearing_deeds peer datagram.now
@@ -160,14 +166,20 @@ fn bring<R: Relation>(
     matter: &Matter,
 ) -> Result<Brought, AllocError>
     requires unsealed { s.now.sealed ≡ false }
-    requires count { s.now.bytes ≡ sum_by entry_size s.now.journal.entries }
+    requires count { s.now.bytes
+        ≡ sum_by entry_size (drop s.now.journal.given s.now.journal.entries) }
+    requires within { s.now.journal.given ≤ length s.now.journal.entries }
+    requires numbered { s.now.journal.given ≤ MAX_NUMBERED + 1024 }
     requires ordered { RiseBy id_of s.now.conns.items }
-    requires few { length s.now.journal.entries ≤ MAX_ENTRIES }
-    requires readers { length s.now.readers.items ≤ MAX_ENTRIES }
+    requires few { length s.now.journal.entries ≤ most_entries }
+    requires readers { length s.now.readers.items ≤ MAX_CONNECTIONS }
     requires timed { IsTimed (next_in heeding.now matter.now) }
     requires tells { TellsSo moment (link_deeds peer datagram.now heeding.now
         (next_in heeding.now matter.now)) matter.now (state_of s.now) }
     requires reads { ReadsIn s.now.journal.entries matter.now }
+    requires here { IsMatterHere s.now.journal.given s.now.journal.kept matter.now }
+    requires waiting { AllByRecursion (IsReaderHere s.now.journal.given s.now.journal.kept)
+        s.now.readers.items }
     ensures watched { (m : Content) (new : Numbers) (x : ModelMatter)
         → IsMatter (length s.now.journal.entries) new matter.now x
         → IsNotedIn notice m matter.now
@@ -243,11 +255,14 @@ fn add_heard<R: Relation>(
     brought: Brought,
     draft: &mut Draft<R>,
 ) -> Result<(), AllocError>
-    requires few { length s.old.journal.entries + length draft.old.entries ≤ MAX_ENTRIES }
+    requires few { length s.old.journal.entries + length draft.old.entries ≤ most_entries }
     requires ordered { IsOrdered (state_of s.old) }
     requires issued { s.old.issued < 4294967295 }
     requires newest { IsNewestIn matter s.old.exchanges.exchanges }
     requires digests { AllByRecursion (IsDigested s.old.journal.entries) s.old.exchanges.exchanges }
+    requires here { AllByRecursion (IsAskedHere s.old.journal.given s.old.journal.kept)
+        s.old.exchanges.exchanges }
+    requires matter { IsMatterHere s.old.journal.given s.old.journal.kept matter }
     requires watched { IfSome brought.watching.more (λ r. length s.old.watches.standing < 64) }
     requires early { moment ≤ LAST_MOMENT }
     requires ready { MayHeed moment (link_at s.old.endpoints peer) heeding }
@@ -293,6 +308,7 @@ pub fn act<R: Relation>(
     requires early { moment ≤ LAST_MOMENT }
     requires judged { IsJudged moment peer datagram.now heeding notice matter
         (link_at s.old.endpoints peer) (state_of s.old) }
+    requires here { IsMatterHere s.old.journal.given s.old.journal.kept matter }
     ensures sound { IsSound s.new }
     ensures heard { (word : ℕ) → IsJudgedBy moment word peer datagram.now heeding notice matter
         (link_at s.old.endpoints peer) (state_of s.old)

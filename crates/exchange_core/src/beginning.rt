@@ -3,7 +3,7 @@
 ghost use Rattle.std.specs.Prelude.{◌≡◌, ◌≤◌, ◌<◌, ◌+◌, ◌&&◌, ◌^◌, ◌∷◌, ◌++◌, [], List, None, true, false, length, sum_by, IfOk, IfErr, OnOk, Ok, Err, Some};
 ghost use Rattle.std.specs.Arc.{arc_value};
 ghost use Rattle.std.specs.List.{AllByRecursion};
-ghost use Rattle.limits.specs.declared.TheConstants.{LAST_MOMENT, MAX_ENTRIES, MAX_EXCHANGES, MAX_REQUEST_SIZE};
+ghost use Rattle.limits.specs.declared.TheConstants.{LAST_MOMENT, MAX_EXCHANGES, MAX_REQUEST_SIZE};
 ghost use Rattle.ask_model.specs.Datagrams.{asked_peer};
 ghost use Rattle.ask_model.specs.Sizes.{capped, came_size};
 ghost use Rattle.journal_book.specs.Entries.{Deed, Asks, entry_size};
@@ -27,6 +27,7 @@ ghost use Rattle.exchange_core.specs.Wording.{keeps_for, wants_for};
 ghost use Rattle.exchange_table.specs.Tables.{IsLatest};
 ghost use Rattle.exchange_core.specs.Sound.{IsSound};
 ghost use Rattle.exchange_core.specs.States.{state_of, seen, given_in, outgoing, with_draft, HasPlaces, SeesSame};
+ghost use Rattle.exchange_model.specs.Memory.{most_entries};
 
 use crate::answer::Ticket;
 use crate::draft::Draft;
@@ -73,7 +74,7 @@ fn draft_ask<R: Relation>(
     peer: Peer,
     sent: &Option<FirstSending>,
 ) -> Result<(), AllocError>
-    requires few { length s.now.journal.entries ≤ MAX_ENTRIES }
+    requires few { length s.now.journal.entries ≤ most_entries }
     requires timely { IsTimed sent.now }
     ensures drafts { OnOk result (Drafts moment (state_of s.now)
         (Asks conn (ask_of (arc_value mapped.now)) ∷ sent_first peer sent.now) draft.new) }
@@ -116,7 +117,7 @@ fn add_exchange<R: Relation>(
     requires early { moment ≤ LAST_MOMENT }
     requires issued { s.old.issued < 4294967295 }
     requires places { HasPlaces s.old draft.old }
-    requires few { length s.old.journal.entries + length draft.old.entries ≤ MAX_ENTRIES }
+    requires few { length s.old.journal.entries + length draft.old.entries ≤ most_entries }
     requires ordered { IsOrdered (state_of s.old) }
     requires exchange { s.old.exchanges.room ≡ true }
     requires reader { s.old.readers.room ≡ true }
@@ -178,7 +179,7 @@ fn exchange_of<R: Relation>(
     observes: bool,
     sent: &Option<FirstSending>,
 ) -> Exchange
-    requires { opening ≤ MAX_ENTRIES }
+    requires { opening ≤ most_entries }
     ensures { result ≡ exchange_by moment token peer mapped.now.sense observes sent.now opening }
 {
     let sending = match sent {

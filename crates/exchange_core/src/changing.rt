@@ -2,7 +2,7 @@
 
 ghost use Rattle.std.specs.Prelude.{ℕ, ◌≡◌, ◌≤◌, ◌<◌, ◌+◌, ◌++◌, true, is_some, length, IfSome};
 ghost use Rattle.std.specs.List.{AllByRecursion};
-ghost use Rattle.limits.specs.declared.TheConstants.{LAST_MOMENT, MAX_ENTRIES};
+ghost use Rattle.limits.specs.declared.TheConstants.{LAST_MOMENT};
 ghost use Rattle.message_layer.specs.Prepared.{MayFollow, MayHeed};
 ghost use Rattle.endpoint_table.specs.Tables.{link_at};
 ghost use Rattle.exchange_model.specs.State.{link_of};
@@ -13,6 +13,9 @@ ghost use Rattle.exchange_core.specs.Hearing.{HasRoomFor, IsEffect, IsFirstSo, I
 ghost use Rattle.exchange_core.specs.Matters.{IsMatter, more_in, next_in};
 ghost use Rattle.exchange_core.specs.States.{state_of};
 ghost use Rattle.exchange_core.specs.Storing.{HasRoomToPut, put_in};
+ghost use Rattle.exchange_core.specs.Reading.{IsMatterHere};
+ghost use Rattle.exchange_table.specs.Asks.{IsAskedHere};
+ghost use Rattle.exchange_model.specs.Memory.{most_entries};
 
 use crate::matter::{Going, Matter, next_in};
 use crate::notifying::{Watching, register};
@@ -46,6 +49,9 @@ fn change_exchanges<R: Relation>(
     requires newest { IsNewestIn matter.now exchanges.old.exchanges }
     requires room { HasRoomFor matter.now exchanges.old.room }
     requires digests { AllByRecursion (IsDigested journal.now.entries) exchanges.old.exchanges }
+    requires here { AllByRecursion (IsAskedHere journal.now.given journal.now.kept)
+        exchanges.old.exchanges }
+    requires matter { IsMatterHere journal.now.given journal.now.kept matter.now }
     ensures { (n : ℕ) (new : Numbers) (x : ModelMatter) → IsMatter n new matter.now x
         → IsFirstSo fetched.now.pieces matter.now x
         → exchanges.new.exchanges
@@ -81,7 +87,7 @@ pub fn note_next(exchanges: &mut Exchanges, next: &Option<FirstSending>, number:
 
 /// The number of the entry in which the next message goes out, after that of the datagram.
 pub fn first_number(number: u32, heeding: &Heeding) -> u32
-    requires { number ≤ MAX_ENTRIES }
+    requires { number ≤ most_entries }
     ensures { result ≡ first_number number heeding.now }
 {
     match &heeding.reply {
@@ -123,7 +129,8 @@ fn change_stales(stales: &mut Stales, matter: &Matter)
 
 /// The store after the datagram: what is put, where something is.
 fn change_store<R: Relation>(store: &mut Store, journal: &Journal<R>, matter: &Matter, put: Put)
-    requires { HasRoomToPut put store.old.room }
+    requires room { HasRoomToPut put store.old.room }
+    requires here { IsMatterHere journal.now.given journal.now.kept matter.now }
     ensures { (n t : ℕ) (new : Numbers) (x : ModelMatter) → IsMatter n new matter.now x
         → put ≡ put_in journal.now.entries t x
         → store.new.pairs ≡ store_by journal.now.entries t x store.old.pairs }
@@ -147,6 +154,7 @@ fn change_watches<R: Relation>(
 )
     requires room { IfSome more (λ r. watches.old.room ≡ true) }
     requires few { IfSome more (λ r. length watches.old.standing < 64) }
+    requires here { IsMatterHere journal.now.given journal.now.kept matter.now }
     ensures { watches.new.standing
         ≡ watches_after moment journal.now.entries notice matter.now more watches.old.standing }
 {
@@ -203,11 +211,14 @@ pub fn change_tables<R: Relation>(
     requires piece { s.old.fetched.room ≡ true }
     requires watch { IfSome watching.more (λ r. s.old.watches.room ≡ true) }
     requires watched { IfSome watching.more (λ r. length s.old.watches.standing < 64) }
-    requires few { length s.old.journal.entries ≤ MAX_ENTRIES }
+    requires few { length s.old.journal.entries ≤ most_entries }
     requires issued { s.old.issued < 4294967295 }
     requires newest { IsNewestIn matter s.old.exchanges.exchanges }
     requires open { HasRoomFor matter s.old.exchanges.room }
     requires digests { AllByRecursion (IsDigested s.old.journal.entries) s.old.exchanges.exchanges }
+    requires here { AllByRecursion (IsAskedHere s.old.journal.given s.old.journal.kept)
+        s.old.exchanges.exchanges }
+    requires matter { IsMatterHere s.old.journal.given s.old.journal.kept matter }
     requires early { moment ≤ LAST_MOMENT }
     requires ready { MayHeed moment (link_at s.old.endpoints peer) heeding }
     requires follows { MayFollow moment (link_at s.old.endpoints peer) heeding (more_in matter) }

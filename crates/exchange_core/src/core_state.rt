@@ -1,9 +1,9 @@
 //! The core.
 
-ghost use Rattle.std.specs.Prelude.{◌≡◌, ◌≤◌, ◌^◌, ◌↔◌, [], None, Err, IfErr, IfOk, IfSome, OnOk, OnErr, IsTrue, IsFalse, length, option_map, min, map, sum_by};
+ghost use Rattle.std.specs.Prelude.{◌≡◌, ◌≤◌, ◌^◌, ◌↔◌, [], None, Err, IfErr, IfOk, IfSome, OnOk, OnErr, IsTrue, IsFalse, drop, length, option_map, min, map, sum_by};
 ghost use Rattle.std.specs.Arc.{arc_value};
 ghost use Rattle.journal_book.specs.Entries.{entry_size};
-ghost use Rattle.journal_book.specs.Views.{ask_of};
+ghost use Rattle.journal_book.specs.Views.{ask_of, item_of};
 ghost use Rattle.exchange_model.specs.Rotating.{fault_of};
 ghost use Rattle.exchange_model.specs.Sealing.{ticks_in_room};
 ghost use Rattle.std.specs.List.{reduce};
@@ -15,6 +15,7 @@ ghost use Rattle.exchange_core.specs.Serving.{IsFirstTaken, AreBelow, AreOlder};
 ghost use Rattle.exchange_core.specs.Answering.{given_of};
 ghost use Rattle.exchange_core.specs.Calls.{now, HearsSo, IsOpened, IsAsked, IsClosed, IsUnknown};
 ghost use Rattle.exchange_core.specs.Due.{next_tick, IsNextTick};
+ghost use Rattle.exchange_core.specs.Giving.{GivesNone, IsGivenOut};
 ghost use Rattle.exchange_core.specs.Snapshots.{Grows, IsOf, MayRestore};
 ghost use Rattle.exchange_core.specs.Values.{CoreValue, outgoing_of, stepped};
 ghost use Rattle.exchange_core.specs.States.{core_of, number_in};
@@ -27,12 +28,12 @@ use crate::fault::{AskFault, OpenFault, RotateFault};
 use crate::outgoing::Datagram;
 use crate::snapshot::Snapshot;
 use crate::state::State;
-use crate::{asking, due, hearing, opening, rotating, serving, snapshot, taking, ticking};
+use crate::{asking, due, giving, hearing, opening, rotating, serving, snapshot, taking, ticking};
 use ask_model::Mapped;
 use endpoint_table::Endpoints;
 use exchange_model::{Conn, Exchange};
 use exchange_table::{Exchanges, Fetched, Readers, Stales};
-use journal_book::Journal;
+use journal_book::{Entry, Journal};
 use limits::LAST_MOMENT;
 use observe_share::Watch;
 use resp_cache::Store;
@@ -112,6 +113,8 @@ impl<R: Relation> Core<R> {
     /// The journal, one reading of which is legal and at rest, and says what the core keeps.
     pub fn journal(&self) -> &Journal<R>
         ensures entries { result.now.entries ≡ self.now.state.entries }
+        ensures given { result.now.given ≡ self.now.state.given }
+        ensures held { result.now.kept ≡ self.now.state.kept }
         ensures stands { Stands self.now.state.entries }
         ensures kept { KeptInRoom self.now.state }
     {
@@ -254,6 +257,20 @@ impl<R: Relation> Core<R> {
         rotating::rotate(self.alloc, &mut self.state, moment)
     }
 
+    /// Gives the first 1,024 entries out that the journal has in memory, where it has as many: they
+    /// stay entries of the history, under their numbers. What is looked up again of them is kept.
+    /// Where the numbers of entries, tokens or connections are spent it gives none. It is refused
+    /// for memory alone.
+    pub fn give(&mut self) -> Result<Option<Vec<Entry<R>>>, AllocError>
+        ensures given { IfOk result (λ o. IfSome o (λ segment.
+            IsGivenOut (map item_of segment.items) self.old self.new)) }
+        ensures none { IfOk result (λ o. o ≡ None → (self.new ≡ self.old)
+            × GivesNone self.old.state) }
+        ensures memory { OnErr result (self.new ≡ self.old) }
+    {
+        giving::give(self.alloc, &mut self.state)
+    }
+
     /// The first reason against a turn of the journal at this moment, want of memory included.
     pub fn turn_fault(&self, moment: u64) -> Option<RotateFault>
         ensures refused { IfSome result (λ fault.
@@ -265,9 +282,10 @@ impl<R: Relation> Core<R> {
         rotating::turn_fault(self.alloc, &self.state, moment)
     }
 
-    /// How many bytes the entries of the journal count.
+    /// How many bytes the entries count that the journal has in memory.
     pub fn bytes(&self) -> u64
-        ensures { result ≡ sum_by entry_size self.now.state.entries }
+        ensures { result
+            ≡ sum_by entry_size (drop self.now.state.given self.now.state.entries) }
     {
         self.state.bytes
     }
@@ -339,12 +357,14 @@ impl<R: Relation> Core<R> {
         Ok(now)
     }
 
-    /// Goes back to what the core was, where since then entries were only added. It takes no
-    /// memory.
+    /// Goes back to what the core was, where since then entries were only added, and none was given
+    /// out. It takes no memory.
     pub fn restore(&mut self, snapshot: Snapshot<R>)
         requires { MayRestore snapshot self.old }
         ensures { (core : CoreValue) → IsOf snapshot core
-            → Grows core.state.entries self.old.state.entries → self.new ≡ core }
+            → Grows core.state.entries self.old.state.entries
+            → self.old.state.given ≡ core.state.given → self.old.state.kept ≡ core.state.kept
+            → self.new ≡ core }
     {
         snapshot::put_back(&mut self.state, snapshot);
     }

@@ -2,7 +2,6 @@
 
 ghost use Rattle.std.specs.Prelude.{◌≡◌, ◌+◌, ◌≤◌, ◌<◌, ◌^◌, ◌∷◌, ◌++◌, [], true, List, length, map, sum_by, vec_capacity, vec_len, OnOk};
 ghost use Rattle.std.specs.VecDeque.{deque_capacity, deque_len};
-ghost use Rattle.limits.specs.declared.TheConstants.{MAX_ENTRIES};
 ghost use Rattle.ask_model.specs.Sizes.{capped};
 ghost use Rattle.journal_book.specs.Entries.{Deed, Sends, Answers, entry_size};
 ghost use Rattle.journal_book.specs.Views.{event_of, item_of};
@@ -15,6 +14,7 @@ ghost use Rattle.exchange_table.specs.Places.{RiseBy};
 ghost use Rattle.exchange_table.specs.Readers.{ask_in};
 ghost use Rattle.exchange_core.specs.States.{readers_with};
 ghost use Rattle.exchange_core.specs.Drafts.{AllKeep, Drafts, IsAlone, KeepsConns, empty_draft, draft_with, draft_sending, draft_answering};
+ghost use Rattle.exchange_model.specs.Memory.{most_entries};
 
 use crate::answer::Answer;
 use crate::noting::note_all;
@@ -158,10 +158,12 @@ impl<R: Relation> Draft<R> {
         readers: &mut Readers,
     )
         requires room { length self.old.entries ≤ journal.old.room }
-        requires few { length journal.old.entries + length self.old.entries ≤ MAX_ENTRIES }
+        requires few { length journal.old.entries + length self.old.entries ≤ most_entries }
         requires conns { RiseBy id_of conns.old.items }
         requires readers { RiseBy ask_in readers.old.items }
         ensures entries { journal.new.entries ≡ journal.old.entries ++ self.old.entries }
+        ensures given { journal.new.given ≡ journal.old.given }
+        ensures kept { journal.new.kept ≡ journal.old.kept }
         ensures room { journal.new.room + length self.old.entries ≡ journal.old.room }
         ensures conns { conns.new.items
             ≡ conns_with conns.old.items (length journal.old.entries) self.old.entries }

@@ -1,6 +1,6 @@
 //! Exchanges that end, for whatever reason, and all who wait for them.
 
-ghost use Rattle.std.specs.Prelude.{◌≡◌, ◌≤◌, ◌<◌, ◌+◌, ◌∷◌, ◌++◌, [], ℕ, List, Option, length, map, IfOk, OnOk};
+ghost use Rattle.std.specs.Prelude.{true, false, ◌≡◌, ◌≤◌, ◌<◌, ◌+◌, ◌∷◌, ◌++◌, [], ℕ, List, Option, length, map, IfOk, OnOk};
 ghost use Rattle.std.specs.List.{AllByRecursion};
 ghost use Rattle.journal_book.specs.Entries.{Deed, Written};
 ghost use Rattle.journal_book.specs.Views.{grounds_of};
@@ -14,6 +14,8 @@ ghost use Rattle.exchange_core.specs.Drafts.{IsDrafted};
 ghost use Rattle.exchange_core.specs.Ending.{IsAnswerTo, IsTold, counted_moment, deed_of, first_moment, last_moment};
 ghost use Rattle.exchange_core.specs.Judged.{TellsAll};
 ghost use Rattle.exchange_core.specs.Matters.{readers_told};
+ghost use Rattle.exchange_core.specs.Reading.{IsCountedHere, IsEndHere, IsReaderHere, IsTellingHere};
+ghost use Rattle.journal_book.specs.Journals.{IsHere};
 
 use crate::answer::Answer;
 use crate::draft::Draft;
@@ -85,6 +87,7 @@ pub fn readers_told(
 /// The moment from which it counts: that of its first reply, or this one, where its entry comes
 /// now.
 pub fn first_moment<R: Relation>(journal: &Journal<R>, grounds: &Grounds, moment: u64) -> u64
+    requires { IsCountedHere journal.now.given journal.now.kept false (grounds_of grounds.now) }
     ensures { result ≡ first_moment journal.now.entries moment (grounds_of grounds.now) }
 {
     let numbers = match grounds {
@@ -101,6 +104,7 @@ pub fn first_moment<R: Relation>(journal: &Journal<R>, grounds: &Grounds, moment
 /// The moment from which what was renewed counts: that of the last of its replies, or this one,
 /// where the entry of that comes now.
 pub fn last_moment<R: Relation>(journal: &Journal<R>, grounds: &Grounds, moment: u64) -> u64
+    requires { IsCountedHere journal.now.given journal.now.kept true (grounds_of grounds.now) }
     ensures { result ≡ last_moment journal.now.entries moment (grounds_of grounds.now) }
 {
     let Grounds::Live(numbers) = grounds else {
@@ -114,6 +118,8 @@ pub fn last_moment<R: Relation>(journal: &Journal<R>, grounds: &Grounds, moment:
 
 /// The moment from which what is told counts.
 fn counted_moment<R: Relation>(journal: &Journal<R>, telling: &Telling, moment: u64) -> u64
+    requires { IsCountedHere journal.now.given journal.now.kept telling.now.renewed
+        telling.now.finding.grounds }
     ensures { result ≡ counted_moment journal.now.entries moment telling.now }
 {
     let grounds = telling.finding.grounds();
@@ -126,6 +132,7 @@ fn counted_moment<R: Relation>(journal: &Journal<R>, telling: &Telling, moment: 
 
 /// The moment of the entry with this number, or this one, where that comes now.
 fn moment_in<R: Relation>(journal: &Journal<R>, number: u32, moment: u64) -> u64
+    requires { IsHere journal.now.given journal.now.kept number }
     ensures { result ≡ moment_in journal.now.entries moment number }
 {
     match journal.get(number as usize) {
@@ -141,7 +148,8 @@ fn answer_to<R: Relation>(
     number: u32,
     moment: u64,
 ) -> Result<Answer<R>, AllocError>
-    requires { IsAskIn journal.now.entries telling.reader.ask }
+    requires asks { IsAskIn journal.now.entries telling.reader.ask }
+    requires here { IsTellingHere journal.now.given journal.now.kept telling }
     ensures { IfOk result
         (λ a. IsAnswerTo journal.now.entries moment number telling (given_of a)) }
 {
@@ -167,6 +175,7 @@ fn draft_telling<R: Relation>(
 ) -> Result<(), AllocError>
     requires room { draft.old.next < 4294967295 }
     requires told { IsTold journal.now.entries draft.old.entries moment telling }
+    requires here { IsTellingHere journal.now.given journal.now.kept telling }
     ensures drafted { (S : CoreState) (ds : List Deed) → S.entries ≡ journal.now.entries
         → IsDrafted moment S ds draft.old
         → OnOk result (IsDrafted moment S (ds ++ deed_of telling ∷ []) draft.new) }
@@ -189,6 +198,7 @@ pub fn draft_tellings<R: Relation>(
     requires room { draft.old.next + length told.items ≤ 4294967295 }
     requires told { AllByRecursion
         (IsTold journal.now.entries draft.old.entries moment) told.items }
+    requires here { AllByRecursion (IsTellingHere journal.now.given journal.now.kept) told.items }
     ensures { (S : CoreState) (ds : List Deed) → S.entries ≡ journal.now.entries
         → IsDrafted moment S ds draft.old
         → OnOk result (IsDrafted moment S (ds ++ map deed_of told.items) draft.new) }
@@ -227,6 +237,9 @@ fn tell_all<R: Relation>(
     requires room { draft.old.next + length readers.now.items ≤ 4294967295 }
     requires told { TellsAll journal.now.entries draft.old.entries moment exchange.now ended
         readers.now.items }
+    requires ended { IsEndHere journal.now.given journal.now.kept ended }
+    requires waiting { AllByRecursion (IsReaderHere journal.now.given journal.now.kept)
+        readers.now.items }
     ensures { (S : CoreState) (ds : List Deed) (n : ℕ) (how : Ending) → IsEnded n ended how
         → S.entries ≡ journal.now.entries → IsDrafted moment S ds draft.old
         → OnOk result (IsDrafted moment S
@@ -248,6 +261,9 @@ pub fn tell_readers<R: Relation>(
 ) -> Result<(), AllocError>
     requires room { draft.old.next + length readers.now.items ≤ 4294967295 }
     requires told { TellsAll journal.now.entries draft.old.entries moment exchange.now ended
+        readers.now.items }
+    requires ended { IsEndHere journal.now.given journal.now.kept ended }
+    requires waiting { AllByRecursion (IsReaderHere journal.now.given journal.now.kept)
         readers.now.items }
     ensures { (S : CoreState) (ds : List Deed) (n : ℕ) (how : Ending) → IsEnded n ended how
         → S.entries ≡ journal.now.entries → IsDrafted moment S ds draft.old

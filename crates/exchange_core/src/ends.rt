@@ -2,7 +2,7 @@
 
 ghost use Rattle.std.specs.Prelude.{ℕ, ◌≡◌, ◌≤◌, ◌+◌, ◌∷◌, ◌++◌, [], IsTrue, OnErr, OnOk, false, is_some, length, sum_by, true};
 ghost use Rattle.std.specs.List.{AllByRecursion};
-ghost use Rattle.limits.specs.declared.TheConstants.{LAST_MOMENT, MAX_ENTRIES};
+ghost use Rattle.limits.specs.declared.TheConstants.{LAST_MOMENT, MAX_CONNECTIONS};
 ghost use Rattle.ask_model.specs.Sizes.{capped};
 ghost use Rattle.journal_book.specs.Entries.{entry_size};
 ghost use Rattle.message_layer.specs.Prepared.{MayHeed};
@@ -24,6 +24,9 @@ ghost use Rattle.exchange_core.specs.Sending.{IsTimed};
 ghost use Rattle.exchange_core.specs.Sound.{IsSound};
 ghost use Rattle.exchange_core.specs.States.{state_of, seen, given_in, outgoing, SeesSame};
 ghost use Rattle.exchange_core.specs.Storing.{HasRoomToPut, put_in};
+ghost use Rattle.exchange_core.specs.Reading.{IsEndHere, IsMatterHere, IsReaderHere};
+ghost use Rattle.exchange_table.specs.Asks.{IsAskedHere};
+ghost use Rattle.exchange_model.specs.Memory.{most_entries};
 
 use crate::acting::draft_link;
 use crate::changing::{first_number, note_next};
@@ -46,6 +49,7 @@ use uri_map::Peer;
 /// Whether the end of the exchange leaves all that is observed as it is: it registers nothing, and
 /// is no write.
 pub fn ends_apart<R: Relation>(s: &State<R>, exchange: &Exchange) -> bool
+    requires { IsAskedHere s.now.journal.given s.now.journal.kept exchange.now }
     ensures observes { IsTrue result → exchange.now.observes ≡ false }
     ensures writes { IsTrue result → tokens_of
         (is_written_by (asked_in s.now.journal.entries exchange.now.ask))
@@ -75,12 +79,15 @@ fn draft_end<R: Relation>(
     exchange: &Exchange,
     ended: Ended,
 ) -> Result<(), AllocError>
-    requires few { length s.now.journal.entries ≤ MAX_ENTRIES }
-    requires readers { length s.now.readers.items ≤ MAX_ENTRIES }
+    requires few { length s.now.journal.entries ≤ most_entries }
+    requires readers { length s.now.readers.items ≤ MAX_CONNECTIONS }
     requires timed { IsTimed (next_in heeding.now (M.Over exchange.now ended)) }
     requires tells { TellsSo moment (link_deeds peer datagram.now heeding.now
         (next_in heeding.now (M.Over exchange.now ended))) (M.Over exchange.now ended)
         (state_of s.now) }
+    requires ended { IsEndHere s.now.journal.given s.now.journal.kept ended }
+    requires waiting { AllByRecursion (IsReaderHere s.now.journal.given s.now.journal.kept)
+        s.now.readers.items }
     ensures { (new : Numbers) (x : ModelMatter)
         → IsMatter (length s.now.journal.entries) new (M.Over exchange.now ended) x
         → OnOk result (IsDrafted moment (state_of s.now) (hearing_deeds peer datagram.now
@@ -106,7 +113,10 @@ fn draft_end<R: Relation>(
 /// Where the exchange that has ended was a write, it outran the others of its place. Where there
 /// are no others, its request isn't looked at.
 fn outrun<R: Relation>(exchanges: &mut Exchanges, journal: &Journal<R>, ended: &Exchange)
-    requires { AllByRecursion (IsDigested journal.now.entries) exchanges.old.exchanges }
+    requires digested { AllByRecursion (IsDigested journal.now.entries) exchanges.old.exchanges }
+    requires here { AllByRecursion (IsAskedHere journal.now.given journal.now.kept)
+        exchanges.old.exchanges }
+    requires ended { IsAskedHere journal.now.given journal.now.kept ended.now }
     ensures { exchanges.new.exchanges
         ≡ left_by journal.now.entries (ended.now ∷ []) exchanges.old.exchanges }
 {
@@ -126,8 +136,11 @@ fn change_tables<R: Relation>(
     put: Put,
 )
     requires room { HasRoomToPut put s.old.store.room }
-    requires few { length s.old.journal.entries ≤ MAX_ENTRIES }
+    requires few { length s.old.journal.entries ≤ most_entries }
     requires digests { AllByRecursion (IsDigested s.old.journal.entries) s.old.exchanges.exchanges }
+    requires here { AllByRecursion (IsAskedHere s.old.journal.given s.old.journal.kept)
+        s.old.exchanges.exchanges }
+    requires ended { IsAskedHere s.old.journal.given s.old.journal.kept exchange.now }
     requires early { moment ≤ LAST_MOMENT }
     requires ready { MayHeed moment (link_at s.old.endpoints peer) heeding }
     requires known { is_some (link_of s.old.endpoints.links peer).last_mid ≡ true }
@@ -167,9 +180,12 @@ fn add_end<R: Relation>(
     exchange: &Exchange,
     put: Put,
 ) -> Result<(), AllocError>
-    requires few { length s.old.journal.entries + length draft.old.entries ≤ MAX_ENTRIES }
+    requires few { length s.old.journal.entries + length draft.old.entries ≤ most_entries }
     requires ordered { IsOrdered (state_of s.old) }
     requires digests { AllByRecursion (IsDigested s.old.journal.entries) s.old.exchanges.exchanges }
+    requires here { AllByRecursion (IsAskedHere s.old.journal.given s.old.journal.kept)
+        s.old.exchanges.exchanges }
+    requires ended { IsAskedHere s.old.journal.given s.old.journal.kept exchange.now }
     requires early { moment ≤ LAST_MOMENT }
     requires ready { MayHeed moment (link_at s.old.endpoints peer) heeding }
     requires known { is_some (link_of s.old.endpoints.links peer).last_mid ≡ true }
@@ -217,6 +233,8 @@ pub fn end<R: Relation>(
         s.old.watches.standing ≡ [] }
     requires judged { (notice : Notice) × IsJudged moment peer datagram.now heeding notice
         (M.Over exchange.now ended) (link_at s.old.endpoints peer) (state_of s.old) }
+    requires here { IsMatterHere s.old.journal.given s.old.journal.kept
+        (M.Over exchange.now ended) }
     ensures sound { IsSound s.new }
     ensures heard { (word : ℕ) (notice : Notice)
         → IsJudgedBy moment word peer datagram.now heeding notice

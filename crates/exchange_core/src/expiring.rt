@@ -9,6 +9,7 @@ ghost use Rattle.exchange_model.specs.Matters.{IsDigested, left_by};
 ghost use Rattle.exchange_model.specs.Hearing.{is_past};
 ghost use Rattle.exchange_core.specs.Expiring.{is_over, is_over_by, is_that};
 ghost use Rattle.exchange_core.specs.Places.{OpenLater};
+ghost use Rattle.exchange_table.specs.Asks.{IsAskedHere};
 
 use crate::due::is_past;
 use coap_codec::Token;
@@ -101,7 +102,10 @@ pub fn over_at(
 
 /// These exchanges have ended: where they were writes, GETs join those of their places no more.
 fn outrun_all<R: Relation>(still: &mut Exchanges, journal: &Journal<R>, over: &[Exchange])
-    requires { AllByRecursion (IsDigested journal.now.entries) still.old.exchanges }
+    requires digested { AllByRecursion (IsDigested journal.now.entries) still.old.exchanges }
+    requires here { AllByRecursion (IsAskedHere journal.now.given journal.now.kept)
+        still.old.exchanges }
+    requires over { AllByRecursion (IsAskedHere journal.now.given journal.now.kept) over.now }
     ensures { still.new.exchanges
         ≡ left_by journal.now.entries over.now still.old.exchanges }
 {
@@ -113,7 +117,10 @@ fn outrun_all<R: Relation>(still: &mut Exchanges, journal: &Journal<R>, over: &[
 /// These exchanges end: they leave the table, and where they were writes, GETs join those of their
 /// places no more. It takes no memory.
 pub fn end_all<R: Relation>(exchanges: &mut Exchanges, journal: &Journal<R>, over: &[Exchange])
-    requires { AllByRecursion (IsDigested journal.now.entries) exchanges.old.exchanges }
+    requires digested { AllByRecursion (IsDigested journal.now.entries) exchanges.old.exchanges }
+    requires here { AllByRecursion (IsAskedHere journal.now.given journal.now.kept)
+        exchanges.old.exchanges }
+    requires over { AllByRecursion (IsAskedHere journal.now.given journal.now.kept) over.now }
     ensures { (ends : Row → Bool) → over.now ≡ filter ends exchanges.old.exchanges
         → exchanges.new.exchanges ≡ left_by journal.now.entries over.now
         (filter (λ e. not (ends e)) exchanges.old.exchanges) }

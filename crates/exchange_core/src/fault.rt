@@ -105,6 +105,8 @@ impl From<AllocError> for AskFault {
 pub enum RotateFault {
     /// The journal takes entries yet.
     Unsealed = 1,
+    /// Its first entries were given out.
+    Given = 7,
     /// A connection is open.
     Connected = 2,
     /// An exchange is open, or a message outstanding.
@@ -126,6 +128,7 @@ impl Display for RotateFault {
     fn fmt<W: Write>(&self, f: &mut Formatter<W>) -> Result<(), fmt::Error> {
         f.write_str(match self {
             RotateFault::Unsealed => "the journal isn't sealed",
+            RotateFault::Given => "its first entries were given out",
             RotateFault::Connected => "a connection is open",
             RotateFault::Exchanging => "an exchange is open",
             RotateFault::Spent => "too few numbers are left",

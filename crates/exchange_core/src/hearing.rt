@@ -13,6 +13,7 @@ ghost use Rattle.exchange_progress.specs.Coming.{AsksSayable};
 ghost use Rattle.exchange_core.specs.Calls.{HearsSo};
 ghost use Rattle.exchange_core.specs.Judged.{IsComingBy};
 ghost use Rattle.exchange_core.specs.Matters.{IsNextToken};
+ghost use Rattle.exchange_core.specs.Reading.{IsComingHere};
 ghost use Rattle.exchange_core.specs.Sound.{IsSound};
 ghost use Rattle.exchange_core.specs.States.{state_of, seen};
 
@@ -93,6 +94,7 @@ fn take_coming<R: Relation>(
     requires token { IsNextToken word token.now (state_of s.old) }
     requires open { find (is_under heeding.token) s.old.exchanges.exchanges ≡ Some exchange.now }
     requires sayable { AsksSayable coming }
+    requires coming { IsComingHere s.old.journal.given s.old.journal.kept coming }
     requires comes { IsComingBy moment datagram.now (link_at s.old.endpoints peer) heeding notice
         exchange.now coming (state_of s.old) }
     ensures sound { IsSound s.new }

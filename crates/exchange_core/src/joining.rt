@@ -3,7 +3,7 @@
 ghost use Rattle.std.specs.Prelude.{◌≡◌, ◌≢◌, ◌≤◌, ◌∷◌, [], false, true, find, length, IfOk, OnOk, Err};
 ghost use Rattle.std.specs.Arc.{arc_value};
 ghost use Rattle.std.specs.List.{AllByRecursion};
-ghost use Rattle.limits.specs.declared.TheConstants.{LAST_MOMENT, MAX_ENTRIES};
+ghost use Rattle.limits.specs.declared.TheConstants.{LAST_MOMENT};
 ghost use Rattle.journal_book.specs.Entries.{Asks};
 ghost use Rattle.journal_book.specs.Views.{ask_of};
 ghost use Rattle.exchange_model.specs.Matters.{IsDigested};
@@ -15,6 +15,8 @@ ghost use Rattle.exchange_core.specs.Joining.{MayJoin};
 ghost use Rattle.exchange_core.specs.Sound.{IsSound};
 ghost use Rattle.exchange_core.specs.States.{state_of, seen};
 ghost use Rattle.exchange_core.specs.Values.{stepped};
+ghost use Rattle.exchange_table.specs.Asks.{IsAskedHere};
+ghost use Rattle.exchange_model.specs.Memory.{most_entries};
 
 use crate::answer::Ticket;
 use crate::draft::Draft;
@@ -37,7 +39,9 @@ pub fn find_joined<R: Relation>(
     journal: &Journal<R>,
     mapped: &Mapped<R>,
 ) -> Option<Exchange>
-    requires { AllByRecursion (IsDigested journal.now.entries) exchanges.now.exchanges }
+    requires digested { AllByRecursion (IsDigested journal.now.entries) exchanges.now.exchanges }
+    requires here { AllByRecursion (IsAskedHere journal.now.given journal.now.kept)
+        exchanges.now.exchanges }
     ensures { result
         ≡ find (is_joined_by journal.now.entries mapped.now.sense) exchanges.now.exchanges }
 {
@@ -55,7 +59,7 @@ fn draft_join<R: Relation>(
     conn: u32,
     mapped: &Arc<Mapped<R>>,
 ) -> Result<Draft<R>, AllocError>
-    requires few { length s.now.journal.entries ≤ MAX_ENTRIES }
+    requires few { length s.now.journal.entries ≤ most_entries }
     ensures drafts { IfOk result (λ d. Drafts moment (state_of s.now)
         (Asks conn (ask_of (arc_value mapped.now)) ∷ []) d) }
     ensures answers { IfOk result (λ d. d.answers ≡ []) }

@@ -18,6 +18,7 @@ mod ending;
 mod ends;
 mod expiring;
 mod fault;
+mod giving;
 mod hearing;
 mod joining;
 mod matter;

@@ -1,9 +1,9 @@
 //! What a datagram is to the open exchanges.
 
-ghost use Rattle.std.specs.Prelude.{ℕ, ◌≡◌, ◌≤◌, ◌<◌, ◌^◌, List, None, Some, true, is_some, IfOk, IfSome, length};
+ghost use Rattle.std.specs.Prelude.{ℕ, ◌≡◌, ◌≤◌, ◌<◌, ◌^◌, List, None, Some, true, is_some, IfOk, IfSome, filter, length};
 ghost use Rattle.std.specs.List.{AllByRecursion, Contains, find};
 ghost use Rattle.coap_codec.specs.Spelling.{Spells, content};
-ghost use Rattle.limits.specs.declared.TheConstants.{LAST_MOMENT, MAX_ENTRIES, MAX_MESSAGE_LEN};
+ghost use Rattle.limits.specs.declared.TheConstants.{LAST_MOMENT, MAX_MESSAGE_LEN};
 ghost use Rattle.ask_model.specs.Requests.{CoapRequest, block_message};
 ghost use Rattle.ask_model.specs.Datagrams.{block_or_first};
 ghost use Rattle.blockwise.specs.Downloads.{IsSayable};
@@ -14,12 +14,17 @@ ghost use Rattle.message_layer.specs.declared.prepared.Heeding.{Heeding as Heedi
 ghost use Rattle.endpoint_table.specs.Tables.{link_at};
 ghost use Rattle.exchange_model.specs.State.{link_of};
 ghost use Rattle.exchange_model.specs.Steps.{is_under};
-ghost use Rattle.exchange_model.specs.Matters.{asked_in, has_next_place, stale_in};
+ghost use Rattle.exchange_model.specs.Matters.{asked_in, has_next_place, is_piece_of, stale_in};
 ghost use Rattle.exchange_progress.specs.declared.coming.Coming.TheVariants as Comes;
 ghost use Rattle.exchange_progress.specs.Coming.{AsksSayable, IsComing, comes_by};
 ghost use Rattle.exchange_core.specs.Matters.{IsAnsweredSo, IsAskedFor, IsFewTimes, IsNextFor, IsNextToken, IsPrepared, answer_in, matter_for, next_in};
 ghost use Rattle.exchange_core.specs.Renewing.{unless_confirmed};
 ghost use Rattle.exchange_core.specs.States.{state_of};
+ghost use Rattle.exchange_core.specs.Reading.{IsComingHere, IsMatterHere};
+ghost use Rattle.journal_book.specs.Journals.{IsHere};
+ghost use Rattle.exchange_table.specs.Asks.{IsAskedHere};
+ghost use Rattle.exchange_progress.specs.Pieces.{IsPieceHere};
+ghost use Rattle.exchange_model.specs.Memory.{most_entries};
 
 use crate::renewing::{is_confirmed, renewed_by};
 use crate::state::State;
@@ -93,10 +98,14 @@ fn coming_of<R: Relation>(
     number: u32,
     message: Message,
 ) -> Result<Coming, AllocError>
-    requires { IsFewTimes exchange.now }
+    requires few { IsFewTimes exchange.now }
+    requires here { AllByRecursion (IsPieceHere s.now.journal.given s.now.journal.kept)
+        (filter (is_piece_of exchange.now.opening) s.now.fetched.pieces) }
+    requires number { s.now.journal.given ≤ number }
     ensures coming { IfOk result (λ x. IsComing number x (comes_by s.now.journal.entries
         s.now.fetched.pieces exchange.now number (content message))) }
     ensures sayable { IfOk result AsksSayable }
+    ensures here { IfOk result (IsComingHere s.now.journal.given s.now.journal.kept) }
 {
     let pieces = s.fetched.among(exchange.opening);
     comes_to(alloc, &s.journal, pieces, exchange, number, message)
@@ -111,13 +120,17 @@ pub fn replied_to<R: Relation>(
     number: u32,
     message: Message,
 ) -> Result<Coming, AllocError>
-    requires { IsFewTimes exchange.now }
+    requires few { IsFewTimes exchange.now }
+    requires here { AllByRecursion (IsPieceHere s.now.journal.given s.now.journal.kept)
+        (filter (is_piece_of exchange.now.opening) s.now.fetched.pieces) }
+    requires number { s.now.journal.given ≤ number }
     ensures coming { IfOk result (λ x. IsComing number x
         (unless_confirmed (stale_in exchange.now.opening s.now.stales.stales)
         number (content message)
         (comes_by s.now.journal.entries s.now.fetched.pieces exchange.now
         number (content message)))) }
     ensures sayable { IfOk result AsksSayable }
+    ensures here { IfOk result (IsComingHere s.now.journal.given s.now.journal.kept) }
 {
     if let Some(stored) = s.stales.of(exchange.opening) {
         if is_confirmed(stored, &message) {
@@ -137,6 +150,7 @@ fn next_text<R: Relation>(
     token: &Token,
 ) -> Result<Bytes, AllocError>
     requires asked { is_some (asked_in journal.now.entries ask) ≡ true }
+    requires here { IsHere journal.now.given journal.now.kept ask }
     requires block { IfSome block IsSayable }
     ensures spelled { (q : CoapRequest) → asked_in journal.now.entries ask ≡ Some q
         → IfOk result (λ text. Spells (block_message q (block_or_first q block) 0 token.now) text) }
@@ -168,6 +182,7 @@ pub fn prepare_next<R: Relation>(
     requires ready { MayHeed moment (link_at s.now.endpoints peer.now) heeding.now }
     requires known { is_some (link_of s.now.endpoints.links peer.now).last_mid ≡ true }
     requires asked { is_some (asked_in s.now.journal.entries ask) ≡ true }
+    requires here { IsHere s.now.journal.given s.now.journal.kept ask }
     requires block { IfSome block IsSayable }
     ensures next { (q : CoapRequest) → asked_in s.now.journal.entries ask ≡ Some q
         → IfOk result (λ o. IfSome o (IsNextFor moment word
@@ -203,12 +218,14 @@ fn goes_on<R: Relation>(
     requires few { AllByRecursion IsFewTimes s.now.exchanges.exchanges }
     requires asked { AllByRecursion (IsAskedFor s.now.journal.entries) s.now.exchanges.exchanges }
     requires open { Contains s.now.exchanges.exchanges exchange.now }
+    requires here { IsAskedHere s.now.journal.given s.now.journal.kept exchange.now }
     requires sayable { IfSome onward.block IsSayable }
     requires early { moment ≤ LAST_MOMENT }
     requires ready { MayHeed moment (link_at s.now.endpoints peer.now) heeding.now }
     requires known { is_some (link_of s.now.endpoints.links peer.now).last_mid ≡ true }
     requires token { IsNextToken word token.now (state_of s.now) }
-    ensures { (said : Told) → IsAnsweredSo (length s.now.journal.entries) exchange.now
+    ensures here { IfOk result (IsMatterHere s.now.journal.given s.now.journal.kept) }
+    ensures prepared { (said : Told) → IsAnsweredSo (length s.now.journal.entries) exchange.now
         (Comes.Goes onward) (answer_in said heeding.now.token (state_of s.now))
         → IfOk result (λ k. IsPrepared moment word (link_at s.now.endpoints peer.now)
         heeding.now (state_of s.now) k
@@ -243,12 +260,15 @@ pub fn matter_by<R: Relation>(
     requires few { AllByRecursion IsFewTimes s.now.exchanges.exchanges }
     requires asked { AllByRecursion (IsAskedFor s.now.journal.entries) s.now.exchanges.exchanges }
     requires open { Contains s.now.exchanges.exchanges exchange.now }
+    requires here { IsAskedHere s.now.journal.given s.now.journal.kept exchange.now }
+    requires coming { IsComingHere s.now.journal.given s.now.journal.kept coming }
     requires sayable { AsksSayable coming }
     requires early { moment ≤ LAST_MOMENT }
     requires ready { MayHeed moment (link_at s.now.endpoints peer.now) heeding.now }
     requires known { is_some (link_of s.now.endpoints.links peer.now).last_mid ≡ true }
     requires token { IsNextToken word token.now (state_of s.now) }
-    ensures { (said : Told) → IsAnsweredSo (length s.now.journal.entries) exchange.now coming
+    ensures here { IfOk result (IsMatterHere s.now.journal.given s.now.journal.kept) }
+    ensures prepared { (said : Told) → IsAnsweredSo (length s.now.journal.entries) exchange.now coming
         (answer_in said heeding.now.token (state_of s.now))
         → IfOk result (λ k. IsPrepared moment word (link_at s.now.endpoints peer.now)
         heeding.now (state_of s.now) k
@@ -264,8 +284,11 @@ pub fn matter_by<R: Relation>(
 
 /// What an RST is to the exchanges, by the token of the message that it rejects: that one's ends.
 pub fn reset_of<R: Relation>(s: &State<R>, of: &Token) -> Matter
-    requires { length s.now.journal.entries ≤ MAX_ENTRIES }
-    ensures { (moment word : ℕ) (token : List ℕ) (p : PeerValue) (link : LinkValue) (x : HeedingValue)
+    requires few { length s.now.journal.entries ≤ most_entries }
+    requires here { AllByRecursion (IsAskedHere s.now.journal.given s.now.journal.kept)
+        s.now.exchanges.exchanges }
+    ensures here { IsMatterHere s.now.journal.given s.now.journal.kept result }
+    ensures prepared { (moment word : ℕ) (token : List ℕ) (p : PeerValue) (link : LinkValue) (x : HeedingValue)
         → IsNextToken word token (state_of s.now)
         → IsPrepared moment word link x (state_of s.now) result
         (matter_for moment p x (was_reset of.now) (state_of s.now)) }

@@ -7,6 +7,8 @@ ghost use Rattle.exchange_model.specs.Hearing.{Numbers};
 ghost use Rattle.exchange_core.specs.Matters.{IsMatter};
 ghost use Rattle.exchange_core.specs.Notifying.{IsNotedIn, IsReadBy, IsWatchedBy, ReadsIn, registered_by, unless_more};
 ghost use Rattle.exchange_core.specs.States.{state_of};
+ghost use Rattle.exchange_core.specs.Reading.{IsMatterHere};
+ghost use Rattle.exchange_table.specs.Asks.{IsAskedHere};
 
 use crate::matter::Matter;
 use crate::state::State;
@@ -46,7 +48,9 @@ fn registration_of<R: Relation>(
     notice: Notice,
     exchange: &Exchange,
 ) -> Result<Option<Registration>, AllocError>
-    requires { exchange.now.observes ≡ true → IsReadBy s.now.journal.entries exchange.now.ask }
+    requires reads { exchange.now.observes ≡ true
+        → IsReadBy s.now.journal.entries exchange.now.ask }
+    requires here { IsAskedHere s.now.journal.given s.now.journal.kept exchange.now }
     ensures is { IfOk result (λ o. option_to_list o
         ≡ registered_by moment notice exchange.now s.now.journal.entries s.now.watches.standing) }
     ensures few { IfOk result (λ o. IfSome o (λ r. length s.now.watches.standing < 64)) }
@@ -81,7 +85,9 @@ fn watching_by<R: Relation>(
     notice: Notice,
     exchange: &Exchange,
 ) -> Result<Watching, AllocError>
-    requires { exchange.now.observes ≡ true → IsReadBy s.now.journal.entries exchange.now.ask }
+    requires reads { exchange.now.observes ≡ true
+        → IsReadBy s.now.journal.entries exchange.now.ask }
+    requires here { IsAskedHere s.now.journal.given s.now.journal.kept exchange.now }
     ensures more { IfOk result (λ w. option_to_list w.more
         ≡ registered_by moment notice exchange.now s.now.journal.entries s.now.watches.standing) }
     ensures gone { IfOk result (λ w. w.gone.items
@@ -105,7 +111,8 @@ pub fn watching_of<R: Relation>(
     notice: Notice,
     matter: &Matter,
 ) -> Result<Watching, AllocError>
-    requires { ReadsIn s.now.journal.entries matter.now }
+    requires reads { ReadsIn s.now.journal.entries matter.now }
+    requires here { IsMatterHere s.now.journal.given s.now.journal.kept matter.now }
     ensures is { (m : Content) (new : Numbers) (x : ModelMatter)
         → IsMatter (length s.now.journal.entries) new matter.now x
         → IsNotedIn notice m matter.now

@@ -1,7 +1,7 @@
 //! What a tick does, prepared before the core changes.
 
 ghost use Rattle.std.specs.Prelude.{ℕ, ◌≡◌, ◌≤◌, ◌^◌, ◌+◌, ◌++◌, true, false, filter, length, sum_by, IfOk, OnOk};
-ghost use Rattle.limits.specs.declared.TheConstants.{LAST_MOMENT, MAX_ENTRIES};
+ghost use Rattle.limits.specs.declared.TheConstants.{LAST_MOMENT};
 ghost use Rattle.std.specs.List.{AllByRecursion};
 ghost use Rattle.ask_model.specs.Sizes.{capped};
 ghost use Rattle.journal_book.specs.Entries.{entry_size};
@@ -19,6 +19,8 @@ ghost use Rattle.exchange_core.specs.Places.{IsOrdered};
 ghost use Rattle.exchange_core.specs.Sound.{IsSound};
 ghost use Rattle.exchange_core.specs.States.{given_in, outgoing, state_of, HasPlaces, SeesSame};
 ghost use Rattle.exchange_core.specs.Turns.{AreTimed};
+ghost use Rattle.exchange_table.specs.Asks.{IsAskedHere};
+ghost use Rattle.exchange_model.specs.Memory.{most_entries};
 
 use crate::draft::Draft;
 use crate::due::next_due;
@@ -36,8 +38,8 @@ use std::alloc::{AllocError, Global};
 use std::collections::VecDeque;
 use transformers::Relation;
 
-/// Drafts what a tick does that has something to do.
-fn draft_tick<R: Relation>(
+/// Drafts what a tick does that has something to do, and whose datagrams the journal could take.
+pub fn draft_tick<R: Relation>(
     alloc: Global,
     s: &State<R>,
     over: &[Exchange],
@@ -48,6 +50,8 @@ fn draft_tick<R: Relation>(
     requires unsealed { s.now.sealed ≡ false }
     requires later { s.now.moment ≤ moment }
     requires due { something_due moment (state_of s.now) ≡ true }
+    requires few { length s.now.journal.entries + length (turns_deeds turns.now.items)
+        ≤ most_entries }
     requires over { over.now ≡ timed_out moment (state_of s.now) }
     requires timed { AreTimed turns.now.items }
     requires deeds { turns_deeds turns.now.items
@@ -113,13 +117,12 @@ pub fn is_due<R: Relation>(s: &State<R>, moment: u64) -> bool
 
 /// What is prepared for a tick that has something to do.
 #[derive(Drop)]
-pub struct Passing<R: Relation> {
+pub struct Passing {
     /// the exchanges that end
     pub over: Vec<Exchange>,
     /// their tokens, and those of what is observed no more
     pub gone: Vec<Token>,
     pub turns: VecDeque<Turn>,
-    pub draft: Draft<R>,
 }
 
 /// Prepares a tick that has something to do.
@@ -127,42 +130,34 @@ pub fn prepare<R: Relation>(
     alloc: Global,
     s: &mut State<R>,
     moment: u64,
-) -> Result<Passing<R>, AllocError>
+) -> Result<Passing, AllocError>
     requires sound { IsSound s.old }
-    requires unsealed { s.old.sealed ≡ false }
-    requires later { s.old.moment ≤ moment }
     requires early { moment ≤ LAST_MOMENT }
-    requires due { something_due moment (state_of s.old) ≡ true }
     ensures same { SeesSame s.old s.new }
     ensures over { IfOk result (λ x. x.over.items ≡ timed_out moment (state_of s.old)) }
     ensures gone { IfOk result (λ x. x.gone.items ≡ gone_tokens moment (state_of s.old)) }
     ensures ready { IfOk result
         (λ x. AreTurns moment x.gone.items s.new.endpoints.links s.new.endpoints.rooms
         x.turns.items) }
+    ensures timed { IfOk result (λ x. AreTimed x.turns.items) }
     ensures deeds { IfOk result (λ x. turns_deeds x.turns.items
         ≡ all_deeds moment (is_gone moment (state_of s.old)) (state_of s.old).links) }
     ensures going { IfOk result (λ x. (n : ℕ) → turns_going n x.turns.items
         ≡ all_going moment (is_gone moment (state_of s.old)) n (state_of s.old).links) }
-    ensures drafted { IfOk result (λ x. IsDrafted moment (state_of s.old)
-        (tick_deeds moment (state_of s.old)) x.draft) }
 {
     let over = find_over(alloc, s, moment)?;
     let mut gone = tokens_of(alloc, &over)?;
     add_unwatched(&mut gone, &s.watches, &s.journal, &over, moment)?;
     let turns = prepare_links(s, moment, &gone)?;
-    let draft = draft_tick(alloc, s, &over, &turns, moment)?;
-    Ok(Passing {
-        over,
-        gone,
-        turns,
-        draft,
-    })
+    Ok(Passing { over, gone, turns })
 }
 
-/// Does a tick as it was prepared.
-pub fn pass<R: Relation>(s: &mut State<R>, passing: Passing<R>, moment: u64)
+/// Does a tick as it was prepared and drafted.
+pub fn pass<R: Relation>(s: &mut State<R>, passing: Passing, draft: Draft<R>, moment: u64)
     requires early { moment ≤ LAST_MOMENT }
     requires digested { AllByRecursion (IsDigested s.old.journal.entries)
+        s.old.exchanges.exchanges }
+    requires here { AllByRecursion (IsAskedHere s.old.journal.given s.old.journal.kept)
         s.old.exchanges.exchanges }
     requires over { passing.over.items ≡ timed_out moment (state_of s.old) }
     requires rising { RiseBy opening_of passing.over.items }
@@ -170,27 +165,22 @@ pub fn pass<R: Relation>(s: &mut State<R>, passing: Passing<R>, moment: u64)
         + length (turns_deeds passing.turns.items) ≤ 4294967295 }
     requires ready { AreTurns moment passing.gone.items
         s.old.endpoints.links s.old.endpoints.rooms passing.turns.items }
-    requires places { HasPlaces s.old passing.draft }
-    requires few { length s.old.journal.entries + length passing.draft.entries ≤ MAX_ENTRIES }
+    requires places { HasPlaces s.old draft }
+    requires few { length s.old.journal.entries + length draft.entries ≤ most_entries }
     requires ordered { IsOrdered (state_of s.old) }
     ensures state { state_of s.new ≡ moved_on moment (is_among passing.gone.items)
         passing.over.items (sent_as
         (turns_going (length s.old.journal.entries + 1) passing.turns.items)
         (left_by s.old.journal.entries passing.over.items
         (filter (goes_on moment (state_of s.old)) s.old.exchanges.exchanges)))
-        passing.draft (state_of s.old) }
+        draft (state_of s.old) }
     ensures bytes { s.new.bytes
-        ≡ capped (s.old.bytes + capped (sum_by entry_size passing.draft.entries)) }
+        ≡ capped (s.old.bytes + capped (sum_by entry_size draft.entries)) }
     ensures held { length s.old.conns.items + 1 ≤ s.new.journal.room }
-    ensures answers { given_in s.new ≡ given_in s.old ++ passing.draft.answers }
-    ensures sends { outgoing s.new ≡ outgoing s.old ++ passing.draft.sends }
+    ensures answers { given_in s.new ≡ given_in s.old ++ draft.answers }
+    ensures sends { outgoing s.new ≡ outgoing s.old ++ draft.sends }
 {
-    let Passing {
-        over,
-        gone,
-        turns,
-        draft,
-    } = passing;
+    let Passing { over, gone, turns } = passing;
     drop_unwatched(&mut s.watches, &s.journal, &over, moment);
     retire_all(&mut s.store, &s.journal, &over);
     end_all(&mut s.exchanges, &s.journal, &over);

@@ -3,7 +3,6 @@
 ghost use Rattle.std.specs.Prelude.{◌≡◌, ◌≤◌, ◌<◌, ◌+◌, ◌∷◌, ◌++◌, [], map, length, true, vec_len, vec_capacity};
 ghost use Rattle.std.specs.VecDeque.{deque_len, deque_capacity};
 ghost use Rattle.journal_book.specs.Views.{event_of, item_of};
-ghost use Rattle.limits.specs.declared.TheConstants.{MAX_ENTRIES};
 ghost use Rattle.exchange_model.specs.Growing.{conns_with};
 ghost use Rattle.exchange_model.specs.State.{conns_after, readers_after};
 ghost use Rattle.exchange_table.specs.Places.{RiseBy};
@@ -11,6 +10,7 @@ ghost use Rattle.exchange_table.specs.Readers.{ask_in};
 ghost use Rattle.exchange_core.specs.Drafts.{AllKeep, KeepsConns};
 ghost use Rattle.exchange_core.specs.Places.{id_of};
 ghost use Rattle.exchange_core.specs.States.{readers_with};
+ghost use Rattle.exchange_model.specs.Memory.{most_entries};
 
 use crate::answer::Answer;
 use crate::noting::{note_conns, note_readers};
@@ -30,11 +30,13 @@ fn add_entry<R: Relation>(
     entry: Entry<R>,
 )
     requires room { 0 < journal.old.room }
-    requires few { length journal.old.entries ≤ MAX_ENTRIES }
+    requires few { length journal.old.entries ≤ most_entries }
     requires conns { RiseBy id_of conns.old.items }
     requires readers { RiseBy ask_in readers.old.items }
     requires keeps { KeepsConns (event_of entry.event) }
     ensures entries { journal.new.entries ≡ journal.old.entries ++ item_of entry ∷ [] }
+    ensures given { journal.new.given ≡ journal.old.given }
+    ensures kept { journal.new.kept ≡ journal.old.kept }
     ensures room { journal.new.room + 1 ≡ journal.old.room }
     ensures conns { conns.new.items
         ≡ conns_after conns.old.items (length journal.old.entries) (event_of entry.event) }
@@ -58,11 +60,13 @@ pub fn add_all<R: Relation>(
     entries: &mut VecDeque<Entry<R>>,
 )
     requires room { deque_len entries.old ≤ journal.old.room }
-    requires few { length journal.old.entries + deque_len entries.old ≤ MAX_ENTRIES }
+    requires few { length journal.old.entries + deque_len entries.old ≤ most_entries }
     requires conns { RiseBy id_of conns.old.items }
     requires readers { RiseBy ask_in readers.old.items }
     requires keep { AllKeep (map item_of entries.old.items) }
     ensures entries { journal.new.entries ≡ journal.old.entries ++ map item_of entries.old.items }
+    ensures given { journal.new.given ≡ journal.old.given }
+    ensures kept { journal.new.kept ≡ journal.old.kept }
     ensures room { journal.new.room + deque_len entries.old ≡ journal.old.room }
     ensures conns { conns.new.items
         ≡ conns_with conns.old.items (length journal.old.entries) (map item_of entries.old.items) }

@@ -2,7 +2,7 @@
 
 ghost use Rattle.std.specs.Prelude.{◌≡◌, ◌≢◌, ◌≤◌, ◌∷◌, [], false, true, length, IfOk, OnOk, Err};
 ghost use Rattle.std.specs.Arc.{arc_value};
-ghost use Rattle.limits.specs.declared.TheConstants.{LAST_MOMENT, MAX_ENTRIES};
+ghost use Rattle.limits.specs.declared.TheConstants.{LAST_MOMENT};
 ghost use Rattle.journal_book.specs.Views.{ask_of};
 ghost use Rattle.exchange_model.specs.Hearing.{Numbers as AskNumbers};
 ghost use Rattle.exchange_model.specs.Sealing.{asks_in_room};
@@ -12,6 +12,7 @@ ghost use Rattle.exchange_core.specs.Recalling.{MayRecall, kept_given, moved_for
 ghost use Rattle.exchange_core.specs.Sound.{IsSound};
 ghost use Rattle.exchange_core.specs.States.{state_of, seen};
 ghost use Rattle.exchange_core.specs.Values.{stepped};
+ghost use Rattle.exchange_model.specs.Memory.{most_entries};
 
 use crate::answer::{Answer, Ticket};
 use crate::draft::Draft;
@@ -66,7 +67,7 @@ fn stored_answer<R: Relation>(
     mapped: Arc<Mapped<R>>,
     stored: &StoredResponse,
 ) -> Result<Answer<R>, AllocError>
-    requires { number ≤ MAX_ENTRIES }
+    requires { number ≤ most_entries }
     ensures { IfOk result
         (λ a. given_of a ≡ kept_given number moment conn (arc_value mapped) stored.now) }
 {
@@ -92,7 +93,7 @@ fn draft_recall<R: Relation>(
     mapped: &Arc<Mapped<R>>,
     stored: &StoredResponse,
 ) -> Result<Draft<R>, AllocError>
-    requires few { length s.now.journal.entries ≤ MAX_ENTRIES }
+    requires few { length s.now.journal.entries ≤ most_entries }
     ensures drafts { IfOk result (λ d. Drafts moment (state_of s.now)
         (recall_deeds conn (ask_of (arc_value mapped.now)) stored.now (state_of s.now)) d) }
     ensures answers { IfOk result (λ d. d.answers ≡ kept_given (length s.now.journal.entries)

@@ -2,7 +2,7 @@
 
 ghost use Rattle.std.specs.Prelude.{◌≡◌, ◌≢◌, ◌≤◌, ◌+◌, ◌^◌, ◌∷◌, [], true, false, length, IfOk, OnOk, Err};
 ghost use Rattle.std.specs.Arc.{arc_value};
-ghost use Rattle.limits.specs.declared.TheConstants.{LAST_MOMENT, MAX_ENTRIES};
+ghost use Rattle.limits.specs.declared.TheConstants.{LAST_MOMENT};
 ghost use Rattle.journal_book.specs.Views.{ask_of};
 ghost use Rattle.exchange_model.specs.Hearing.{Numbers};
 ghost use Rattle.exchange_model.specs.Entering.{refusal_deeds};
@@ -12,6 +12,7 @@ ghost use Rattle.exchange_core.specs.Drafts.{Drafts};
 ghost use Rattle.exchange_core.specs.Sound.{IsSound};
 ghost use Rattle.exchange_core.specs.States.{state_of, seen, refusal_given};
 ghost use Rattle.exchange_core.specs.Values.{stepped};
+ghost use Rattle.exchange_model.specs.Memory.{most_entries};
 
 use crate::answer::{Answer, Ticket};
 use crate::draft::Draft;
@@ -36,7 +37,7 @@ fn draft_refusal<R: Relation>(
     mapped: &Arc<Mapped<R>>,
     cause: Cause,
 ) -> Result<Draft<R>, AllocError>
-    requires few { length s.now.journal.entries ≤ MAX_ENTRIES }
+    requires few { length s.now.journal.entries ≤ most_entries }
     ensures drafts { IfOk result (λ d. Drafts moment (state_of s.now)
         (refusal_deeds conn (ask_of (arc_value mapped.now)) cause (state_of s.now)) d) }
     ensures answers { IfOk result (λ d. d.answers

@@ -9,6 +9,10 @@ ghost use Rattle.history_laws.specs.Responses.{confirms};
 ghost use Rattle.journal_book.specs.Views.{event_of};
 ghost use Rattle.exchange_progress.specs.Coming.{AsksSayable, IsComing};
 ghost use Rattle.exchange_core.specs.Renewing.{AreAskable, IsListed, ends_heard, has_valid_code, hears_valid, hears_valid_by, stale_for};
+ghost use Rattle.exchange_core.specs.Reading.{IsPairHere};
+ghost use Rattle.journal_book.specs.Journals.{IsHere};
+ghost use Rattle.exchange_model.specs.Memory.{IsLast};
+ghost use Rattle.std.specs.List.{AllByRecursion};
 
 use ask_model::Mapped;
 use coap_codec::Message;
@@ -45,6 +49,7 @@ fn hears_valid<R: Relation>(event: &Event<R>) -> bool
 
 /// Whether the entry with this number has heard a 2.03.
 fn is_renewal<R: Relation>(journal: &Journal<R>, number: u32) -> bool
+    requires { IsHere journal.now.given journal.now.kept number }
     ensures { result ≡ hears_valid journal.now.entries number }
 {
     match journal.get(number as usize) {
@@ -55,6 +60,7 @@ fn is_renewal<R: Relation>(journal: &Journal<R>, number: u32) -> bool
 
 /// Whether it is as it was heard: no 2.03 has renewed it, which would be the last of its list.
 pub fn is_as_heard<R: Relation>(journal: &Journal<R>, stored: &StoredResponse) -> bool
+    requires { IsLast (IsHere journal.now.given journal.now.kept) stored.now.list }
     ensures { result ≡ ends_heard journal.now.entries stored.now.list }
 {
     match stored.list().last() {
@@ -69,7 +75,8 @@ fn as_pieces<R: Relation>(
     journal: &Journal<R>,
     stored: &StoredResponse,
 ) -> Result<StoredResponse, AllocError>
-    requires { IsListed journal.now.entries stored.now.list }
+    requires listed { IsListed journal.now.entries stored.now.list }
+    requires here { IsLast (IsHere journal.now.given journal.now.kept) stored.now.list }
     ensures { IfOk result (λ s. s ≡ as_pieces journal.now.entries stored.now) }
 {
     if is_as_heard(journal, stored) {
@@ -93,7 +100,8 @@ pub fn find_stale<R: Relation>(
     moment: u64,
     mapped: &Mapped<R>,
 ) -> Result<Option<StoredResponse>, AllocError>
-    requires { AreAskable journal.now.entries store.now.pairs }
+    requires askable { AreAskable journal.now.entries store.now.pairs }
+    requires here { AllByRecursion (IsPairHere journal.now.given journal.now.kept) store.now.pairs }
     ensures { IfOk result (λ o. o
         ≡ stale_for mapped.now.sense moment journal.now.entries store.now.pairs) }
 {

@@ -7,6 +7,7 @@ ghost use Rattle.journal_book.specs.Entries.{Asks};
 ghost use Rattle.journal_book.specs.Views.{ask_of};
 ghost use Rattle.exchange_core.specs.Asked.{IsAskIn};
 ghost use Rattle.exchange_core.specs.Values.{written};
+ghost use Rattle.journal_book.specs.Journals.{IsHere};
 
 use ask_model::Mapped;
 use journal_book::{Event, Journal};
@@ -16,7 +17,8 @@ use transformers::Relation;
 
 /// The request of the ask in the entry with this number, which it shares.
 pub fn request_of<R: Relation>(journal: &Journal<R>, ask: u32) -> Result<Arc<Mapped<R>>, AllocError>
-    requires { IsAskIn journal.now.entries ask }
+    requires asks { IsAskIn journal.now.entries ask }
+    requires here { IsHere journal.now.given journal.now.kept ask }
     ensures { (t c : ℕ) (a : Ask) → slice_get journal.now.entries ask ≡ Some (written t (Asks c a))
         → IfOk result (λ m. ask_of (arc_value m) ≡ a) }
 {

@@ -1,6 +1,7 @@
 //! The room of a journal, and what of it is held free.
 
-ghost use Rattle.std.specs.Prelude.{ℕ, ◌≡◌, ◌≤◌, false, length, count_by, sum_by, IfOk};
+ghost use Rattle.std.specs.Prelude.{ℕ, ◌≡◌, ◌≤◌, ◌<◌, ◌+◌, ◌-◌, IsTrue, false, drop, length, count_by, sum_by, IfOk};
+ghost use Rattle.limits.specs.declared.TheConstants.{MAX_ENTRIES, MAX_NUMBERED};
 ghost use Rattle.journal_book.specs.Entries.{entry_size};
 ghost use Rattle.exchange_model.specs.Room.{has_asked, fits};
 ghost use Rattle.exchange_model.specs.Steps.{opens};
@@ -12,6 +13,7 @@ ghost use Rattle.exchange_core.specs.States.{state_of, with_draft};
 use crate::draft::Draft;
 use crate::state::State;
 use exchange_model::Conn;
+use journal_book::Journal;
 use limits::{MAX_ANSWER_SIZE, MAX_ENTRIES, MAX_JOURNAL_LEN};
 use std::alloc::{AllocError, Global};
 use transformers::Relation;
@@ -51,16 +53,37 @@ fn has_room_for(entries: u64, bytes: u64, count: u64, conns: &[Conn]) -> bool
     has_room(entries, bytes, count, pending_count(conns) as u64)
 }
 
+/// How many entries the journal has in memory.
+fn held_len<R: Relation>(journal: &Journal<R>) -> usize
+    ensures { result ≡ length journal.now.entries - journal.now.given }
+{
+    journal.len() - journal.given()
+}
+
+/// Whether so many entries more than there are in memory are within the limit.
+pub fn has_entries<R: Relation>(s: &State<R>, more: usize) -> bool
+    requires { s.now.journal.given ≤ length s.now.journal.entries }
+    ensures fits { IsTrue result
+        → length s.now.journal.entries + more ≤ s.now.journal.given + MAX_ENTRIES }
+    ensures full { result ≡ false
+        → s.now.journal.given + MAX_ENTRIES < length s.now.journal.entries + more }
+{
+    (held_len(&s.journal) as u64).saturating_add(more as u64) <= MAX_ENTRIES
+}
+
 /// Whether the journal takes what was drafted. What the draft does to the connections is looked at
 /// only where that decides.
 pub fn takes<R: Relation>(alloc: Global, s: &State<R>, draft: &Draft<R>) -> Result<bool, AllocError>
     requires unsealed { s.now.sealed ≡ false }
-    requires count { s.now.bytes ≡ sum_by entry_size s.now.journal.entries }
+    requires count { s.now.bytes
+        ≡ sum_by entry_size (drop s.now.journal.given s.now.journal.entries) }
+    requires within { s.now.journal.given ≤ length s.now.journal.entries }
+    requires numbered { s.now.journal.given ≤ MAX_NUMBERED + 1024 }
     requires ordered { RiseBy id_of s.now.conns.items }
     ensures { (t : ℕ) → IfOk result
         (λ b. b ≡ fits (with_draft t draft.now (state_of s.now))) }
 {
-    let entries = (s.journal.len() as u64).saturating_add(draft.len() as u64);
+    let entries = (held_len(&s.journal) as u64).saturating_add(draft.len() as u64);
     let bytes = s.bytes.saturating_add(draft.bytes());
     let count = s.conns.len() as u64;
     if has_room(entries, bytes, count, count) {
@@ -78,12 +101,14 @@ pub fn takes<R: Relation>(alloc: Global, s: &State<R>, draft: &Draft<R>) -> Resu
 /// Whether the journal takes one more connection.
 pub fn takes_conn<R: Relation>(s: &State<R>) -> bool
     requires unsealed { s.now.sealed ≡ false }
-    requires count { s.now.bytes ≡ sum_by entry_size s.now.journal.entries }
+    requires count { s.now.bytes
+        ≡ sum_by entry_size (drop s.now.journal.given s.now.journal.entries) }
+    requires within { s.now.journal.given ≤ length s.now.journal.entries }
     ensures { (t : ℕ) → result ≡ fits (opens t (state_of s.now)) }
 {
     let conns = s.conns.as_slice();
     has_room_for(
-        (s.journal.len() as u64).saturating_add(1),
+        (held_len(&s.journal) as u64).saturating_add(1),
         s.bytes.saturating_add(64),
         (conns.len() as u64).saturating_add(1),
         conns,

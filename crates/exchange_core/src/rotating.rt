@@ -46,9 +46,13 @@ fn fault<R: Relation>(s: &State<R>, moment: u64) -> Option<RotateFault>
     ensures some { IfSome result (λ fault. IsRefused moment (state_of s.now) fault) }
     ensures none { result ≡ None → fault_of moment (state_of s.now)
         ≡ (if not (are_few (copies moment s.now.journal.entries)) then Some Crowded else None) }
+    ensures whole { result ≡ None → s.now.journal.given ≡ 0 }
 {
     if !s.sealed {
         return Some(RotateFault::Unsealed);
+    }
+    if s.journal.given() > 0 {
+        return Some(RotateFault::Given);
     }
     if !s.conns.is_empty() {
         return Some(RotateFault::Connected);
@@ -72,6 +76,7 @@ fn remembered_in<R: Relation>(
     requires early { moment ≤ LAST_MOMENT }
     ensures refused { IfErr result (λ fault. IsRefused moment (state_of s.now) fault) }
     ensures none { OnOk result (fault_of moment (state_of s.now) ≡ None) }
+    ensures whole { OnOk result (s.now.journal.given ≡ 0) }
     ensures marks { IfOk result (λ m. AreMarks moment s.now.journal.entries [] m) }
 {
     if let Some(fault) = fault(s, moment) {
@@ -99,6 +104,7 @@ pub fn turn_fault<R: Relation>(alloc: Global, s: &State<R>, moment: u64) -> Opti
 
 /// The pairs to whose place no open exchange writes. What such a one came to isn't known.
 fn unwritten<R: Relation>(s: &State<R>) -> Result<Vec<Pair>, AllocError>
+    requires { s.now.journal.given ≡ 0 }
     ensures pairs { IfOk result (λ v. v.items
         ≡ retired s.now.journal.entries s.now.exchanges.exchanges s.now.store.pairs) }
     ensures store { IfOk result (λ v. IsStore v.items) }
@@ -110,10 +116,15 @@ fn unwritten<R: Relation>(s: &State<R>) -> Result<Vec<Pair>, AllocError>
 
 /// Takes out the pairs that a 2.03 has renewed.
 fn keep_heard<R: Relation>(journal: &Journal<R>, pairs: &mut Vec<Pair>)
+    requires { journal.now.given ≡ 0 }
     ensures pairs { pairs.new.items ≡ filter (ends_as_heard journal.now.entries) pairs.old.items }
     ensures store { IsStore pairs.old.items → IsStore pairs.new.items }
 {
-    pairs.retain(|pair| is_as_heard(journal, &pair.stored));
+    pairs.retain(
+        |pair|
+            requires { journal.now.given ≡ 0 }
+        { is_as_heard(journal, &pair.stored) },
+    );
 }
 
 /// What the next journal begins with, and the pairs that are carried over.
@@ -124,6 +135,7 @@ fn next_of<R: Relation>(
     moment: u64,
 ) -> Result<Begun<R>, AllocError>
     requires few { length s.now.journal.entries ≤ MAX_ENTRIES }
+    requires whole { s.now.journal.given ≡ 0 }
     requires askable { AreAskable s.now.journal.entries s.now.store.pairs }
     requires marks { AreMarks moment s.now.journal.entries [] remembered }
     ensures counted { IfOk result (λ b. AreCounted b.copies) }
@@ -154,6 +166,7 @@ fn turn<R: Relation>(
     requires keeping { keeping ≡ map (is_any next.peers.items) s.old.endpoints.links }
     ensures state { state_of s.new ≡ turned moment (state_of s.old) }
     ensures given { result.entries ≡ s.old.journal.entries }
+    ensures whole { result.given ≡ s.old.journal.given }
     ensures bytes { s.new.bytes ≡ capped (sum_by entry_size s.new.journal.entries) }
     ensures place { 0 < s.new.journal.room }
     ensures answers { given_in s.new ≡ [] }

@@ -61,6 +61,8 @@ impl<R: Relation> Model for Snapshot<R> {
       bytes = s.bytes;
       tables = record {
         entries = [];
+        given = 0;
+        kept = [];
         sealed = s.sealed;
         moment = s.moment;
         opened = s.opened;
@@ -135,8 +137,9 @@ pub fn take_snapshot<R: Relation>(alloc: Global, s: &State<R>) -> Result<Snapsho
 
 /// Goes back to what this was, with the first of the entries that there are.
 pub fn put_back<R: Relation>(s: &mut State<R>, snapshot: Snapshot<R>)
-    ensures state { state_of s.new
-        ≡ restored (take snapshot.count s.old.journal.entries) snapshot }
+    requires { s.old.journal.given ≤ snapshot.count }
+    ensures state { state_of s.new ≡ restored (take snapshot.count s.old.journal.entries)
+        s.old.journal.given s.old.journal.kept snapshot }
     ensures bytes { s.new.bytes ≡ snapshot.bytes }
     ensures room { snapshot.count ≤ length s.old.journal.entries
         → min (s.old.journal.room + length s.old.journal.entries) (snapshot.count + 1024)

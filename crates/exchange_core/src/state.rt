@@ -3,10 +3,10 @@
 ghost use Rattle.std.specs.Prelude.{ℕ, ◌≡◌, ◌≤◌, ◌+◌, ◌++◌, [], length, true, sum_by, OnOk};
 ghost use Rattle.ask_model.specs.Sizes.{capped};
 ghost use Rattle.journal_book.specs.Entries.{entry_size};
-ghost use Rattle.limits.specs.declared.TheConstants.{MAX_ENTRIES};
 ghost use Rattle.exchange_core.specs.Drafts.{Drafts};
 ghost use Rattle.exchange_core.specs.Places.{IsOrdered};
 ghost use Rattle.exchange_core.specs.States.{state_of, outgoing, given_in, with_draft, HasPlaces, SeesSame};
+ghost use Rattle.exchange_model.specs.Memory.{most_entries};
 
 use crate::answer::Answer;
 use crate::draft::Draft;
@@ -55,7 +55,7 @@ pub struct State<R: Relation> {
 
 /// Nothing yet, after the entries that there are.
 pub fn start<R: Relation>(alloc: Global, s: &State<R>) -> Draft<R>
-    requires { length s.now.journal.entries ≤ MAX_ENTRIES }
+    requires { length s.now.journal.entries ≤ most_entries }
     ensures drafts { (t : ℕ) → Drafts t (state_of s.now) [] result }
     ensures answers { result.answers ≡ [] }
 {
@@ -64,7 +64,7 @@ pub fn start<R: Relation>(alloc: Global, s: &State<R>) -> Draft<R>
 
 /// Nothing is drafted yet, after the entries that there are.
 pub fn start_anew<R: Relation>(draft: &mut Draft<R>, s: &State<R>)
-    requires { length s.now.journal.entries ≤ MAX_ENTRIES }
+    requires { length s.now.journal.entries ≤ most_entries }
     ensures drafts { (t : ℕ) → Drafts t (state_of s.now) [] draft.new }
     ensures answers { draft.new.answers ≡ [] }
 {
@@ -88,7 +88,7 @@ pub fn make_places<R: Relation>(s: &mut State<R>, draft: &Draft<R>) -> Result<()
 /// Adds what was drafted at this moment, for which there are places.
 pub fn commit<R: Relation>(s: &mut State<R>, draft: &mut Draft<R>, moment: u64)
     requires places { HasPlaces s.old draft.old }
-    requires few { length s.old.journal.entries + length draft.old.entries ≤ MAX_ENTRIES }
+    requires few { length s.old.journal.entries + length draft.old.entries ≤ most_entries }
     requires ordered { IsOrdered (state_of s.old) }
     ensures state { state_of s.new ≡ with_draft moment draft.old (state_of s.old) }
     ensures bytes { s.new.bytes

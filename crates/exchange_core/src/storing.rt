@@ -1,6 +1,6 @@
 //! What the end of an exchange does to the store (RFC 7252 sections 5.6 and 5.9.2).
 
-ghost use Rattle.std.specs.Prelude.{◌≡◌, ℕ, IfOk, OnOk, List, Option, option_map, Some, None};
+ghost use Rattle.std.specs.Prelude.{true, false, ◌≡◌, ℕ, IfOk, OnOk, List, Option, option_map, Some, None};
 ghost use Rattle.std.specs.Arc.{arc_value};
 ghost use Rattle.exchange_model.specs.Matters.{Matter as ModelMatter};
 ghost use Rattle.exchange_model.specs.Hearing.{Numbers, is_newest, newest_content, retired, retold, settled};
@@ -10,6 +10,9 @@ ghost use Rattle.resp_cache.specs.Stored.{Stored};
 ghost use Rattle.exchange_progress.specs.Coming.{IsEnded};
 ghost use Rattle.exchange_core.specs.Matters.{IsMatter};
 ghost use Rattle.exchange_core.specs.Storing.{HasRoomToPut, content_told, if_newest, if_unchanged, is_newest_found, is_outdating, key_ended, outdated_under, put_for, put_in, put_under, renewed_for, settled_with, stored_for};
+ghost use Rattle.exchange_core.specs.Reading.{IsCountedHere, IsEndHere, IsMatterHere};
+ghost use Rattle.std.specs.List.{AllByRecursion};
+ghost use Rattle.exchange_table.specs.Asks.{IsAskedHere};
 
 use crate::ending::{first_moment, last_moment};
 use crate::matter::{Matter, Notification};
@@ -50,6 +53,7 @@ fn content_in(finding: &Finding) -> Option<&Arc<Response>>
 
 /// What the GET reads whose exchange has ended, if no write outran it.
 fn sought_in<'a, R: Relation>(journal: &'a Journal<R>, ended: &Exchange) -> Option<Lookup<'a>>
+    requires { IsAskedHere journal.now.given journal.now.kept ended.now }
     ensures { result ≡ key_ended journal.now.entries (Some ended.now) }
 {
     if !ended.current {
@@ -67,6 +71,7 @@ pub fn stored_for<R: Relation>(
     finding: &Finding,
     moment: u64,
 ) -> Result<Option<StoredResponse>, AllocError>
+    requires { IsCountedHere journal.now.given journal.now.kept false finding.now.grounds }
     ensures { IfOk result (λ o. o
         ≡ stored_for journal.now.entries moment opening finding.now.told finding.now.grounds) }
 {
@@ -118,6 +123,8 @@ fn put_found<R: Relation>(
     finding: &Finding,
     moment: u64,
 ) -> Result<Put, AllocError>
+    requires asked { IsAskedHere journal.now.given journal.now.kept ended.now }
+    requires found { IsCountedHere journal.now.given journal.now.kept false finding.now.grounds }
     ensures { IfOk result (λ o. o ≡ put_for journal.now.entries (Some ended.now)
         (if_newest ended.now finding.now (stored_for journal.now.entries moment ended.now.ask
         finding.now.told finding.now.grounds))) }
@@ -149,6 +156,7 @@ fn renewed_for<R: Relation>(
     finding: &Finding,
     moment: u64,
 ) -> Result<Option<StoredResponse>, AllocError>
+    requires { IsCountedHere journal.now.given journal.now.kept true finding.now.grounds }
     ensures { IfOk result (λ o. o
         ≡ renewed_for journal.now.entries moment opening finding.now.told finding.now.grounds) }
 {
@@ -174,6 +182,8 @@ fn put_renewed<R: Relation>(
     finding: &Finding,
     moment: u64,
 ) -> Result<Put, AllocError>
+    requires asked { IsAskedHere journal.now.given journal.now.kept ended.now }
+    requires found { IsCountedHere journal.now.given journal.now.kept true finding.now.grounds }
     ensures { IfOk result (λ o. o ≡ put_for journal.now.entries (Some ended.now)
         (if_unchanged ended.now (renewed_for journal.now.entries moment opening
         finding.now.told finding.now.grounds))) }
@@ -204,6 +214,8 @@ pub fn put_ended<R: Relation>(
     ended: &Ended,
     moment: u64,
 ) -> Result<Put, AllocError>
+    requires asked { IsAskedHere journal.now.given journal.now.kept exchange.now }
+    requires ended { IsEndHere journal.now.given journal.now.kept ended.now }
     ensures { (n : ℕ) (how : Ending) → IsEnded n ended.now how
         → IfOk result (λ o. o ≡ put_for journal.now.entries (Some exchange.now)
         (newest_content journal.now.entries moment exchange.now how)) }
@@ -240,6 +252,7 @@ pub fn put_of<R: Relation>(
     matter: &Matter,
     moment: u64,
 ) -> Result<Put, AllocError>
+    requires { IsMatterHere journal.now.given journal.now.kept matter.now }
     ensures { (n : ℕ) (new : Numbers) (x : ModelMatter) → IsMatter n new matter.now x
         → IfOk result (λ o. o ≡ put_in journal.now.entries moment x) }
 {
@@ -263,6 +276,7 @@ pub fn make_room_for(store: &mut Store, put: &Put) -> Result<(), AllocError>
 
 /// Where the exchange that has ended was a write, what is stored of its place goes.
 fn retire<R: Relation>(store: &mut Store, journal: &Journal<R>, ended: &Exchange)
+    requires { IsAskedHere journal.now.given journal.now.kept ended.now }
     ensures { store.new.pairs
         ≡ settled journal.now.entries (Some ended.now) None store.old.pairs }
 {
@@ -279,6 +293,7 @@ fn retire<R: Relation>(store: &mut Store, journal: &Journal<R>, ended: &Exchange
 
 /// These exchanges have come to nothing that is stored: what writes among them changed goes.
 pub fn retire_all<R: Relation>(store: &mut Store, journal: &Journal<R>, over: &[Exchange])
+    requires { AllByRecursion (IsAskedHere journal.now.given journal.now.kept) over.now }
     ensures { store.new.pairs ≡ retired journal.now.entries over.now store.old.pairs }
 {
     'each: for ended in over {
@@ -288,6 +303,7 @@ pub fn retire_all<R: Relation>(store: &mut Store, journal: &Journal<R>, over: &[
 
 /// What was read by the exchange that has ended is stored no more.
 fn outdate<R: Relation>(store: &mut Store, journal: &Journal<R>, ended: &Exchange)
+    requires { IsAskedHere journal.now.given journal.now.kept ended.now }
     ensures { store.new.pairs
         ≡ outdated_under (key_ended journal.now.entries (Some ended.now)) store.old.pairs }
 {
@@ -302,7 +318,8 @@ fn outdate<R: Relation>(store: &mut Store, journal: &Journal<R>, ended: &Exchang
 /// The exchange has ended: what it puts is stored, for which there is room, or what it changed
 /// goes.
 pub fn settle<R: Relation>(store: &mut Store, journal: &Journal<R>, ended: &Exchange, put: Put)
-    requires { HasRoomToPut put store.old.room }
+    requires room { HasRoomToPut put store.old.room }
+    requires here { IsAskedHere journal.now.given journal.now.kept ended.now }
     ensures { store.new.pairs
         ≡ settled_with journal.now.entries (Some ended.now) put store.old.pairs }
 {

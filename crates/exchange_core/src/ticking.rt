@@ -10,10 +10,11 @@ ghost use Rattle.exchange_core.specs.Sound.{IsSound};
 ghost use Rattle.exchange_core.specs.States.{state_of, seen};
 ghost use Rattle.exchange_core.specs.Values.{stepped};
 
-use crate::passing::{is_due, pass, prepare};
+use crate::passing::{draft_tick, is_due, pass, prepare};
 use crate::room;
 use crate::state::{self, State};
 use crate::timeouts::{draft_late, draft_sealing};
+use crate::turns::sends_count;
 use std::alloc::{AllocError, Global};
 use transformers::Relation;
 
@@ -71,12 +72,16 @@ fn tick_due<R: Relation>(alloc: Global, s: &mut State<R>, moment: u64) -> Result
     ensures memory { OnErr result (seen s.new ≡ seen s.old) }
 {
     let passing = prepare(alloc, s, moment)?;
-    let taken = room::takes(alloc, s, &passing.draft)?;
+    if !room::has_entries(s, sends_count(&passing.turns)) {
+        return tick_full(alloc, s, moment);
+    }
+    let draft = draft_tick(alloc, s, &passing.over, &passing.turns, moment)?;
+    let taken = room::takes(alloc, s, &draft)?;
     if !taken {
         return tick_full(alloc, s, moment);
     }
-    state::make_places(s, &passing.draft)?;
-    pass(s, passing, moment);
+    state::make_places(s, &draft)?;
+    pass(s, passing, draft, moment);
     Ok(())
 }
 

@@ -12,6 +12,7 @@ ghost use Rattle.exchange_core.specs.Drafts.{IsDrafted};
 ghost use Rattle.exchange_core.specs.Ending.{late_deeds, late_to, out_of_time};
 ghost use Rattle.exchange_core.specs.Sound.{IsSound};
 ghost use Rattle.exchange_core.specs.States.{state_of};
+ghost use Rattle.exchange_core.specs.Reading.{IsReaderHere};
 
 use crate::draft::Draft;
 use crate::ending::{Telling, draft_tellings};
@@ -72,6 +73,8 @@ pub fn draft_timeouts<R: Relation>(
     requires ordered { RiseBy opening_of exchanges.now }
     requires room { draft.old.next + length s.now.readers.items ≤ 4294967295 }
     requires asked { AllByRecursion (IsAskedIn s.now.journal.entries) s.now.readers.items }
+    requires here { AllByRecursion (IsReaderHere s.now.journal.given s.now.journal.kept)
+        s.now.readers.items }
     ensures { (ds : List Deed) → IsDrafted moment (state_of s.now) ds draft.old
         → OnOk result (IsDrafted moment (state_of s.now)
         (ds ++ map answer_of (told_late exchanges.now s.now.readers.items)) draft.new) }

@@ -1,6 +1,7 @@
 //! What endpoints send at a tick.
 
-ghost use Rattle.std.specs.Prelude.{◌≡◌, ◌≤◌, ◌+◌, ◌++◌, List, length, OnOk};
+ghost use Rattle.std.specs.Prelude.{◌≡◌, ◌≤◌, ◌+◌, ◌++◌, List, length, if◌then◌else◌, OnOk};
+ghost use Rattle.uri_map.specs.declared.peer.Peer.{Peer as PeerValue};
 ghost use Rattle.journal_book.specs.Entries.{Deed};
 ghost use Rattle.exchange_model.specs.State.{State as CoreState};
 ghost use Rattle.exchange_model.specs.Entering.{sent_as};
@@ -61,6 +62,29 @@ fn draft_turn<R: Relation>(
         Ticking::GivesUp(_, next) => draft_first(draft, peer, next, moment)?,
     }
     Ok(())
+}
+
+/// Whether a turn sends a datagram. It sends one at most.
+fn sends(turn: &Ticking) -> bool
+    ensures { (p : PeerValue) → length (deeds_of p turn.now) ≡ (if result then 1 else 0) }
+{
+    match turn {
+        Ticking::Rests | Ticking::GivesUp(_, None) => false,
+        Ticking::Copies(_) | Ticking::GivesUp(_, Some(_)) => true,
+    }
+}
+
+/// How many datagrams the turns send.
+pub fn sends_count(turns: &VecDeque<Turn>) -> usize
+    ensures { result ≡ length (turns_deeds turns.now.items) }
+{
+    let mut count = 0;
+    'each: for place in 0..turns.len() {
+        if sends(&turns[place].ticking) {
+            count += 1;
+        }
+    }
+    count
 }
 
 /// Drafts what the turns send, in order.

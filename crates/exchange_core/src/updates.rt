@@ -1,8 +1,8 @@
 //! Messages under the tokens of what is observed (RFC 7641).
 
-ghost use Rattle.std.specs.Prelude.{ℕ, ◌≡◌, ◌≤◌, true, is_some, None, Some, IfOk, IfSome, length};
+ghost use Rattle.std.specs.Prelude.{ℕ, List, ◌≡◌, ◌≤◌, true, is_some, None, Some, IfOk, IfSome, length};
 ghost use Rattle.std.specs.List.{AllByRecursion, find};
-ghost use Rattle.limits.specs.declared.TheConstants.{LAST_MOMENT, MAX_ENTRIES};
+ghost use Rattle.limits.specs.declared.TheConstants.{LAST_MOMENT};
 ghost use Rattle.coap_codec.specs.Spelling.{Content, content};
 ghost use Rattle.message_layer.specs.Values.{response, told};
 ghost use Rattle.ask_model.specs.Requests.{CoapRequest};
@@ -20,6 +20,9 @@ ghost use Rattle.exchange_model.specs.Hearing.{Numbers};
 ghost use Rattle.exchange_core.specs.Matters.{IsMatter, IsNextToken, IsPrepared};
 ghost use Rattle.exchange_core.specs.Notifying.{IsStarted, IsUnder, IsWatchedFor, has_link_place, matter_told, may_start_for, notice_told, started};
 ghost use Rattle.exchange_core.specs.States.{state_of};
+ghost use Rattle.exchange_core.specs.Reading.{IsMatterHere, IsWatchHere};
+ghost use Rattle.exchange_table.specs.Asks.{IsAskedHere};
+ghost use Rattle.exchange_model.specs.Memory.{most_entries};
 
 use crate::beginning::GET;
 use crate::matter::{Going, Matter, Notification, Starting, prepare_next, reset_of};
@@ -59,7 +62,8 @@ fn is_such(message: &Message) -> bool
 
 /// A notification that counts for this watch: by it this is stored.
 fn notification(watch: &Registration, found: Option<StoredResponse>) -> Result<Matter, AllocError>
-    ensures { (n : ℕ) (new : Numbers) → IfOk result (λ k.
+    ensures here { (given : ℕ) (kept : List ℕ) → IfOk result (IsMatterHere given kept) }
+    ensures is { (n : ℕ) (new : Numbers) → IfOk result (λ k.
         IsMatter n new k (TellsOf watch.now found)) }
 {
     Ok(Matter::Tells(Notification {
@@ -89,6 +93,8 @@ fn may_start<R: Relation>(s: &State<R>, moment: u64, peer: &Peer, key: &Key) -> 
     requires early { moment ≤ LAST_MOMENT }
     requires known { is_some (link_of s.now.endpoints.links peer.now).last_mid ≡ true }
     requires digests { AllByRecursion (IsDigested s.now.journal.entries) s.now.exchanges.exchanges }
+    requires here { AllByRecursion (IsAskedHere s.now.journal.given s.now.journal.kept)
+        s.now.exchanges.exchanges }
     ensures { result ≡ may_start_for moment peer.now key.now (state_of s.now) }
 {
     if s.exchanges.as_slice().len() >= MAX_EXCHANGES {
@@ -146,11 +152,14 @@ fn start<R: Relation>(
     requires early { moment ≤ LAST_MOMENT }
     requires ready { MayHeed moment (link_at s.now.endpoints peer.now) heeding.now }
     requires known { is_some (link_of s.now.endpoints.links peer.now).last_mid ≡ true }
-    requires entries { length s.now.journal.entries ≤ MAX_ENTRIES }
+    requires entries { length s.now.journal.entries ≤ most_entries }
     requires asked { is_some (asked_in s.now.journal.entries watch.now.opening) ≡ true }
+    requires watch { IsWatchHere s.now.journal.given s.now.journal.kept watch.now }
+    requires within { s.now.journal.given ≤ length s.now.journal.entries }
     requires block { IfSome onward.block IsSayable }
     requires place { has_next_place moment peer.now heeding.now.verdict (state_of s.now) ≡ true }
-    ensures { (q : CoapRequest) → asked_in s.now.journal.entries watch.now.opening ≡ Some q
+    ensures here { IfOk result (IsMatterHere s.now.journal.given s.now.journal.kept) }
+    ensures started { (q : CoapRequest) → asked_in s.now.journal.entries watch.now.opening ≡ Some q
         → IfOk result (λ k. IsStarted moment word token.now peer.now
         (link_at s.now.endpoints peer.now) heeding.now q watch.now onward (state_of s.now) k) }
 {
@@ -189,11 +198,16 @@ fn update<R: Relation>(
     requires early { moment ≤ LAST_MOMENT }
     requires ready { MayHeed moment (link_at s.now.endpoints peer.now) heeding.now }
     requires known { is_some (link_of s.now.endpoints.links peer.now).last_mid ≡ true }
-    requires entries { length s.now.journal.entries ≤ MAX_ENTRIES }
+    requires entries { length s.now.journal.entries ≤ most_entries }
     requires asked { is_some (asked_in s.now.journal.entries watch.now.opening) ≡ true }
+    requires watch { IsWatchHere s.now.journal.given s.now.journal.kept watch.now }
+    requires within { s.now.journal.given ≤ length s.now.journal.entries }
     requires digests { AllByRecursion (IsDigested s.now.journal.entries) s.now.exchanges.exchanges }
+    requires here { AllByRecursion (IsAskedHere s.now.journal.given s.now.journal.kept)
+        s.now.exchanges.exchanges }
     requires token { IsNextToken word token.now (state_of s.now) }
-    ensures { (v : ℕ) → IfOk result (λ k. IsPrepared moment word
+    ensures here { IfOk result (IsMatterHere s.now.journal.given s.now.journal.kept) }
+    ensures prepared { (v : ℕ) → IfOk result (λ k. IsPrepared moment word
         (link_at s.now.endpoints peer.now) heeding.now (state_of s.now) k
         (told_so moment peer.now (state_of s.now) watch.now (Update v)
         (as_first (length s.now.journal.entries) 0 (content message)))) }
@@ -232,12 +246,18 @@ fn tells<R: Relation>(
     requires early { moment ≤ LAST_MOMENT }
     requires ready { MayHeed moment (link_at s.now.endpoints peer.now) heeding.now }
     requires known { is_some (link_of s.now.endpoints.links peer.now).last_mid ≡ true }
-    requires entries { length s.now.journal.entries ≤ MAX_ENTRIES }
+    requires entries { length s.now.journal.entries ≤ most_entries }
     requires watched { AllByRecursion (IsWatchedFor s.now.journal.entries) s.now.watches.standing }
+    requires watches { AllByRecursion (IsWatchHere s.now.journal.given s.now.journal.kept)
+        s.now.watches.standing }
+    requires within { s.now.journal.given ≤ length s.now.journal.entries }
     requires digests { AllByRecursion (IsDigested s.now.journal.entries) s.now.exchanges.exchanges }
+    requires here { AllByRecursion (IsAskedHere s.now.journal.given s.now.journal.kept)
+        s.now.exchanges.exchanges }
     requires token { IsNextToken word token.now (state_of s.now) }
     requires notice { notice ≡ notice_in (content message) }
-    ensures { IfOk result (λ k. IsPrepared moment word (link_at s.now.endpoints peer.now)
+    ensures here { IfOk result (IsMatterHere s.now.journal.given s.now.journal.kept) }
+    ensures prepared { IfOk result (λ k. IsPrepared moment word (link_at s.now.endpoints peer.now)
         heeding.now (state_of s.now) k
         (told_alone moment peer.now News.Response (content message) (state_of s.now))) }
 {
@@ -266,7 +286,7 @@ pub fn matter_told<R: Relation>(
     notice: Notice,
     up: Up,
 ) -> Result<Matter, AllocError>
-    requires entries { length s.now.journal.entries ≤ MAX_ENTRIES }
+    requires entries { length s.now.journal.entries ≤ most_entries }
     requires alone { (m : Content) → told up ≡ response m
         → find (is_under heeding.now.token) s.now.exchanges.exchanges ≡ None }
     requires early { moment ≤ LAST_MOMENT }
@@ -274,10 +294,16 @@ pub fn matter_told<R: Relation>(
     requires known { is_some (link_of s.now.endpoints.links peer.now).last_mid ≡ true }
     requires token { IsNextToken word token.now (state_of s.now) }
     requires watched { AllByRecursion (IsWatchedFor s.now.journal.entries) s.now.watches.standing }
+    requires watches { AllByRecursion (IsWatchHere s.now.journal.given s.now.journal.kept)
+        s.now.watches.standing }
+    requires within { s.now.journal.given ≤ length s.now.journal.entries }
     requires digests { AllByRecursion (IsDigested s.now.journal.entries) s.now.exchanges.exchanges }
+    requires here { AllByRecursion (IsAskedHere s.now.journal.given s.now.journal.kept)
+        s.now.exchanges.exchanges }
     requires notice { notice ≡ notice_told (told up) }
     requires under { IsUnder heeding.now.token (told up) }
-    ensures { IfOk result (λ k. IsPrepared moment word (link_at s.now.endpoints peer.now)
+    ensures here { IfOk result (IsMatterHere s.now.journal.given s.now.journal.kept) }
+    ensures prepared { IfOk result (λ k. IsPrepared moment word (link_at s.now.endpoints peer.now)
         heeding.now (state_of s.now) k
         (matter_told moment peer.now heeding.now (told up) (state_of s.now))) }
 {

@@ -1,13 +1,14 @@
 //! What asks, messages and ends do to the resources that are observed (RFC 7641).
 
 ghost use Rattle.std.specs.Prelude.{◌≡◌, ◌≤◌, ◌++◌, IfOk, OnOk};
-ghost use Rattle.std.specs.List.{list_any};
+ghost use Rattle.std.specs.List.{AllByRecursion, list_any};
 ghost use Rattle.cache_key.specs.Keys.{key_of, place_of};
 ghost use Rattle.observe_share.specs.Watches.{is_at, is_idle, is_of, without};
 ghost use Rattle.exchange_model.specs.Matters.{asked_in};
 ghost use Rattle.exchange_model.specs.Hearing.{is_written_late};
 ghost use Rattle.exchange_model.specs.Watching.{is_written_by, tokens_of, touched};
 ghost use Rattle.exchange_core.specs.Watching.{is_renewed_for, is_unwatched_by, may_watch};
+ghost use Rattle.exchange_table.specs.Asks.{IsAskedHere};
 
 use ask_model::Mapped;
 use cache_key::Reading;
@@ -112,6 +113,7 @@ pub fn add_written<R: Relation>(
     journal: &Journal<R>,
     ended: &Exchange,
 ) -> Result<(), AllocError>
+    requires { IsAskedHere journal.now.given journal.now.kept ended.now }
     ensures { OnOk result (tokens.new.items ≡ tokens.old.items
         ++ tokens_of (is_written_by (asked_in journal.now.entries ended.now.ask))
         watches.now.standing) }
@@ -127,6 +129,7 @@ pub fn add_written<R: Relation>(
 
 /// Where the exchange that has ended was a write, those of its place end.
 pub fn retire<R: Relation>(watches: &mut Watch, journal: &Journal<R>, ended: &Exchange)
+    requires { IsAskedHere journal.now.given journal.now.kept ended.now }
     ensures { watches.new.standing ≡ without
         (is_written_by (asked_in journal.now.entries ended.now.ask)) watches.old.standing }
 {
@@ -143,6 +146,7 @@ pub fn retire<R: Relation>(watches: &mut Watch, journal: &Journal<R>, ended: &Ex
 
 /// Whether the exchange, which ends, is a write to the place of this one.
 fn is_written<R: Relation>(watch: &Registration, journal: &Journal<R>, ended: &Exchange) -> bool
+    requires { IsAskedHere journal.now.given journal.now.kept ended.now }
     ensures { result ≡ is_written_by (asked_in journal.now.entries ended.now.ask) watch.now }
 {
     let Some(mapped) = asked(journal, ended.ask) else {
@@ -160,9 +164,15 @@ fn is_written_late<R: Relation>(
     journal: &Journal<R>,
     over: &[Exchange],
 ) -> bool
+    requires { AllByRecursion (IsAskedHere journal.now.given journal.now.kept) over.now }
     ensures { result ≡ is_written_late journal.now.entries over.now watch.now }
 {
-    over.iter().any(|ended| is_written(watch, journal, ended))
+    'each: for ended in over {
+        if is_written(watch, journal, ended) {
+            return true;
+        }
+    }
+    false
 }
 
 /// Whether a tick ends it, at which these exchanges end.
@@ -172,6 +182,7 @@ fn is_unwatched<R: Relation>(
     over: &[Exchange],
     moment: u64,
 ) -> bool
+    requires { AllByRecursion (IsAskedHere journal.now.given journal.now.kept) over.now }
     ensures { result ≡ is_unwatched_by moment journal.now.entries over.now watch.now }
 {
     watch.is_idle(moment) || is_written_late(watch, journal, over)
@@ -185,6 +196,7 @@ fn add_ending<R: Relation>(
     over: &[Exchange],
     moment: u64,
 ) -> Result<(), AllocError>
+    requires { AllByRecursion (IsAskedHere journal.now.given journal.now.kept) over.now }
     ensures { OnOk result (tokens.new.items ≡ tokens.old.items
         ++ tokens_of (is_unwatched_by moment journal.now.entries over.now) watches.now) }
 {
@@ -205,6 +217,7 @@ pub fn add_unwatched<R: Relation>(
     over: &[Exchange],
     moment: u64,
 ) -> Result<(), AllocError>
+    requires { AllByRecursion (IsAskedHere journal.now.given journal.now.kept) over.now }
     ensures { OnOk result (tokens.new.items ≡ tokens.old.items
         ++ tokens_of (is_unwatched_by moment journal.now.entries over.now) watches.now.standing) }
 {
@@ -221,6 +234,7 @@ pub fn drop_unwatched<R: Relation>(
     over: &[Exchange],
     moment: u64,
 )
+    requires { AllByRecursion (IsAskedHere journal.now.given journal.now.kept) over.now }
     ensures { watches.new.standing
         ≡ without (is_unwatched_by moment journal.now.entries over.now) watches.old.standing }
 {

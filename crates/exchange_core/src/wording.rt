@@ -6,6 +6,8 @@ ghost use Rattle.ask_model.specs.Sizes.{came_size};
 ghost use Rattle.exchange_core.specs.Renewing.{AreAskable};
 ghost use Rattle.exchange_core.specs.States.{state_of};
 ghost use Rattle.exchange_core.specs.Wording.{AsksIfValid, AsksPlainly, AsksToObserve, IsFirst, IsRequest};
+ghost use Rattle.exchange_core.specs.Reading.{IsPairHere};
+ghost use Rattle.std.specs.List.{AllByRecursion};
 
 use crate::renewing::find_stale;
 use crate::state::State;
@@ -61,7 +63,9 @@ fn validating<R: Relation>(
     mapped: &Mapped<R>,
     token: &Token,
 ) -> Result<Option<First>, AllocError>
-    requires { AreAskable s.now.journal.entries s.now.store.pairs }
+    requires askable { AreAskable s.now.journal.entries s.now.store.pairs }
+    requires here { AllByRecursion (IsPairHere s.now.journal.given s.now.journal.kept)
+        s.now.store.pairs }
     ensures { IfOk result (λ o. AsksIfValid moment mapped.now token.now (state_of s.now) o) }
 {
     let _body = mapped.body();
@@ -108,6 +112,8 @@ pub fn first_of<R: Relation>(
 ) -> Result<First, AllocError>
     requires asks { IsRequest mapped.now.sense }
     requires askable { AreAskable s.now.journal.entries s.now.store.pairs }
+    requires here { AllByRecursion (IsPairHere s.now.journal.given s.now.journal.kept)
+        s.now.store.pairs }
     ensures first { IfOk result (λ x. IsFirst moment mapped.now token.now (state_of s.now) x) }
     ensures small { came_size mapped.now.came ≤ MAX_REQUEST_SIZE }
 {

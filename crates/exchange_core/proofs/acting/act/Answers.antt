@@ -13,8 +13,9 @@ use Rattle.exchange_core.specs.Hearing.{watches_after}
 use Rattle.exchange_core.proofs.HeardNotes.{first-so, reads-in, watched-as}
 use Rattle.exchange_core.proofs.Heeds.{bytes-small, effect}
 use Rattle.exchange_core.proofs.HeardSteps.{newest-in, sound-sealed, seen-sealed, sound-heard, seen-heard, tells-so}
-use Rattle.exchange_core.proofs.Readers.{few-readers}
-use Rattle.exchange_core.proofs.Sounding.{few-for}
+use Rattle.exchange_core.proofs.Readers.{readers-connected}
+use Rattle.exchange_core.proofs.Sounding.{few-for, few-entries}
+use Rattle.exchange_core.proofs.Read.{asks-here, readers-here}
 use Rattle.exchange_core.proofs.acting.act.Goals as goal
 
 untaken : (b : Bool) → not b ≡ true → b ≡ false
@@ -31,7 +32,7 @@ bring-requires-clause-reads g c =
     reads-in c.args.moment c.args.peer c.args.heeding (told h.up) (state_of c.args.s.now) _ made.numbers c.args.matter c.requires.sound.kept.kept made.is
 
 pub bring-requires-clause-readers : goal.bring-requires-clause-readers
-bring-requires-clause-readers g c = few-readers (state_of c.args.s.now) c.requires.sound.kept
+bring-requires-clause-readers g c = readers-connected (state_of c.args.s.now) c.requires.sound.kept c.requires.sound.few
 
 pub bring-requires-clause-timed : goal.bring-requires-clause-timed
 bring-requires-clause-timed g c =
@@ -71,7 +72,7 @@ add_heard-requires-clause-known g c = c.requires.judged.by.hears.known
 
 pub add_heard-requires-clause-few : goal.add_heard-requires-clause-few
 add_heard-requires-clause-few g c =
-    few-for c.args.moment (state_of c.args.s.now) c.bring.new.draft
+    few-for c.args.moment (state_of c.args.s.now) c.bring.new.draft c.requires.sound.kept
     (sym (c.in_ok-brought.ensures.taken c.args.moment) ∙ is-taken _ c.if-not-brought.false)
 
 pub returns-then-not-brought-clause-sound : goal.returns-then-not-brought-clause-sound
@@ -127,3 +128,12 @@ returns-clause-heard g c = λ word j.
     (e.state (effect c.args.moment word c.args.peer c.args.datagram.now (state_of c.args.s.now) (link_at c.args.s.now.endpoints c.args.peer) h
     c.args.matter j.hears refl made (watches_after c.args.moment c.args.s.now.journal.entries c.in_ok-brought.brought.watching.notice c.args.matter
     c.in_ok-brought.brought.watching.more c.args.s.now.watches.standing) c.in_ok-brought.brought.watching.gone.items) (record { matter = made.is; first = first-so c.args.moment c.args.peer c.args.heeding (told h.up) (state_of c.args.s.now) _ made.numbers c.args.matter c.requires.sound.kept.kept made.is; watches = refl; gone = refl }) (c.in_ok-brought.ensures.put made.numbers _ made.is)) e.answers e.sends
+
+pub bring-requires-clause-few : goal.bring-requires-clause-few
+bring-requires-clause-few g c = few-entries (state_of c.args.s.now) c.requires.sound.kept
+
+pub bring-requires-clause-waiting : goal.bring-requires-clause-waiting
+bring-requires-clause-waiting g c = readers-here (state_of c.args.s.now) c.requires.sound.kept.here
+
+pub add_heard-requires-clause-here : goal.add_heard-requires-clause-here
+add_heard-requires-clause-here g c = asks-here (state_of c.args.s.now) c.requires.sound.kept.here

@@ -2,6 +2,8 @@ use Rattle.std.proofs.Common.{subst, sym}
 use Rattle.std.specs.List.{AllByRecursion}
 use Rattle.exchange_model.specs.State.{State}
 use Rattle.exchange_model.specs.Matters.{IsDigested}
+use Rattle.exchange_table.specs.Asks.{IsAskedHere}
+use Rattle.exchange_core.specs.Reading.{IsMatterHere}
 use Rattle.exchange_core.proofs.acting.add_heard.Goals as goal
 
 pub change_tables-requires-clause-ready : goal.change_tables-requires-clause-ready
@@ -16,3 +18,11 @@ change_tables-requires-clause-known g c = rw (c.make_room_to_add.ensures.endpoin
 pub change_tables-requires-clause-digests : goal.change_tables-requires-clause-digests
 change_tables-requires-clause-digests g c =
     subst (λ (V : State). AllByRecursion (IsDigested V.entries) V.exchanges) (sym c.make_room_to_add.ensures.same.state) c.requires.digests
+
+pub change_tables-requires-clause-here : goal.change_tables-requires-clause-here
+change_tables-requires-clause-here g c =
+    subst (λ (V : State). AllByRecursion (IsAskedHere V.given V.kept) V.exchanges) (sym c.make_room_to_add.ensures.same.state) c.requires.here
+
+pub change_tables-requires-clause-matter : goal.change_tables-requires-clause-matter
+change_tables-requires-clause-matter g c =
+    subst (λ (V : State). IsMatterHere V.given V.kept c.args.matter) (sym c.make_room_to_add.ensures.same.state) c.requires.matter

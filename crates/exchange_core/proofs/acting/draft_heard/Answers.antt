@@ -14,6 +14,14 @@ use Rattle.exchange_core.specs.Values.{written}
 use Rattle.exchange_core.proofs.Drafting.{answers-none}
 use Rattle.exchange_core.proofs.Heard.{link-few}
 use Rattle.exchange_core.proofs.Tolds.{told-few, told-same}
+use Rattle.exchange_model.specs.declared.kept.Reader.{Reader}
+use Rattle.exchange_model.specs.Hearing.{Numbers}
+use Rattle.exchange_model.specs.Matters.{Matter}
+use Rattle.exchange_core.specs.declared.matter.Matter.{Matter as RustMatter}
+use Rattle.exchange_core.specs.declared.matter.Matter.TheVariants as M
+use Rattle.exchange_core.specs.Matters.{IsMatter}
+use Rattle.exchange_core.specs.Reading.{IsMatterHere, IsReaderHere, IsTellingHere}
+use Rattle.exchange_core.proofs.Read.{told-here}
 use Rattle.exchange_core.proofs.acting.draft_heard.Goals as goal
 
 pub draft_tellings-requires-clause-room : goal.draft_tellings-requires-clause-room
@@ -58,3 +66,24 @@ returns g c = λ new x i.
     ∙ ap (λ v. ds v ++ map answer_of (told_for n x S.readers)) c.next_in-next.ensures))
     (c.in_ok-draft_tellings.ensures S (ds now) refl
     (answers-none t S (ds now) c.draft_link.new.draft c.in_ok-draft_link.ensures.drafts c.in_ok-draft_link.ensures.answers))
+
+-- what a matter is told of can be read, as its end can
+matter-here : (given : ℕ) (kept : List ℕ) (n : ℕ) (new : Numbers) (k : RustMatter) (x : Matter) (rs : List Reader)
+    → IsMatter n new k x → IsMatterHere given kept k → AllByRecursion (IsReaderHere given kept) rs
+    → AllByRecursion (IsTellingHere given kept) (told_of n x rs)
+matter-here given kept n new M.Nothing x rs is h all = subst (λ (y : Matter). AllByRecursion (IsTellingHere given kept) (told_of n y rs)) (sym is) tt
+matter-here given kept n new (M.Tells k) x rs is h all = subst (λ (y : Matter). AllByRecursion (IsTellingHere given kept) (told_of n y rs)) (sym is.1) tt
+matter-here given kept n new (M.Starts k) x rs is h all = subst (λ (y : Matter). AllByRecursion (IsTellingHere given kept) (told_of n y rs)) (sym is.2) tt
+matter-here given kept n new (M.Goes k) x rs is h all = subst (λ (y : Matter). AllByRecursion (IsTellingHere given kept) (told_of n y rs)) (sym is.1) tt
+matter-here given kept n new (M.Over e ended) x rs is h all =
+    subst (λ (y : Matter). AllByRecursion (IsTellingHere given kept) (told_of n y rs)) (sym is.1)
+    (told-here given kept n ended is.0 e rs is.2 h.1 all)
+
+pub draft_tellings-requires-clause-here : goal.draft_tellings-requires-clause-here
+draft_tellings-requires-clause-here g c =
+    let S : State = state_of c.args.s.now in
+    let k = c.requires.tells in
+    let are : c.in_ok-told.told.items ≡ told_of (length S.entries) k.matter S.readers =
+    c.in_ok-told.ensures (length S.entries) k.numbers k.matter k.is in
+    subst (AllByRecursion (IsTellingHere S.given S.kept)) (sym are)
+    (matter-here S.given S.kept (length S.entries) k.numbers c.args.matter.now k.matter S.readers k.is c.requires.here c.requires.waiting)

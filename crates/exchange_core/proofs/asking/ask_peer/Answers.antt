@@ -11,10 +11,11 @@ use Rattle.exchange_core.specs.Refusing.{MayRefuse}
 use Rattle.exchange_core.specs.Values.{CoreValue}
 use Rattle.exchange_core.specs.States.{state_of}
 use Rattle.exchange_core.proofs.Asks.{found-by, full-no-place, may-be-busy, may-join, may-recall, request-of, stored-by}
+use Rattle.exchange_core.proofs.Read.{asks-here}
 use Rattle.exchange_core.proofs.asking.ask_peer.Goals as goal
 
-pub find_joined-requires : goal.find_joined-requires
-find_joined-requires g c = all-digested (state_of c.args.s.now) c.requires.sound.kept.kept
+pub find_joined-requires-clause-digested : goal.find_joined-requires-clause-digested
+find_joined-requires-clause-digested g c = all-digested (state_of c.args.s.now) c.requires.sound.kept.kept
 
 pub turn_away-requires-clause-refused : goal.turn_away-requires-clause-refused
 turn_away-requires-clause-refused g c =
@@ -63,3 +64,6 @@ read_stored-requires-clause-nothing g c =
 pub begin-requires-clause-unserved : goal.begin-requires-clause-unserved
 begin-requires-clause-unserved g c =
     stored-by (arc_value c.args.mapped) _ c.args.moment c.args.s.now.store.pairs _ None c.in_ok-found.ensures c.deref.ensures c.in_default.is
+
+pub find_joined-requires-clause-here : goal.find_joined-requires-clause-here
+find_joined-requires-clause-here g c = asks-here (state_of c.args.s.now) c.requires.sound.kept.here

@@ -12,6 +12,7 @@ use Rattle.exchange_model.specs.Watching.{tokens_of}
 use Rattle.exchange_core.proofs.Begins.{has-place, is-request}
 use Rattle.exchange_core.proofs.BeginSound.{same-sound, unnumbered}
 use Rattle.exchange_core.proofs.Askable.{askable}
+use Rattle.exchange_core.proofs.Read.{pairs-here}
 use Rattle.exchange_core.proofs.beginning.begin.Goals as goal
 
 pub first_of-requires-clause-asks : goal.first_of-requires-clause-asks
@@ -66,3 +67,6 @@ ask-requires-clause-gone g c =
     c.in_ok-gone.ensures
     ∙ ap (λ (m : Mapping). tokens_of (is_renewed_for m.sense) c.args.s.now.watches.standing) c.deref-2.ensures
     ∙ ap (λ (S : State). tokens_of (is_renewed_for (arc_value c.args.mapped).sense) S.watches) (sym c.prepare.ensures.same.state)
+
+pub first_of-requires-clause-here : goal.first_of-requires-clause-here
+first_of-requires-clause-here g c = pairs-here (state_of c.args.s.now) c.requires.sound.kept.here

@@ -16,7 +16,7 @@ add_exchange-requires-clause-issued g c =
 pub add_exchange-requires-clause-few : goal.add_exchange-requires-clause-few
 add_exchange-requires-clause-few g c =
     let fit = sym (c.in_ok-taken.ensures c.args.moment) ∙ c.if-not-taken.false in
-    let left = few-for c.args.moment (state_of c.args.s.now) c.args.draft.now fit in
+    let left = few-for c.args.moment (state_of c.args.s.now) c.args.draft.now c.requires.sound.kept fit in
     let same = ap (λ (S : State). length S.entries) c.make_all_places.ensures.same.state in
     omega (arith, left, same)
 

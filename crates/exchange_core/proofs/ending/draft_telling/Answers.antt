@@ -5,8 +5,8 @@ use Rattle.exchange_core.specs.Ending.{IsAnswerTo, IsTold}
 use Rattle.exchange_core.proofs.Endings.{told-drafted}
 use Rattle.exchange_core.proofs.ending.draft_telling.Goals as goal
 
-pub answer_to-requires : goal.answer_to-requires
-answer_to-requires g c =
+pub answer_to-requires-clause-asks : goal.answer_to-requires-clause-asks
+answer_to-requires-clause-asks g c =
     let a = c.requires.told.asked in
     record { moment = a.moment; conn = c.args.telling.reader.conn; ask = a.ask; stands = a.stands }
 

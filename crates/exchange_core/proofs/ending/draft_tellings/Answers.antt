@@ -4,6 +4,7 @@ use Rattle.journal_book.specs.Entries.{Deed, Written}
 use Rattle.exchange_core.specs.declared.ending.Telling.{Telling}
 use Rattle.exchange_core.specs.Drafts.{IsDrafted}
 use Rattle.exchange_core.specs.Ending.{IsTold, deed_of}
+use Rattle.exchange_core.specs.Reading.{IsTellingHere}
 use Rattle.exchange_core.proofs.Endings.{all-told-still}
 use Rattle.exchange_core.proofs.ending.draft_tellings.Goals as goal
 
@@ -15,6 +16,7 @@ pub each-init : goal.each-init
 each-init g c = record {
   drafted = λ S ds e h. (ds, h, refl);
   room = c.requires.room;
+  here = c.requires.here;
   told = c.requires.told;
 }
 
@@ -27,6 +29,8 @@ each-preserved g c =
     let items : c.each.told.items ≡ x ∷ rest = c.in-Some.ensures.items in
     let told : AllByRecursion (IsTold h c.each.draft.entries t) (x ∷ rest) =
     subst (AllByRecursion (IsTold h c.each.draft.entries t)) items c.each.invariant.told in
+    let here : AllByRecursion (IsTellingHere c.args.journal.now.given c.args.journal.now.kept) (x ∷ rest) =
+    subst (AllByRecursion (IsTellingHere c.args.journal.now.given c.args.journal.now.kept)) items c.each.invariant.here in
     let grown = c.in_ok-draft_telling.ensures.grows in
     record {
       drafted = λ S ds e l.
@@ -41,6 +45,7 @@ each-preserved g c =
           let next = c.in_ok-draft_telling.ensures.next in
           let len = ap length items in
           omega (arith, room, next, len);
+      here = here.1;
       told = subst (λ (ws : List Written). AllByRecursion (IsTold h ws t) rest) (sym grown.1)
           (all-told-still h c.each.draft.entries (grown.0 ∷ []) t rest told.1);
     }
@@ -53,3 +58,7 @@ returns g c = λ S ds e h.
     let none = no-items c.each.told.items (omega (arith, gone, len)) in
     subst (λ (es : List Deed). IsDrafted c.args.moment S es c.each.draft)
     (sym (append-nil last.0) ∙ ap (λ (xs : List Telling). last.0 ++ map deed_of xs) (sym none) ∙ last.2) last.1
+
+pub draft_telling-requires-clause-here : goal.draft_telling-requires-clause-here
+draft_telling-requires-clause-here g c =
+    (subst (AllByRecursion (IsTellingHere c.args.journal.now.given c.args.journal.now.kept)) c.in-Some.ensures.items c.each.invariant.here).0

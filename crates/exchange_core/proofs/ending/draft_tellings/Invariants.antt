@@ -5,6 +5,7 @@ use Rattle.journal_book.specs.Entries.{Deed}
 use Rattle.exchange_model.specs.State.{State}
 use Rattle.exchange_core.specs.Drafts.{IsDrafted}
 use Rattle.exchange_core.specs.Ending.{IsTold, deed_of}
+use Rattle.exchange_core.specs.Reading.{IsTellingHere}
 use Rattle.exchange_core.proofs.ending.draft_tellings.Given as goal
 
 abbrev pub invariant-each : goal.invariant-each
@@ -14,6 +15,7 @@ invariant-each g l = record {
       → (es : List Deed) × IsDrafted l.moment S es l.draft
       × (es ++ map deed_of l.told.items ≡ ds ++ map deed_of l.initial.told.items);
   room : l.draft.next + length l.told.items ≤ 4294967295;
+  here : AllByRecursion (IsTellingHere l.journal.given l.journal.kept) l.told.items;
   told : AllByRecursion (IsTold l.journal.entries l.draft.entries l.moment) l.told.items;
 }
 

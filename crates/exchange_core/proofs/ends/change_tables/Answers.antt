@@ -7,10 +7,11 @@ use Rattle.exchange_core.specs.Hearing.{first_number, note_next}
 use Rattle.exchange_core.specs.States.{state_of}
 use Rattle.exchange_core.proofs.Apart.{tables-by}
 use Rattle.exchange_core.proofs.Settling.{stored-over}
+use Rattle.exchange_table.specs.Asks.{IsAskedHere}
 use Rattle.exchange_core.proofs.ends.change_tables.Goals as goal
 
-pub outrun-requires : goal.outrun-requires
-outrun-requires g c =
+pub outrun-requires-clause-digested : goal.outrun-requires-clause-digested
+outrun-requires-clause-digested g c =
     let ws = c.args.s.now.journal.entries in
     subst (AllByRecursion (IsDigested ws)) (sym c.remove.ensures)
     (all-filter (IsDigested ws) (is_other c.args.exchange.now.token) c.args.s.now.exchanges.exchanges c.requires.digests)
@@ -28,3 +29,9 @@ returns-clause-state g c = λ x ended k is.
     c.drop_of.ensures.pieces c.drop_of-2.ensures.stales c.retire.ensures
     (c.settle.ensures ∙ stored-over n c.args.moment S.entries x.numbers e ended x.matter c.args.put S.store k.matter is)
     c.heed.ensures
+
+pub outrun-requires-clause-here : goal.outrun-requires-clause-here
+outrun-requires-clause-here g c =
+    let here = IsAskedHere c.args.s.now.journal.given c.args.s.now.journal.kept in
+    subst (AllByRecursion here) (sym c.remove.ensures)
+    (all-filter here (is_other c.args.exchange.now.token) c.args.s.now.exchanges.exchanges c.requires.here)

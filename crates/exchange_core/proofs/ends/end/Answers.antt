@@ -16,12 +16,13 @@ use Rattle.exchange_core.proofs.Heard.{next-timed}
 use Rattle.exchange_core.proofs.Heeds.{bytes-small, effect}
 use Rattle.exchange_core.proofs.HeardSteps.{sound-sealed, seen-sealed, sound-heard, seen-heard, tells-so}
 use Rattle.exchange_core.proofs.Ordered.{conns-ordered, ordered}
-use Rattle.exchange_core.proofs.Readers.{few-readers}
-use Rattle.exchange_core.proofs.Sounding.{few-for}
+use Rattle.exchange_core.proofs.Readers.{readers-connected}
+use Rattle.exchange_core.proofs.Sounding.{few-for, few-entries}
+use Rattle.exchange_core.proofs.Read.{asks-here, readers-here}
 use Rattle.exchange_core.proofs.ends.end.Goals as goal
 
 pub draft_end-requires-clause-readers : goal.draft_end-requires-clause-readers
-draft_end-requires-clause-readers g c = few-readers (state_of c.args.s.now) c.requires.sound.kept
+draft_end-requires-clause-readers g c = readers-connected (state_of c.args.s.now) c.requires.sound.kept c.requires.sound.few
 
 pub draft_end-requires-clause-timed : goal.draft_end-requires-clause-timed
 draft_end-requires-clause-timed g c =
@@ -55,7 +56,7 @@ add_end-requires-clause-known g c = c.requires.judged.1.by.hears.known
 
 pub add_end-requires-clause-few : goal.add_end-requires-clause-few
 add_end-requires-clause-few g c =
-    few-for c.args.moment (state_of c.args.s.now) c.draft_end.new.draft
+    few-for c.args.moment (state_of c.args.s.now) c.draft_end.new.draft c.requires.sound.kept
     (sym (c.in_ok-is_taken.ensures c.args.moment) ∙ c.if-not-is_taken.false)
 
 pub returns-then-not-is_taken-clause-sound : goal.returns-then-not-is_taken-clause-sound
@@ -117,3 +118,12 @@ returns-clause-heard g c = λ word notice j.
     (sym (c.in_ok-is_taken.ensures c.args.moment) ∙ c.if-not-is_taken.false)
     (e.state (effect c.args.moment word c.args.peer c.args.datagram.now S link h k j.hears refl made ws gone) c.args.ended
     (record { matter = made.is; watches = refl; gone = refl }) (c.in_ok-put.ensures (length S.entries) made.is.0 made.is.2 ∙ sym (ap (λ (y : Matter). put_in S.entries c.args.moment y) made.is.1))) e.answers e.sends
+
+pub draft_end-requires-clause-few : goal.draft_end-requires-clause-few
+draft_end-requires-clause-few g c = few-entries (state_of c.args.s.now) c.requires.sound.kept
+
+pub draft_end-requires-clause-waiting : goal.draft_end-requires-clause-waiting
+draft_end-requires-clause-waiting g c = readers-here (state_of c.args.s.now) c.requires.sound.kept.here
+
+pub add_end-requires-clause-here : goal.add_end-requires-clause-here
+add_end-requires-clause-here g c = asks-here (state_of c.args.s.now) c.requires.sound.kept.here

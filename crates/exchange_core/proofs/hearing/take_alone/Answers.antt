@@ -2,6 +2,8 @@ use Rattle.coap_codec.specs.Reading.{message_at}
 use Rattle.exchange_model.proofs.CallerLemmas.{all-digested, all-watched-for}
 use Rattle.exchange_core.specs.States.{state_of}
 use Rattle.exchange_core.proofs.HeardNotes.{under-told}
+use Rattle.exchange_core.proofs.Read.{asks-here, watches-here}
+use Rattle.exchange_core.proofs.Sounding.{few-entries}
 use Rattle.exchange_core.proofs.hearing.take_alone.Goals as goal
 
 pub matter_told-requires-clause-watched : goal.matter_told-requires-clause-watched
@@ -27,7 +29,7 @@ act-requires-clause-judged g c = record {
     up = c.args.up;
     hears = c.requires.hears;
     notice = c.notice_told-notice.ensures;
-    prepared = c.in_ok-matter.ensures;
+    prepared = c.in_ok-matter.ensures.prepared;
   };
 }
 
@@ -36,5 +38,14 @@ returns-clause-heard g c = c.act.ensures.heard c.args.word (record {
   up = c.args.up;
   hears = c.requires.hears;
   notice = c.notice_told-notice.ensures;
-  prepared = c.in_ok-matter.ensures;
+  prepared = c.in_ok-matter.ensures.prepared;
 })
+
+pub matter_told-requires-clause-entries : goal.matter_told-requires-clause-entries
+matter_told-requires-clause-entries g c = few-entries (state_of c.args.s.now) c.requires.sound.kept
+
+pub matter_told-requires-clause-here : goal.matter_told-requires-clause-here
+matter_told-requires-clause-here g c = asks-here (state_of c.args.s.now) c.requires.sound.kept.here
+
+pub matter_told-requires-clause-watches : goal.matter_told-requires-clause-watches
+matter_told-requires-clause-watches g c = watches-here (state_of c.args.s.now) c.requires.sound.kept.here

@@ -11,6 +11,7 @@ use Rattle.exchange_core.specs.Matters.{IsPrepared}
 use Rattle.exchange_core.specs.States.{state_of}
 use Rattle.exchange_core.proofs.MatterBy.{found-in}
 use Rattle.exchange_core.proofs.Notified.{told-exchange}
+use Rattle.exchange_core.proofs.Read.{found-here}
 use Rattle.exchange_core.proofs.hearing.take_coming.Goals as goal
 
 pub matter_by-requires-clause-few : goal.matter_by-requires-clause-few
@@ -40,7 +41,7 @@ act-requires-clause-judged g c =
         hears = c.requires.comes.hears;
         notice = c.requires.comes.notice;
         prepared = subst (λ (y : Matter). IsPrepared c.args.moment c.args.word (link_at c.args.s.now.endpoints c.args.peer) x S c.in_ok-matter.matter y)
-            (told-exchange c.args.moment c.args.peer x S said (ap is_none c.requires.open)) (c.in_ok-matter.ensures said c.requires.comes.comes);
+            (told-exchange c.args.moment c.args.peer x S said (ap is_none c.requires.open)) (c.in_ok-matter.ensures.prepared said c.requires.comes.comes);
       };
     }
 
@@ -54,5 +55,9 @@ returns-clause-heard g c =
       hears = c.requires.comes.hears;
       notice = c.requires.comes.notice;
       prepared = subst (λ (y : Matter). IsPrepared c.args.moment c.args.word (link_at c.args.s.now.endpoints c.args.peer) x S c.in_ok-matter.matter y)
-          (told-exchange c.args.moment c.args.peer x S said (ap is_none c.requires.open)) (c.in_ok-matter.ensures said c.requires.comes.comes);
+          (told-exchange c.args.moment c.args.peer x S said (ap is_none c.requires.open)) (c.in_ok-matter.ensures.prepared said c.requires.comes.comes);
     })
+
+pub matter_by-requires-clause-here : goal.matter_by-requires-clause-here
+matter_by-requires-clause-here g c =
+    found-here (state_of c.args.s.now) (is_under c.args.heeding.token) c.args.exchange.now c.requires.sound.kept.here c.requires.open

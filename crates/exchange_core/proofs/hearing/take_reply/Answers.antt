@@ -1,4 +1,4 @@
-use Rattle.std.proofs.Common.{length, ap, refl, subst}
+use Rattle.std.proofs.Common.{length, ap, refl, subst, arith}
 use Rattle.std.specs.Prelude.{is_none}
 use Rattle.coap_codec.specs.Spelling.{content}
 use Rattle.message_layer.specs.Values.{response}
@@ -16,10 +16,12 @@ use Rattle.exchange_core.specs.Notifying.{notice_told}
 use Rattle.exchange_core.specs.States.{state_of}
 use Rattle.exchange_core.proofs.MatterBy.{few-found, prepared-ends, response-some}
 use Rattle.exchange_core.proofs.Notified.{told-exchange}
+use Rattle.exchange_core.specs.Reading.{IsComingHere}
+use Rattle.exchange_core.proofs.Read.{found-here, pieces-here}
 use Rattle.exchange_core.proofs.hearing.take_reply.Goals as goal
 
-pub replied_to-requires : goal.replied_to-requires
-replied_to-requires g c =
+pub replied_to-requires-clause-few : goal.replied_to-requires-clause-few
+replied_to-requires-clause-few g c =
     few-found (is_under c.args.heeding.token) c.args.s.now.exchanges.exchanges c.args.exchange.now (restarts-few (state_of c.args.s.now) c.requires.sound.kept.kept) c.requires.open
 
 pub take_coming-requires-clause-comes : goal.take_coming-requires-clause-comes
@@ -97,3 +99,26 @@ returns-in-Ends-clause-heard g c =
           (response-some c.len-number.result (content c.args.message) x.token S e c.in_ok-coming.coming c.requires.open c.len-number.ensures
           c.in_ok-coming.ensures.coming)));
     })
+
+pub replied_to-requires-clause-here : goal.replied_to-requires-clause-here
+replied_to-requires-clause-here g c =
+    pieces-here (state_of c.args.s.now) c.args.exchange.now.opening c.requires.sound.kept.here
+
+pub replied_to-requires-clause-number : goal.replied_to-requires-clause-number
+replied_to-requires-clause-number g c =
+    let within = c.requires.sound.kept.here.counted.within in
+    let len = c.len-number.ensures in omega (arith, within, len)
+
+pub ends_apart-is_apart-requires : goal.ends_apart-is_apart-requires
+ends_apart-is_apart-requires g c =
+    found-here (state_of c.args.s.now) (is_under c.args.heeding.token) c.args.exchange.now c.requires.sound.kept.here c.requires.open
+
+pub take_coming-requires-in-Goes-clause-coming : goal.take_coming-requires-in-Goes-clause-coming
+take_coming-requires-in-Goes-clause-coming g c =
+    subst (IsComingHere c.args.s.now.journal.given c.args.s.now.journal.kept) c.in-Goes.is c.in_ok-coming.ensures.here
+
+pub end-requires-clause-here : goal.end-requires-clause-here
+end-requires-clause-here g c = (
+  found-here (state_of c.args.s.now) (is_under c.args.heeding.token) c.args.exchange.now c.requires.sound.kept.here c.requires.open,
+  subst (IsComingHere c.args.s.now.journal.given c.args.s.now.journal.kept) c.in-Ends.is c.in_ok-coming.ensures.here,
+)

@@ -11,8 +11,8 @@ use Rattle.exchange_core.proofs.matter.goes_on.Goals as goal
 pub prepare_next-requires-clause-asked : goal.prepare_next-requires-clause-asked
 prepare_next-requires-clause-asked g c = asked-for (state_of c.args.s.now) c.args.exchange.now c.requires.asked c.requires.open
 
-pub returns-in-Some : goal.returns-in-Some
-returns-in-Some g c = λ said answered.
+pub returns-in-Some-clause-prepared : goal.returns-in-Some-clause-prepared
+returns-in-Some-clause-prepared g c = λ said answered.
     let S : State = state_of c.args.s.now in
     let e = c.args.exchange.now in
     let x = c.args.heeding.now in
@@ -26,10 +26,13 @@ returns-in-Some g c = λ said answered.
     (c.in_ok-next.ensures.next q.0 q.1))
     answered
 
-pub returns-in-None : goal.returns-in-None
-returns-in-None g c = λ said answered.
+pub returns-in-None-clause-prepared : goal.returns-in-None-clause-prepared
+returns-in-None-clause-prepared g c = λ said answered.
     let S : State = state_of c.args.s.now in
     prepared-turned c.args.moment c.args.word c.args.peer.now (link_at c.args.s.now.endpoints c.args.peer.now) c.args.heeding.now said S c.args.token.now c.requires.token
     c.args.exchange.now c.args.onward
     (sym c.in_ok-next.ensures.place ∙ ap (λ (o : Option Submission). is_some o) c.in-None.is)
     answered
+
+pub returns-in-None-clause-here : goal.returns-in-None-clause-here
+returns-in-None-clause-here g c = (c.requires.here, tt)

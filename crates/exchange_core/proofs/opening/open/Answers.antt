@@ -1,4 +1,4 @@
-use Rattle.std.proofs.Common.{List, sym, ap, ◌∙◌, arith}
+use Rattle.std.proofs.Common.{ℕ, List, sym, ap, ◌∙◌, arith}
 use Rattle.journal_book.specs.Entries.{Written}
 use Rattle.exchange_model.specs.declared.kept.Conn.{Conn}
 use Rattle.exchange_model.specs.State.{State}
@@ -24,7 +24,10 @@ pub returns-clause-sound : goal.returns-clause-sound
 returns-clause-sound g c =
     let e = c.add_conn-id.ensures in
     let S : State = state_of c.args.s.now in
-    let same = ap (λ (h : List Written). opens c.args.moment (record S { entries = h; conns = c.try_reserve.new.self.items })) c.make_room.ensures.same
+    let j = c.make_room.new.self in
+    let same = ap (λ (h : List Written). opens c.args.moment (record S { entries = h; given = j.given; kept = j.kept; conns = c.try_reserve.new.self.items })) c.make_room.ensures.same
+    ∙ ap (λ (n : ℕ). opens c.args.moment (record S { given = n; kept = j.kept; conns = c.try_reserve.new.self.items })) c.make_room.ensures.given
+    ∙ ap (λ (ks : List ℕ). opens c.args.moment (record S { kept = ks; conns = c.try_reserve.new.self.items })) c.make_room.ensures.kept
     ∙ ap (λ (cs : List Conn). opens c.args.moment (record S { conns = cs })) c.in_ok-try_reserve.ensures.items in
     let fit = sym (c.takes_conn.ensures c.args.moment) ∙ c.if-not-takes_conn.false in
     let few = c.if-len-ge-MAX_CONNECTIONS.false in

@@ -5,7 +5,6 @@ use Rattle.exchange_model.specs.State.{State}
 use Rattle.exchange_model.specs.Hearing.{expires, is_gone}
 use Rattle.exchange_model.specs.Calls.{told_late}
 use Rattle.exchange_model.specs.Entering.{all_deeds, answer_of}
-use Rattle.exchange_model.specs.Keeping.{MayStep}
 use Rattle.endpoint_table.specs.Turns.{turns_deeds}
 use Rattle.exchange_table.specs.Places.{RiseBy}
 use Rattle.exchange_table.specs.Tables.{opening_of}
@@ -14,9 +13,9 @@ use Rattle.exchange_core.specs.Drafts.{Drafts, IsDrafted}
 use Rattle.exchange_core.specs.States.{state_of}
 use Rattle.exchange_core.proofs.Drafting.{answers-none}
 use Rattle.exchange_core.proofs.Ordered.{exchanges-ordered}
-use Rattle.exchange_core.proofs.Readers.{all-asked, few-readers}
+use Rattle.exchange_core.proofs.Readers.{all-asked, readers-connected}
 use Rattle.exchange_core.proofs.Sounding.{place-left}
-use Rattle.exchange_core.proofs.TickRoom.{few-deeds, few-turns}
+use Rattle.exchange_core.proofs.Read.{readers-here}
 use Rattle.exchange_core.proofs.passing.draft_tick.Goals as goal
 
 pub enter-requires-clause-next : goal.enter-requires-clause-next
@@ -30,19 +29,10 @@ start-draft-requires g c = let left = place-left _ _ _ _ c.requires.sound in ome
 
 pub draft_turns-requires-clause-room : goal.draft_turns-requires-clause-room
 draft_turns-requires-clause-room g c =
-    let t = c.args.moment in
-    let S : State = state_of c.args.s.now in
-    let q = c.requires in
-    let passed : Drafts t S (Passes ∷ []) c.enter.new.self =
-    c.in_ok-enter.ensures.drafts S [] tt (c.start-draft.ensures.drafts t) in
+    let passed : Drafts c.args.moment (state_of c.args.s.now) (Passes ∷ []) c.enter.new.self =
+    c.in_ok-enter.ensures.drafts (state_of c.args.s.now) [] tt (c.start-draft.ensures.drafts c.args.moment) in
     let next = passed.next in
-    let may : MayStep t S = record
-    { kept = q.sound.kept.kept; unsealed = q.unsealed; later = q.later } in
-    let few = few-deeds t S q.sound.kept may q.sound.drained q.due in
-    let most = few-turns t S in
-    let count : length (turns_deeds c.args.turns.now.items)
-    ≡ length (all_deeds t (is_gone t S) S.links) = ap length q.deeds in
-    omega (arith, next, few, most, count)
+    let few = c.requires.few in omega (arith, next, few)
 
 pub draft_timeouts-requires-clause-ordered : goal.draft_timeouts-requires-clause-ordered
 draft_timeouts-requires-clause-ordered g c =
@@ -55,22 +45,15 @@ draft_timeouts-requires-clause-asked g c = all-asked (state_of c.args.s.now) c.r
 
 pub draft_timeouts-requires-clause-room : goal.draft_timeouts-requires-clause-room
 draft_timeouts-requires-clause-room g c =
-    let t = c.args.moment in
     let S : State = state_of c.args.s.now in
-    let q = c.requires in
-    let passed : Drafts t S (Passes ∷ []) c.enter.new.self =
-    c.in_ok-enter.ensures.drafts S [] tt (c.start-draft.ensures.drafts t) in
-    let turned : Drafts t S (Passes ∷ turns_deeds c.args.turns.now.items) c.draft_turns.new.draft =
+    let passed : Drafts c.args.moment S (Passes ∷ []) c.enter.new.self =
+    c.in_ok-enter.ensures.drafts S [] tt (c.start-draft.ensures.drafts c.args.moment) in
+    let turned : Drafts c.args.moment S (Passes ∷ turns_deeds c.args.turns.now.items) c.draft_turns.new.draft =
     c.in_ok-draft_turns.ensures.drafts S (Passes ∷ []) passed in
     let next = turned.next in
-    let may : MayStep t S = record
-    { kept = q.sound.kept.kept; unsealed = q.unsealed; later = q.later } in
-    let few = few-deeds t S q.sound.kept may q.sound.drained q.due in
-    let most = few-turns t S in
-    let readers = few-readers S q.sound.kept in
-    let count : length (turns_deeds c.args.turns.now.items)
-    ≡ length (all_deeds t (is_gone t S) S.links) = ap length q.deeds in
-    omega (arith, next, few, most, readers, count)
+    let few = c.requires.few in
+    let readers = readers-connected S c.requires.sound.kept c.requires.sound.few in
+    omega (arith, next, few, readers)
 
 pub returns : goal.returns
 returns g c =
@@ -87,3 +70,6 @@ returns g c =
     subst (λ (es : List Exchange). IsDrafted t S
     (Passes ∷ (ds ++ map answer_of (told_late es S.readers))) c.draft_timeouts.new.draft) c.requires.over
     (c.in_ok-draft_timeouts.ensures (Passes ∷ ds) (answers-none t S (Passes ∷ ds) _ whole none))
+
+pub draft_timeouts-requires-clause-here : goal.draft_timeouts-requires-clause-here
+draft_timeouts-requires-clause-here g c = readers-here (state_of c.args.s.now) c.requires.sound.kept.here

@@ -1,4 +1,4 @@
-use Rattle.std.proofs.Common.{◌≡◌, ℕ, ◌+◌, List, length, map, refl, sym, ap, ◌∙◌, arith}
+use Rattle.std.proofs.Common.{◌≡◌, ℕ, ◌+◌, List, length, map, refl, sym, ap, ◌∙◌, arith, subst}
 use Rattle.std.specs.Prelude.{filter}
 use Rattle.observe_share.specs.declared.registration.Registration.{Registration}
 use Rattle.observe_share.specs.Watches.{without}
@@ -14,6 +14,9 @@ use Rattle.exchange_model.specs.Hearing.{expires, goes_on, is_of_none, is_stale_
 use Rattle.endpoint_table.specs.Turns.{turns_going}
 use Rattle.exchange_core.specs.States.{state_of, with_draft}
 use Rattle.exchange_core.specs.Watching.{is_unwatched_by}
+use Rattle.std.specs.List.{AllByRecursion}
+use Rattle.history_laws.proofs.CallerLemmas.{all-filter}
+use Rattle.exchange_table.specs.Asks.{IsAskedHere}
 use Rattle.exchange_core.proofs.passing.pass.Goals as goal
 
 -- what moves on, part by part
@@ -43,7 +46,7 @@ returns-clause-state g c =
     c.end_all.ensures (expires t S.links) (c.deref-3.ensures.value ∙ c.requires.over)
     ∙ ap (λ (xs : List Exchange). left_by S.entries xs (filter (goes_on t S) S.exchanges)) c.deref-3.ensures.value in
     c.commit.ensures.state
-    ∙ moved-by (with_draft t p.draft S) _ _ _ _ _ _ _ _ _ _ _ _
+    ∙ moved-by (with_draft t c.args.draft S) _ _ _ _ _ _ _ _ _ _ _ _
     (c.note_turns.ensures
     ∙ (ap (λ (n : ℕ). sent_as (turns_going (n + 1) p.turns.items) c.end_all.new.exchanges.exchanges) c.len.ensures
     ∙ ap (sent_as (turns_going (length S.entries + 1) p.turns.items)) left))
@@ -52,3 +55,24 @@ returns-clause-state g c =
     (c.drop_unwatched.ensures ∙ ap (λ (xs : List Exchange). without (is_unwatched_by t S.entries xs) S.watches) c.deref.ensures.value)
     (c.retire_all.ensures ∙ ap (λ (xs : List Exchange). retired S.entries xs S.store) c.deref-2.ensures.value)
     (c.tick.ensures ∙ ap (λ (xs : List (List ℕ)). map (link_after t (is_among xs)) S.links) c.deref-4.ensures.value)
+
+pub drop_unwatched-requires : goal.drop_unwatched-requires
+drop_unwatched-requires g c =
+    let t = c.args.moment in
+    let S : State = state_of c.args.s.now in
+    subst (AllByRecursion (IsAskedHere S.given S.kept)) (sym (c.deref.ensures.value ∙ c.requires.over))
+    (all-filter (IsAskedHere S.given S.kept) (expires t S.links) S.exchanges c.requires.here)
+
+pub retire_all-requires : goal.retire_all-requires
+retire_all-requires g c =
+    let t = c.args.moment in
+    let S : State = state_of c.args.s.now in
+    subst (AllByRecursion (IsAskedHere S.given S.kept)) (sym (c.deref-2.ensures.value ∙ c.requires.over))
+    (all-filter (IsAskedHere S.given S.kept) (expires t S.links) S.exchanges c.requires.here)
+
+pub end_all-requires-clause-over : goal.end_all-requires-clause-over
+end_all-requires-clause-over g c =
+    let t = c.args.moment in
+    let S : State = state_of c.args.s.now in
+    subst (AllByRecursion (IsAskedHere S.given S.kept)) (sym (c.deref-3.ensures.value ∙ c.requires.over))
+    (all-filter (IsAskedHere S.given S.kept) (expires t S.links) S.exchanges c.requires.here)

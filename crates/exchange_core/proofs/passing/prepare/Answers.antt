@@ -1,19 +1,17 @@
 use Rattle.std.proofs.Common.{◌≡◌, ℕ, List, ◌++◌, map, sym, ap, subst, ◌∙◌}
 use Rattle.exchange_model.specs.declared.kept.Exchange.{Exchange}
 use Rattle.exchange_model.specs.State.{State}
-use Rattle.exchange_model.specs.Entering.{all_deeds, all_going, gone_tokens, tick_deeds, token_of}
-use Rattle.exchange_model.specs.Hearing.{is_gone, timed_out}
+use Rattle.exchange_model.specs.Entering.{all_deeds, all_going, gone_tokens, token_of}
+use Rattle.exchange_model.specs.Hearing.{is_gone, timed_out, expires}
 use Rattle.endpoint_table.specs.Turns.{turns_deeds, turns_going}
 use Rattle.exchange_model.specs.Watching.{tokens_of}
-use Rattle.exchange_core.specs.Drafts.{IsDrafted}
 use Rattle.exchange_core.specs.States.{state_of}
 use Rattle.exchange_core.specs.Watching.{is_unwatched_by}
+use Rattle.std.specs.List.{AllByRecursion}
+use Rattle.history_laws.proofs.CallerLemmas.{all-filter}
+use Rattle.exchange_table.specs.Asks.{IsAskedHere}
+use Rattle.exchange_core.proofs.Read.{asks-here}
 use Rattle.exchange_core.proofs.passing.prepare.Goals as goal
-
-pub returns-clause-drafted : goal.returns-clause-drafted
-returns-clause-drafted g c =
-    subst (λ (S : State). IsDrafted c.args.moment S (tick_deeds c.args.moment S) c.in_ok-draft.draft)
-    (c.in_ok-turns.ensures.same.state ∙ c.in_ok-over.ensures.same.state) c.in_ok-draft.ensures
 
 -- The tokens of the exchanges that end come first, and then those of what is observed no more.
 pub returns-clause-gone : goal.returns-clause-gone
@@ -58,3 +56,14 @@ returns-clause-going g c =
     let t = c.args.moment in
     subst (λ (S : State). (n : ℕ) → turns_going n c.in_ok-turns.turns.items ≡ all_going t (is_gone t S) n S.links)
     c.in_ok-over.ensures.same.state c.in_ok-turns.ensures.going
+
+pub add_unwatched-requires : goal.add_unwatched-requires
+add_unwatched-requires g c =
+    let t = c.args.moment in
+    let S : State = state_of c.args.s.now in
+    let U : State = state_of c.find_over.new.s in
+    let same : U ≡ S = c.in_ok-over.ensures.same.state in
+    let again : c.deref-2.result.now ≡ timed_out t S = c.deref-2.ensures.value ∙ c.in_ok-over.ensures.over in
+    subst (AllByRecursion (IsAskedHere U.given U.kept)) (sym again)
+    (subst (λ (V : State). AllByRecursion (IsAskedHere V.given V.kept) (timed_out t S)) (sym same)
+    (all-filter (IsAskedHere S.given S.kept) (expires t S.links) S.exchanges (asks-here S c.requires.sound.kept.here)))

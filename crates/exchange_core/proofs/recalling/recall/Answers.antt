@@ -37,7 +37,7 @@ returns-then-not-taken-clause-is g c = λ ne n.
 pub commit-requires-clause-few : goal.commit-requires-clause-few
 commit-requires-clause-few g c =
     let t = c.args.moment in
-    let left = few-for t (state_of c.args.s.now) c.in_ok-draft.draft (sym (c.in_ok-taken.ensures t) ∙ c.if-not-taken.false) in
+    let left = few-for t (state_of c.args.s.now) c.in_ok-draft.draft c.requires.sound.kept (sym (c.in_ok-taken.ensures t) ∙ c.if-not-taken.false) in
     let same = ap (λ (V : State). length V.entries) c.make_places.ensures.same.state in
     omega (arith, left, same)
 

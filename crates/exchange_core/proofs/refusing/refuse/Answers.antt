@@ -47,7 +47,7 @@ returns-then-not-taken-clause-is g c = λ ne n.
 pub commit-requires-clause-few : goal.commit-requires-clause-few
 commit-requires-clause-few g c =
     let t = c.args.moment in
-    let left = few-for t (state_of c.args.s.now) c.in_ok-draft.draft (sym (c.in_ok-taken.ensures t) ∙ c.if-not-taken.false) in
+    let left = few-for t (state_of c.args.s.now) c.in_ok-draft.draft c.requires.sound.kept (sym (c.in_ok-taken.ensures t) ∙ c.if-not-taken.false) in
     let same = ap (λ (V : State). length V.entries) c.make_places.ensures.same.state in
     omega (arith, left, same)
 
@@ -74,7 +74,7 @@ returns-clause-sound g c =
     subst (λ (V : State). SoundState V c.commit.new.s.bytes c.commit.new.s.journal.room (given_in c.commit.new.s)) (sym new)
     (sound-drafted t S U _ _ _ _ _ _ _ d c.requires.sound
     (refusal-so t c.args.conn S _ c.args.cause d c.in_ok-draft.ensures.drafts c.in_ok-draft.ensures.answers)
-    (ap (λ (V : State). V.entries) (sym is)) c.requires.early (ap (λ (V : State). V.conns) (sym is))
+    (ap (λ (V : State). V.entries) (sym is)) (ap (λ (V : State). V.given) (sym is)) c.requires.early (ap (λ (V : State). V.conns) (sym is))
     (first-of (fits U) U (seals t S) fit c.requires.refused.kept) (record { once = drained.once; out = drained.out })
     (e.bytes ∙ ap (λ (b : ℕ). capped (b + capped (sum_by entry_size d.entries))) m.bytes)
     (let held = e.held in let conns = ap (λ (V : State). length V.conns) m.state in omega (arith, held, conns)) (e.answers ∙ ap (λ (gs : List Given). gs ++ d.answers) m.answers))

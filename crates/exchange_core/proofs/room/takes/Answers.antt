@@ -15,12 +15,12 @@ returns-then-has_room g c = λ t.
     let n = count_by has_asked (conns_with S.conns (length S.entries) d.entries) in
     let count : c.len-count.result ≡ length S.conns =
     let k = c.len-count.ensures in let len = c.args.s.now.conns.ok.0 in omega (arith, k, len) in
-    let few = few-waiting S d c.len-2.ensures.keep in
+    let few = few-waiting S d c.len.ensures.keep in
     let entries = c.saturating_add-entries.ensures in
     let bytes = c.saturating_add-bytes.ensures in
     sym (fits-so t S d c.saturating_add-entries.result c.saturating_add-bytes.result c.len-count.result c.bytes.result
-    c.requires.unsealed c.len-2.ensures.keep
-    (entries ∙ rw (c.len.ensures, c.len-2.ensures.len) refl) (bytes ∙ rw (c.requires.count) refl) c.bytes.ensures count
+    c.requires.unsealed c.len.ensures.keep c.requires.within
+    (entries ∙ rw (c.held_len.ensures, c.len.ensures.len) refl) (bytes ∙ rw (c.requires.count) refl) c.bytes.ensures count
     ∙ room-fewer c.saturating_add-entries.result c.saturating_add-bytes.result c.len-count.result c.len-count.result n
     (omega (arith, few, count)) (sym c.has_room.ensures ∙ c.if-has_room.true))
 
@@ -34,8 +34,8 @@ returns-then-not-has_room g c = λ t.
     let entries = c.saturating_add-entries.ensures in
     let bytes = c.saturating_add-bytes.ensures in
     sym (fits-so t S d c.saturating_add-entries.result c.saturating_add-bytes.result c.len-count.result c.bytes.result
-    c.requires.unsealed c.len-2.ensures.keep
-    (entries ∙ rw (c.len.ensures, c.len-2.ensures.len) refl) (bytes ∙ rw (c.requires.count) refl) c.bytes.ensures count
+    c.requires.unsealed c.len.ensures.keep c.requires.within
+    (entries ∙ rw (c.held_len.ensures, c.len.ensures.len) refl) (bytes ∙ rw (c.requires.count) refl) c.bytes.ensures count
     ∙ room-none c.saturating_add-entries.result c.saturating_add-bytes.result c.len-count.result n
     (sym c.has_room-2.ensures ∙ c.if-not-has_room.true))
 
@@ -49,11 +49,11 @@ returns g c = λ t.
     let entries = c.saturating_add-entries.ensures in
     let bytes = c.saturating_add-bytes.ensures in
     let copy : c.in_ok-conns.conns.items ≡ S.conns = search rules in
-    let first : c.len-3.result ≡ length S.entries = c.len-3.ensures in
+    let first : c.len-2.result ≡ length S.entries = c.len-2.ensures in
     let pending : c.pending_count-pending.result ≡ n =
     c.pending_count-pending.ensures ∙ rw (c.deref-2.ensures.value, c.note.ensures, copy, first) refl in
     c.has_room-3.ensures
     ∙ ap (fits_by c.saturating_add-entries.result c.saturating_add-bytes.result c.len-count.result) pending
     ∙ sym (fits-so t S d c.saturating_add-entries.result c.saturating_add-bytes.result c.len-count.result c.bytes.result
-    c.requires.unsealed c.len-2.ensures.keep
-    (entries ∙ rw (c.len.ensures, c.len-2.ensures.len) refl) (bytes ∙ rw (c.requires.count) refl) c.bytes.ensures count)
+    c.requires.unsealed c.len.ensures.keep c.requires.within
+    (entries ∙ rw (c.held_len.ensures, c.len.ensures.len) refl) (bytes ∙ rw (c.requires.count) refl) c.bytes.ensures count)

@@ -4,6 +4,7 @@ use Rattle.exchange_progress.specs.Coming.{IsEnded}
 use Rattle.exchange_progress.specs.declared.coming.Ended.{Ended}
 use Rattle.exchange_core.specs.declared.storing.Put.{Put}
 use Rattle.exchange_core.proofs.Settling.{put-ended, put-renewed, put-turned}
+use Rattle.exchange_core.specs.Reading.{IsEndHere}
 use Rattle.exchange_core.proofs.storing.put_ended.Goals as goal
 
 pub returns-in-Found : goal.returns-in-Found
@@ -23,3 +24,11 @@ returns-in-Renewed g c = λ n how i.
 pub returns-in-Turned : goal.returns-in-Turned
 returns-in-Turned g c = λ n how i.
     put-turned c.args.moment c.args.journal.now.entries c.args.exchange.now how (subst (λ (k : Ended). IsEnded n k how) c.in-Turned.is i)
+
+pub put_found-requires-clause-found : goal.put_found-requires-clause-found
+put_found-requires-clause-found g c =
+    subst (IsEndHere c.args.journal.now.given c.args.journal.now.kept) c.in-Found.is c.requires.ended
+
+pub put_renewed-requires-clause-found : goal.put_renewed-requires-clause-found
+put_renewed-requires-clause-found g c =
+    subst (IsEndHere c.args.journal.now.given c.args.journal.now.kept) c.in-Renewed.is c.requires.ended

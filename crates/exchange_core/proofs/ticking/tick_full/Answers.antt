@@ -42,7 +42,7 @@ returns-clause-sound g c =
     subst (λ (W : State). SoundState W c.commit.new.s.bytes c.commit.new.s.journal.room
     (given_in c.commit.new.s)) (sym new)
     (sound-drafted t S (let U = with_draft t d S in record U { sealed = true }) _ _ _ _ _ _ _ d q.sound
-    c.in_ok-draft.ensures refl q.early refl
+    c.in_ok-draft.ensures refl refl q.early refl
     (subst KeptInRoom (sym is) (seals-late-in-room t S q.sound.kept q.later q.unsealed q.full))
     (subst IsDrained (sym is) (seals-drained t S q.sound.drained))
     (c.commit.ensures.bytes ∙ rw (same.bytes) refl)

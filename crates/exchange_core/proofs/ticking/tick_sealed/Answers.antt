@@ -55,7 +55,7 @@ returns-clause-sound g c =
     let q = c.requires in
     subst (λ (V : State). SoundState V c.commit.new.s.bytes c.commit.new.s.journal.room
     (given_in c.commit.new.s)) (sym (c.commit.ensures.state ∙ ap (with_draft t d) same.state))
-    (sound-drafted t S (with_draft t d S) _ _ _ _ _ _ _ d q.sound c.in_ok-draft.ensures refl q.early refl
+    (sound-drafted t S (with_draft t d S) _ _ _ _ _ _ _ d q.sound c.in_ok-draft.ensures refl refl q.early refl
     (subst KeptInRoom (sym is) (late-in-room t S q.sound.kept q.later q.sealed))
     (subst IsDrained (sym is) (late-drained t S q.sound.drained))
     (c.commit.ensures.bytes ∙ rw (same.bytes) refl)

@@ -14,6 +14,7 @@ use Rattle.exchange_core.proofs.Ordered.{exchanges-ordered}
 use Rattle.exchange_core.proofs.Readers.{all-asked, few-readers}
 use Rattle.exchange_core.proofs.Sinces.{open-later}
 use Rattle.exchange_core.proofs.Sounding.{place-left}
+use Rattle.exchange_core.proofs.Read.{readers-here}
 use Rattle.exchange_core.proofs.timeouts.draft_past.Goals as goal
 
 pub draft_timeouts-requires-clause-room : goal.draft_timeouts-requires-clause-room
@@ -46,3 +47,6 @@ returns g c = λ ds h.
 
 pub past_exchanges-requires : goal.past_exchanges-requires
 past_exchanges-requires g c = rw (c.as_slice.ensures.all) (open-later (state_of c.args.s.now) c.requires.sound.kept.kept)
+
+pub draft_timeouts-requires-clause-here : goal.draft_timeouts-requires-clause-here
+draft_timeouts-requires-clause-here g c = readers-here (state_of c.args.s.now) c.requires.sound.kept.here

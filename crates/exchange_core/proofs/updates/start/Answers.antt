@@ -6,8 +6,8 @@ use Rattle.exchange_core.specs.Matters.{IsNextFor}
 use Rattle.exchange_core.proofs.Started.{starts-as}
 use Rattle.exchange_core.proofs.updates.start.Goals as goal
 
-pub returns : goal.returns
-returns g c = λ q asked.
+pub returns-clause-started : goal.returns-clause-started
+returns-clause-started g c = λ q asked.
     let x = c.args.heeding.now in
     let link = link_at c.args.s.now.endpoints c.args.peer.now in (
       c.in-Some.submission,
@@ -16,3 +16,6 @@ returns g c = λ q asked.
       subst (λ (o : Option Submission). IfSome o (IsNextFor c.args.moment c.args.word link x q c.args.onward.block c.args.token.now)) c.in-Some.is
           (c.in_ok-submission.ensures.next q asked),
     )
+
+pub returns-clause-here : goal.returns-clause-here
+returns-clause-here g c = tt
