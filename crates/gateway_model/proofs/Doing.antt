@@ -68,7 +68,15 @@ did-opened M G F t old new out e aside =
     none (inr (inr e)) = ap (answered_in (length old.state.entries)) e
 
 abbrev shuts-add : (t c : ℕ) (S : State) → Adds t S (shuts t c S)
-shuts-add t c S = record { more = at_moment t (Shuts c) ∷ []; entries = refl; at = (refl, tt); own = (refl, tt); conns = refl }
+shuts-add t c S = record {
+  given = refl;
+  kept = refl;
+  more = at_moment t (Shuts c) ∷ [];
+  entries = refl;
+  at = (refl, tt);
+  own = (refl, tt);
+  conns = refl;
+}
 
 did-closed : (M : Terms) (G F : ℕ → Type 0) (t c : ℕ) (old new : CoreValue) (out : List Emission) → IsClosed t c old new → Aside G out → Did M G F old out new
 did-closed M G F t c old new out h aside =

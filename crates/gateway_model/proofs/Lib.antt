@@ -14,6 +14,7 @@ mod Heard
 mod Heeded
 mod Heeding
 mod Lost
+mod Memory
 mod Moves
 mod Moving
 mod Numbers

@@ -8,7 +8,7 @@ use Rattle.http_mapping.specs.Means.{closes}
 use Rattle.journal_book.specs.Entries.{Mark, Done, Deed, Carries, Written, done_of}
 use Rattle.exchange_model.specs.declared.kept.Conn.{Conn}
 use Rattle.exchange_model.specs.State.{State}
-use Rattle.exchange_model.specs.Rotating.{RotateFault, Unsealed, Connected, Exchanging, Spent, Crowded, Seen, carried_numbers, copies_from, copy_if, copy_of, fault_of, mark_of, rotated, rotated_by, seen, taken, turned}
+use Rattle.exchange_model.specs.Rotating.{RotateFault, Unsealed, Given, Connected, Exchanging, Spent, Crowded, Seen, carried_numbers, copies_from, copy_if, copy_of, fault_of, mark_of, rotated, rotated_by, seen, taken, turned}
 use Rattle.exchange_core.specs.declared.fault.RotateFault.{RotateFault as Refusal}
 use Rattle.exchange_core.specs.declared.fault.RotateFault.TheVariants as F
 use Rattle.exchange_core.specs.Rotating.{IsRefused, fault_in}
@@ -47,6 +47,7 @@ rotation-is t S h S1 e = by (fault_of t S) refl e
 pub refused-so : (t : ℕ) (S : State) (fault : Refusal) → IsRefused t S fault → (fault ≡ F.Memory → ⊥)
     → (why : RotateFault) × (fault_in fault ≡ Some why) × (rotated t S ≡ Err why)
 refused-so t S F.Unsealed r not = (Unsealed, refl, ap (λ (o : Option RotateFault). rotated_by o t S) r)
+refused-so t S F.Given r not = (Given, refl, ap (λ (o : Option RotateFault). rotated_by o t S) r)
 refused-so t S F.Connected r not = (Connected, refl, ap (λ (o : Option RotateFault). rotated_by o t S) r)
 refused-so t S F.Exchanging r not = (Exchanging, refl, ap (λ (o : Option RotateFault). rotated_by o t S) r)
 refused-so t S F.Spent r not = (Spent, refl, ap (λ (o : Option RotateFault). rotated_by o t S) r)
@@ -66,8 +67,17 @@ none-there (x ∷ cs) e = absurd (let le = ltb-false 0 (length (x ∷ cs)) e in 
 pub nobody-there : (t : ℕ) (S : State) → fault_of t S ≡ None → S.conns ≡ []
 nobody-there t S e =
     let sealed = first-none (not S.sealed) Unsealed _ e in
-    let alone = first-none (nat_lt 0 (length S.conns)) Connected _ sealed.1 in
+    let whole = first-none (nat_lt 0 S.given) Given _ sealed.1 in
+    let alone = first-none (nat_lt 0 (length S.conns)) Connected _ whole.1 in
     none-there S.conns alone.0
+
+-- Nothing was given out before.
+pub none-given : (t : ℕ) (S : State) → fault_of t S ≡ None → S.given ≡ 0
+none-given t S e =
+    let sealed = first-none (not S.sealed) Unsealed _ e in
+    let whole = first-none (nat_lt 0 S.given) Given _ sealed.1 in
+    let le = ltb-false 0 S.given whole.0 in
+    omega (arith, le)
 
 -- What the new journal begins with is copies.
 
