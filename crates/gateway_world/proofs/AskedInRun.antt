@@ -24,7 +24,7 @@ use Rattle.gateway_model.proofs.CallerLemmas.{AreCopies, AreNoJournals, asked-bo
 use Rattle.gateway_world.specs.Asked.{turned_in, MayOpen, turned_by, AreOpened, opened_by, text_on, AsksIts, AsksInRun}
 use Rattle.gateway_world.specs.Inputs.{Takes, TakesActs, TakesRotation, TakesAll}
 use Rattle.gateway_world.specs.Journals.{all_entries}
-use Rattle.gateway_world.specs.Worlds.{WorldValue, Handles, new_world, served_in, when_in}
+use Rattle.gateway_world.specs.Worlds.{WorldValue, Handles, Memory, new_world, served_in, when_in, with_memory}
 use Rattle.gateway_world.proofs.Parted.{entries-same, handled-none}
 use Rattle.gateway_world.proofs.Running.{takes-rules}
 
@@ -189,6 +189,13 @@ module _ (P : Ask → Type 0) (c : ℕ) where
         again (inl e) = e
         again (inr begins) = absurd (let e = begins.fresh in let lt = s.0 in omega (arith, e, lt))
 
+  -- What left memory changes nothing.
+  far-memory : (m : Memory) (text : List ℕ) (n : ℕ) (h : List Written) (w : WorldValue) → Far text n h w
+      → Far text n h (with_memory m w)
+  far-memory m text n h w (inl f) =
+      inl (record { empty = f.empty; above = f.above; quiet = f.quiet; none = f.none })
+  far-memory m text n h w (inr s) = inr s
+
   far-asks : (text : List ℕ) (n : ℕ) (h : List Written) (w : WorldValue) → Far text n h w → AsksIts P c text h
   far-asks text n h w (inl f) =
       record { items = []; rest = text; reads = refl; asks = subst (AreAsked P []) (sym f.quiet) tt }
@@ -310,33 +317,36 @@ module _ (holds : Form → Form → List ℕ → List ℕ → Type 0) (takes : F
       → Goes-far is a b out
   goes-far [] a b out e h = record {
     opened = [];
-    are = ap turned_in h.1;
+    are = ap turned_in h.2;
     each = λ c text front far.
-        subst (λ (es : List Emission). Far P c (text ++ []) b.core.state.opened (front ++ all_entries es b.core.state.entries) b) (sym h.1)
-        (subst (λ (w : WorldValue). Far P c (text ++ []) w.core.state.opened (front ++ (w.core.state.entries ++ [])) w) (sym h.0)
+        subst (λ (es : List Emission). Far P c (text ++ []) b.core.state.opened (front ++ all_entries es b.core.state.entries) b) (sym h.2)
+        (subst (λ (w : WorldValue). Far P c (text ++ []) w.core.state.opened (front ++ (w.core.state.entries ++ [])) w) (sym h.1)
+        (far-memory P c h.0 (text ++ []) a.core.state.opened (front ++ (a.core.state.entries ++ [])) a
         (subst (λ (k : List Written). Far P c (text ++ []) a.core.state.opened (front ++ k) a) (sym (append-nil a.core.state.entries))
-        (subst (λ (t : List ℕ). Far P c t a.core.state.opened (front ++ a.core.state.entries) a) (sym (append-nil text)) far)));
+        (subst (λ (t : List ℕ). Far P c t a.core.state.opened (front ++ a.core.state.entries) a) (sym (append-nil text)) far))));
   }
   goes-far (i ∷ is) a b out e h =
-      let o : Goes-on i.happening a h.0 h.1 = goes-on i a h.0 h.1 e h.3 in
-      let r : Goes-far is h.0 b h.2 = goes-far is h.0 b h.2 (takes-rules holds takes i a h.0 h.1 h.3 ∙ e) h.4 in
+      let now : WorldValue = with_memory h.0 a in
+      let o : Goes-on i.happening now h.1 h.2 = goes-on i now h.1 h.2 e h.4 in
+      let r : Goes-far is h.1 b h.3 = goes-far is h.1 b h.3 (takes-rules holds takes i now h.1 h.2 h.4 ∙ e) h.5 in
       record {
         opened = o.opens ∷ r.opened;
         are = (
-          turned_in h.2,
+          turned_in h.3,
           o.may,
           r.are,
-          ap turned_in h.5 ∙ (turned-both h.1 h.2 ∙ ap (λ (n : ℕ). n + turned_in h.2) o.turned),
+          ap turned_in h.6 ∙ (turned-both h.2 h.3 ∙ ap (λ (n : ℕ). n + turned_in h.3) o.turned),
         );
         each = λ c text front far.
             let came : List ℕ = if nat_lt c a.core.state.opened then brought_by c i.happening else [] in
-            let one = o.each c text front far in
+            let one = o.each c text front
+            (far-memory P c h.0 text a.core.state.opened (front ++ a.core.state.entries) a far) in
             subst (λ (t : List ℕ). Far P c t b.core.state.opened (front ++ all_entries out b.core.state.entries) b)
             (append_assoc text came (text_on c (opened_by o.opens a.core.state.opened) r.opened is))
             (subst (λ (k : List Written). Far P c ((text ++ came) ++ text_on c (opened_by o.opens a.core.state.opened) r.opened is) b.core.state.opened k b)
-            (one.2 h.2 b.core.state.entries ∙ ap (λ (es : List Emission). front ++ all_entries es b.core.state.entries) (sym h.5))
+            (one.2 h.3 b.core.state.entries ∙ ap (λ (es : List Emission). front ++ all_entries es b.core.state.entries) (sym h.6))
             (subst (λ (n : ℕ). Far P c ((text ++ came) ++ text_on c n r.opened is) b.core.state.opened
-            (one.0 ++ all_entries h.2 b.core.state.entries) b) o.counts
+            (one.0 ++ all_entries h.3 b.core.state.entries) b) o.counts
             (r.each c (text ++ came) one.0 one.1)));
       }
 

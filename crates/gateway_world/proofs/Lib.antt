@@ -7,6 +7,7 @@ pub mod Ends
 pub mod Growth
 pub mod Lead
 pub mod Limits
+pub mod Memories
 pub mod Numbered
 pub mod Once
 pub mod Parted

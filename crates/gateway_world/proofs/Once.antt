@@ -25,7 +25,8 @@ use Rattle.gateway_model.specs.Waiting.{conn_id}
 use Rattle.gateway_model.proofs.CallerLemmas.{all-append, AreNoJournals, IsNoJournal, input-silent, rotation-is}
 use Rattle.gateway_world.specs.Inputs.{Takes, TakesActs, TakesRotation, TakesAll}
 use Rattle.gateway_world.specs.Journals.{Part, gives_first, parts_of, IsSilent, LivesOnce, AllLiveOnce}
-use Rattle.gateway_world.specs.Worlds.{WorldValue, IsAtRest, new_world, served_in, when_in}
+use Rattle.gateway_world.specs.Worlds.{WorldValue, IsAtRest, new_world, served_in, when_in, with_memory}
+use Rattle.gateway_world.proofs.Memories.{at-rest-memory}
 use Rattle.gateway_world.proofs.Parted.{add_first, handled-none, parts-first}
 use Rattle.gateway_world.proofs.Promises.{none-unasked}
 
@@ -146,12 +147,13 @@ module _ (holds : Form → Form → List ℕ → List ℕ → Type 0) (takes : F
   at-rest i a b out (inr k) = k.rests
 
   left-all : (is : List Input) (a b : WorldValue) (out : List Emission) → Left a → IsAtRest a → TakesAll holds takes is a out b → Silent out
-  left-all [] a b out left rest run = subst Silent (sym run.1) tt
+  left-all [] a b out left rest run = subst Silent (sym run.2) tt
   left-all (i ∷ is) a b out left rest run =
-      let one = left-one i a run.0 run.1 run.3 rest left in
-      subst Silent (sym run.5)
-      (all-append (IsNotTo c) run.1 run.2 one.0
-      (left-all is run.0 b run.2 one.1 (at-rest i a run.0 run.1 run.3) run.4))
+      let now : WorldValue = with_memory run.0 a in
+      let one = left-one i now run.1 run.2 run.4 (at-rest-memory run.0 a rest) left in
+      subst Silent (sym run.6)
+      (all-append (IsNotTo c) run.2 run.3 one.0
+      (left-all is run.1 b run.3 one.1 (at-rest i now run.1 run.2 run.4) run.5))
 
   gives-silent : (e : Emission) (ps : List Part) → IsNotTo c e → AllByRecursion (IsSilent c) ps → AllByRecursion (IsSilent c) (gives_first e ps)
   gives-silent e [] n h = tt
@@ -238,12 +240,13 @@ module _ (holds : Form → Form → List ℕ → List ℕ → Type 0) (takes : F
     once-so : (is : List Input) (a b : WorldValue) (out before : List Emission) → SoFar before a → IsAtRest a
         → AreNoJournals before → TakesAll holds takes is a out b → LivesOnce c (parts_of (before ++ out) last)
     once-so [] a b out before far rests none run =
-        subst (λ (es : List Emission). LivesOnce c (parts_of (before ++ es) last)) (sym run.1) (one-part before none)
+        subst (λ (es : List Emission). LivesOnce c (parts_of (before ++ es) last)) (sym run.2) (one-part before none)
     once-so (i ∷ is) a b out before far rests none run =
-        subst (λ (es : List Emission). LivesOnce c (parts_of (before ++ es) last)) (sym run.5)
-        (once-step i a run.0 run.1 run.2 before far rests none run.3
-        (λ since sofar quiet. once-so is run.0 b run.2 since sofar (at-rest i a run.0 run.1 run.3) quiet run.4)
-        (λ left. left-all is run.0 b run.2 left (at-rest i a run.0 run.1 run.3) run.4))
+        let now : WorldValue = with_memory run.0 a in
+        subst (λ (es : List Emission). LivesOnce c (parts_of (before ++ es) last)) (sym run.6)
+        (once-step i now run.1 run.2 run.3 before far (at-rest-memory run.0 a rests) none run.4
+        (λ since sofar quiet. once-so is run.1 b run.3 since sofar (at-rest i now run.1 run.2 run.4) quiet run.5)
+        (λ left. left-all is run.1 b run.3 left (at-rest i now run.1 run.2 run.4) run.5))
 
 pub run-lives : (holds : Form → Form → List ℕ → List ℕ → Type 0) (takes : Form → Form → List ℕ → Type 0) (rules : Rules)
     (is : List Input) (old new : WorldValue) (out : List Emission) (last : List Written) → old ≡ new_world rules → IsAtRest old

@@ -26,7 +26,8 @@ use Rattle.gateway_model.specs.Waiting.{IsDrained}
 use Rattle.gateway_model.proofs.CallerLemmas.{acts-keep, all-append, all-as, answers-after, AreCopies, AreNoJournals, begins-copied, copies-mean, did-send, give-none, IsNoJournal, Nobody, Paced, paced-all, paced-none, paced-silent, paced-tell, paced-then, rotation-is, sends-after, TellsEach}
 use Rattle.gateway_world.specs.Inputs.{Takes, TakesAll}
 use Rattle.gateway_world.specs.Journals.{Part, gives_first, parts_of, journal_in, all_entries, EachJournal, EachPart, AreSent, AreTold}
-use Rattle.gateway_world.specs.Worlds.{WorldValue, Handles, new_world, served_in, when_in}
+use Rattle.gateway_world.specs.Worlds.{WorldValue, Handles, new_world, served_in, when_in, with_memory}
+use Rattle.gateway_world.proofs.Memories.{drained-memory, paced-memory}
 use Rattle.gateway_world.proofs.Running.{takes-rules}
 
 -- What is given out before anything else belongs to the first part.
@@ -222,7 +223,7 @@ module _ (holds : Form → Form → List ℕ → List ℕ → Type 0) (takes : F
         → AreNoJournals before → IsDrained a.core → TakesAll holds takes is a out b → given_up_in out ≡ []
         → b.core.state.entries ≡ last → Stands last → Parts (before ++ out)
     parts-so [] a b out before from e begins copied paced none rests run whole ends stands =
-        subst (λ (es : List Emission). Parts (before ++ es)) (sym run.1)
+        subst (λ (es : List Emission). Parts (before ++ es)) (sym run.2)
         (parts-then before [] none (
           record {
             from = from;
@@ -231,20 +232,24 @@ module _ (holds : Form → Form → List ℕ → List ℕ → Type 0) (takes : F
             copied = copied;
             paced = subst (λ (es : List Emission). Paced M Nobody from es (served_in a)) (sym (append-nil before)) paced;
             ends = rests;
-            is = ap (λ (w : WorldValue). w.core.state.entries) (sym run.0) ∙ ends;
+            is = ap (λ (w : WorldValue). w.core.state.entries) (sym run.1) ∙ ends;
             stands = stands;
           },
           tt,
         ))
     parts-so (i ∷ is) a b out before from e begins copied paced none rests run whole ends stands =
-        subst (λ (es : List Emission). Parts (before ++ es)) (sym run.5)
-        (parts-step i a run.0 run.1 run.2 before from e begins copied paced none rests run.3 both.0
+        subst (λ (es : List Emission). Parts (before ++ es)) (sym run.6)
+        (parts-step i now run.1 run.2 run.3 before from e begins copied (paced-memory M Nobody run.0 from a before paced) none
+        (drained-memory run.0 a rests) run.4 both.0
         (λ since start begun were pace quiet.
-        parts-so is run.0 b run.2 since start (takes-rules holds takes i a run.0 run.1 run.3 ∙ e) begun were pace quiet
-        (after i a run.0 run.1 run.3) run.4 both.1 ends stands))
+        parts-so is run.1 b run.3 since start (takes-rules holds takes i now run.1 run.2 run.4 ∙ e) begun were pace quiet
+        (after i now run.1 run.2 run.4) run.5 both.1 ends stands))
       where
-        both : (given_up_in run.1 ≡ []) × (given_up_in run.2 ≡ [])
-        both = whole-both run.1 run.2 (sym (ap given_up_in run.5) ∙ whole)
+        now : WorldValue
+        now = with_memory run.0 a
+
+        both : (given_up_in run.2 ≡ []) × (given_up_in run.3 ≡ [])
+        both = whole-both run.2 run.3 (sym (ap given_up_in run.6) ∙ whole)
 
   -- a run from a world to which nothing has happened on
   module _ (is : List Input) (old new : WorldValue) (h : List Written) (out : List Emission) (e : old ≡ new_world rules)

@@ -6,21 +6,36 @@ use Rattle.gateway_model.specs.declared.input.Input.{Input}
 use Rattle.gateway_model.specs.declared.input.Output.{Output}
 use Rattle.gateway_model.specs.Emissions.{Emission, emission_of, emissions}
 use Rattle.gateway_world.specs.Inputs.{Takes, TakesAll, IsRefusedAfter}
-use Rattle.gateway_world.specs.Worlds.{WorldValue, IsTooMuch, served_in}
+use Rattle.gateway_world.specs.Worlds.{WorldValue, IsTooMuch, Memory, memory_of, served_in, with_memory}
 
 module _ (holds : Form → Form → List ℕ → List ℕ → Type 0) (takes : Form → Form → List ℕ → Type 0) where
   pub takes-more : (is : List Input) (i : Input) (a b c : WorldValue) (o p : List Emission)
       → TakesAll holds takes is a o b → Takes holds takes i b p c → TakesAll holds takes (is ++ i ∷ []) a (o ++ p) c
-  takes-more [] i a b c o p h k =
-      (c, p, [], subst (λ (w : WorldValue). Takes holds takes i w p c) h.0 k, (refl, refl), ap (λ (q : List Emission). q ++ p) h.1 ∙ sym (append-nil p))
+  takes-more [] i a b c o p h k = (
+    h.0,
+    c,
+    p,
+    [],
+    subst (λ (w : WorldValue). Takes holds takes i w p c) h.1 k,
+    (memory_of c, refl, refl),
+    ap (λ (q : List Emission). q ++ p) h.2 ∙ sym (append-nil p),
+  )
   takes-more (x ∷ is) i a b c o p h k = (
     h.0,
     h.1,
-    h.2 ++ p,
-    h.3,
-    takes-more is i h.0 b c h.2 p h.4 k,
-    ap (λ (q : List Emission). q ++ p) h.5 ∙ append_assoc h.1 h.2 p,
+    h.2,
+    h.3 ++ p,
+    h.4,
+    takes-more is i h.1 b c h.3 p h.5 k,
+    ap (λ (q : List Emission). q ++ p) h.6 ∙ append_assoc h.2 h.3 p,
   )
+
+  -- Entries may leave memory then.
+  pub takes-gives : (m : Memory) (is : List Input) (a b : WorldValue) (o : List Emission)
+      → TakesAll holds takes is a o b → TakesAll holds takes is a o (with_memory m b)
+  takes-gives m [] a b o h = (m, ap (with_memory m) h.1, h.2)
+  takes-gives m (x ∷ is) a b o h =
+      (h.0, h.1, h.2, h.3, h.4, takes-gives m is h.1 b h.3 h.5, h.6)
 
   pub takes-next : (is : List Input) (n : ℕ) (d : Input) (a b c : WorldValue) (o p : List Emission) → n < length is
       → TakesAll holds takes (take n is) a o b → Takes holds takes (get_or is n d) b p c

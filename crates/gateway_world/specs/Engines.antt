@@ -3,6 +3,7 @@ use Rattle.std.specs.Prelude.{◌≡◌, ◌⊎◌, ℕ, ◌==◌, ◌<◌, Bool
 use Rattle.media_map.specs.declared.form.Form.{Form}
 use Rattle.ask_model.specs.Views.{Ask}
 use Rattle.journal_book.specs.Entries.{Asks, Written}
+use Rattle.exchange_model.specs.State.{State}
 use Rattle.exchange_core.specs.Calls.{IsClosed}
 use Rattle.exchange_core.specs.Snapshots.{Grows}
 use Rattle.exchange_core.specs.Values.{CoreValue, Untaken}
@@ -29,10 +30,16 @@ abbrev pub terms_in : (Form → Form → List ℕ → List ℕ → Type 0) → (
     → Context → Terms
 terms_in holds takes context = terms_of holds takes (rules_in context)
 
+-- Entries were only added, and none was given out.
+pub record GrowsOn (old new : State) : Type 0 where
+  pub entries : Grows old.entries new.entries
+  pub given : new.given ≡ old.given
+  pub kept : new.kept ≡ old.kept
+
 -- The engine can go back from the new to what it was: entries were only added, and what its
 -- connections were marked as stays.
 pub record MayGoBack {R : Type 0} (old new : Engine R) : Type 0 where
-  pub grows : Grows old.core.state.entries new.core.state.entries
+  pub grows : GrowsOn old.core.state new.core.state
   pub marked : new.table.marked ≡ old.table.marked
 
 -- So it can, or no more connections are given up.

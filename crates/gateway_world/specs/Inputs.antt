@@ -17,7 +17,7 @@ use Rattle.gateway_model.specs.Going.{SendsJust}
 use Rattle.gateway_model.specs.Rotating.{Rotates}
 use Rattle.gateway_model.specs.Tellings.{AreMapped, IsMapped, terms_of}
 use Rattle.gateway_model.specs.Told.{TellsAll}
-use Rattle.gateway_world.specs.Worlds.{WorldValue, Handles, IsAtRest, IsTooMuch, Shows, counted, new_world, served_in, when_in}
+use Rattle.gateway_world.specs.Worlds.{WorldValue, Handles, IsAtRest, IsTooMuch, Memory, Shows, counted, new_world, served_in, when_in, with_memory}
 
 module _ (holds : Form → Form → List ℕ → List ℕ → Type 0)
     (takes : Form → Form → List ℕ → Type 0) where
@@ -62,12 +62,12 @@ module _ (holds : Form → Form → List ℕ → List ℕ → Type 0)
   abbrev pub Takes : Input → WorldValue → List Emission → WorldValue → Type 0
   Takes i old out new = TakesActs i old out new ⊎ TakesRotation i old out new
 
-  -- Inputs are, one after another.
+  -- Inputs are, one after another. Before each, and after the last, entries may have left memory.
   abbrev pub TakesAll : List Input → WorldValue → List Emission → WorldValue → Type 0
-  TakesAll [] old out new = (new ≡ old) × (out ≡ [])
+  TakesAll [] old out new = (m : Memory) × (new ≡ with_memory m old) × (out ≡ [])
   TakesAll (i ∷ is) old out new =
-      (mid : WorldValue) × (first : List Emission) × (rest : List Emission)
-      × Takes i old first mid × TakesAll is mid rest new × (out ≡ first ++ rest)
+      (m : Memory) × (mid : WorldValue) × (first : List Emission) × (rest : List Emission)
+      × Takes i (with_memory m old) first mid × TakesAll is mid rest new × (out ≡ first ++ rest)
 
   -- They are from a world to which nothing has happened on, and this is its journal after them.
   abbrev pub RunsTo : Rules → List Input → List Emission → List Written → Type 0

@@ -1,6 +1,7 @@
 pub mod Asked
 pub mod Engines
 pub mod Faults
+pub mod Giving
 pub mod Inputs
 pub mod Journals
 pub mod Keeping

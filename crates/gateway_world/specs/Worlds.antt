@@ -39,6 +39,20 @@ world_of e rules moment =
 abbrev pub counted : ℕ → ℕ → ℕ
 counted last moment = max last (min moment LAST_MOMENT)
 
+-- What of a journal left memory: how many of its first entries, and which of them stand there still.
+pub record Memory : Type 0 where
+  pub given : ℕ
+  pub kept : List ℕ
+
+abbrev pub memory_of : WorldValue → Memory
+memory_of w = record { given = w.core.state.given; kept = w.core.state.kept }
+
+-- Entries left memory: all else is as it was.
+abbrev pub with_memory : Memory → WorldValue → WorldValue
+with_memory m w = record w {
+  core = record w.core { state = record w.core.state { given = m.given; kept = m.kept } };
+}
+
 abbrev pub served_in : WorldValue → Served
 served_in w = record { core = w.core; unasked = unasked_in w.inlets }
 

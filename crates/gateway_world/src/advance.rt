@@ -1,7 +1,7 @@
 //! What one needs who drives a world for good: inputs that aren't taken back, and what there is to
 //! wait for.
 
-ghost use Rattle.std.specs.Prelude.{◌≡◌, ◌≤◌, ◌↔◌, [], true, None, IfOk, IsTrue, OnErr, sum_by};
+ghost use Rattle.std.specs.Prelude.{◌≡◌, ◌≤◌, ◌↔◌, [], true, None, IfOk, IsTrue, OnErr, drop, sum_by};
 ghost use Rattle.std.specs.Prelude.{vec_capacity, vec_len};
 ghost use Rattle.journal_book.specs.Entries.{entry_size};
 ghost use Rattle.exchange_core.specs.Due.{next_tick, IsNextTick};
@@ -28,7 +28,7 @@ impl<R: Relation> World<R> {
     ghost use Rattle.gateway_world.specs.Inputs.{Takes};
     ghost use Rattle.gateway_world.specs.Refusals.{IfTaken, IsRefused, MayBeRefused, opened_in};
     ghost use Rattle.gateway_world.specs.Openings.{IsCounted};
-    ghost use Rattle.gateway_world.specs.Worlds.{IsAllAsked, IsTooMuch, served_in};
+    ghost use Rattle.gateway_world.specs.Worlds.{IsAllAsked, IsTooMuch, memory_of, served_in};
     ghost use Rattle.transformers.specs.Suits.{Suits};
 
     /// The moment of the next tick that has something to do, if any has: none before it changes the
@@ -47,9 +47,10 @@ impl<R: Relation> World<R> {
         &self.engine.core
     }
 
-    /// How many bytes the entries of the journal count.
+    /// How many bytes the entries of the journal count that are in memory.
     pub fn bytes(&self) -> u64
-        ensures { result ≡ sum_by entry_size self.now.core.state.entries }
+        ensures { result
+            ≡ sum_by entry_size (drop (memory_of self.now).given self.now.core.state.entries) }
     {
         self.engine.core.bytes()
     }

@@ -10,6 +10,7 @@
 mod advance;
 mod engine;
 mod fault;
+mod giving;
 mod laws;
 mod run;
 mod serving;

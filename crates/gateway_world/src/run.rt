@@ -73,7 +73,7 @@ impl<R: Relation> World<R> {
         let mut world = World::new(alloc, settings)?;
         let mut outputs = Vec::new(alloc);
         world.take_all(bank, inputs, &mut outputs)?;
-        let journal = world.journal().copy()?;
+        let journal = world.copy_journal()?;
         Ok(Run { outputs, journal })
     }
 
@@ -91,6 +91,7 @@ impl<R: Relation> World<R> {
             (emissions outputs.new.items) self.new) }
         ensures whole { OnOk result (IsWhole (emissions outputs.new.items)) }
         ensures rests { OnOk result (IsAtRest self.new) }
+        ensures given { OnOk result (self.new.core.state.given ≡ self.old.core.state.given) }
         ensures full { result ≡ Err WorldFault.Backlog
             → IsRefusedAfter R.holds R.takes inputs.now self.old }
     {

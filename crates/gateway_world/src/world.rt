@@ -47,9 +47,20 @@ impl<R: Relation> World<R> {
     /// What happened. One reading of it is legal and at rest.
     pub fn journal(&self) -> &Journal<R>
         ensures entries { result.now.entries ≡ self.now.core.state.entries }
+        ensures given { result.now.given ≡ self.now.core.state.given }
         ensures stands { Stands self.now.core.state.entries }
     {
         self.engine.core.journal()
+    }
+
+    /// A copy of the journal, where nothing of it was given out.
+    pub fn copy_journal(&self) -> Result<Journal<R>, AllocError>
+        requires { self.now.core.state.given ≡ 0 }
+        ensures entries { IfOk result (λ journal.
+            journal.entries ≡ self.now.core.state.entries) }
+        ensures stands { Stands self.now.core.state.entries }
+    {
+        self.journal().copy()
     }
 
     /// The moment of the last input, in milliseconds: it never falls, and is at most 2^62.
@@ -67,6 +78,8 @@ impl<R: Relation> World<R> {
         ensures takes { IfOk result (λ outputs. Takes R.holds R.takes input.entry self.old
             (emissions outputs.items) self.new) }
         ensures whole { IfOk result (λ outputs. IsWhole (emissions outputs.items)) }
+        ensures given { IfOk result (λ outputs. self.new.core.state.given
+            ≡ self.old.core.state.given) }
         ensures unchanged { OnErr result (self.new ≡ self.old) }
         ensures full { IsTooMuch input.entry.happening (served_in self.old)
             ↔ IsErrOf result WorldFault.Backlog }

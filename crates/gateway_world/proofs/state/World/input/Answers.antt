@@ -11,6 +11,7 @@ use Rattle.gateway_world.specs.Worlds.{WorldValue, IsTooMuch, served_in, world_o
 use Rattle.gateway_world.proofs.Advancing.{taken-stepped}
 use Rattle.gateway_world.proofs.Ends.{ends-none, gone-back}
 use Rattle.gateway_world.proofs.Promises.{kept-back, kept-stepped, world-back}
+use Rattle.gateway_world.proofs.Memories.{takes-hold}
 use Rattle.gateway_world.proofs.state.World.input.Goals as goal
 
 pub invariant_of-self-in-Ok-Taken : goal.invariant_of-self-in-Ok-Taken
@@ -29,7 +30,7 @@ invariant_of-self-in-Err g c =
     (sym same) c.self.invariant in
     let taken = subst (λ (e : Engine _). IsOf c.in_ok-before.before e.core) (c.deref.ensures ∙ sym same) c.in_ok-before.ensures in
     kept-back g.R.Relation.holds g.R.Relation.takes _ c.self.inside.moment c.deref_mut-engine.result.now _
-    (c.restore-in-Err.ensures c.deref_mut-engine.result.now.core taken c.in-Err.ensures.back.grows)
+    (c.restore-in-Err.ensures c.deref_mut-engine.result.now.core taken c.in-Err.ensures.back.grows.entries c.in-Err.ensures.back.grows.given c.in-Err.ensures.back.grows.kept)
     (c.back-in-Err.ensures.current ∙ (c.in-Err.ensures.back.marked ∙ kept.0.marked))
     (c.back-in-Err.ensures.marked ∙ c.in-Err.ensures.back.marked)
     kept
@@ -51,6 +52,10 @@ returns-in-Ok-Taken-clause-takes g c =
     (rw (c.in-Ok-Taken.field-0-is) at c.in-Ok-Taken.ensures.steps) (ap emissions c.new-outputs.ensures.items)
     (let a = c.max-moment.ensures in let b = c.min.ensures in omega (arith, a, b)) refl c.mark.ensures.current
     kept c.in-Ok-Taken.ensures.drained c.journal.ensures.kept c.journal.ensures.stands c.journal-in-Ok-Taken.ensures.stands room (invariant_of-self-in-Ok-Taken g c))
+
+pub returns-in-Ok-Taken-clause-given : goal.returns-in-Ok-Taken-clause-given
+returns-in-Ok-Taken-clause-given g c =
+    takes-hold g.R.Relation.holds g.R.Relation.takes _ _ _ _ (returns-in-Ok-Taken-clause-takes g c)
 
 pub returns-in-Ok-Taken-clause-rests : goal.returns-in-Ok-Taken-clause-rests
 returns-in-Ok-Taken-clause-rests g c = let k = invariant_of-self-in-Ok-Taken g c in record { drained = k.1; rests = k.3 }
@@ -84,7 +89,7 @@ returns-clause-unchanged g c =
     world-back c.deref_mut-engine.result.now
     (record { alloc = c.step.new.self.alloc; core = c.restore-in-Err.new.self; table = c.back-in-Err.new.self })
     _ c.self.inside.moment
-    (c.restore-in-Err.ensures c.deref_mut-engine.result.now.core taken c.in-Err.ensures.back.grows)
+    (c.restore-in-Err.ensures c.deref_mut-engine.result.now.core taken c.in-Err.ensures.back.grows.entries c.in-Err.ensures.back.grows.given c.in-Err.ensures.back.grows.kept)
     (c.back-in-Err.ensures.current ∙ (c.in-Err.ensures.back.marked ∙ ready))
     ∙ view
 
@@ -96,7 +101,7 @@ returns-clause-rests g c =
     let taken = subst (λ (e : Engine _). IsOf c.in_ok-before.before e.core) (c.deref.ensures ∙ sym same) c.in_ok-before.ensures in
     let k = kept-back g.R.Relation.holds g.R.Relation.takes _ c.self.inside.moment c.deref_mut-engine.result.now
     (record { alloc = c.step.new.self.alloc; core = c.restore-in-Err.new.self; table = c.back-in-Err.new.self })
-    (c.restore-in-Err.ensures c.deref_mut-engine.result.now.core taken c.in-Err.ensures.back.grows)
+    (c.restore-in-Err.ensures c.deref_mut-engine.result.now.core taken c.in-Err.ensures.back.grows.entries c.in-Err.ensures.back.grows.given c.in-Err.ensures.back.grows.kept)
     (c.back-in-Err.ensures.current ∙ (c.in-Err.ensures.back.marked ∙ kept.0.marked))
     (c.back-in-Err.ensures.marked ∙ c.in-Err.ensures.back.marked)
     kept in
@@ -115,7 +120,7 @@ invariant_of-self g c =
     let gone = gone-back c.deref_mut-engine.result.now c.step.new.self _ c.step.new.outputs.items c.as_slice.result.now c.gives_up.result
     c.new-outputs.ensures.items c.in-Ok-Taken.ensures.may c.as_slice.ensures.value c.gives_up.ensures c.if-gives_up.true in
     kept-back g.R.Relation.holds g.R.Relation.takes _ c.self.inside.moment c.deref_mut-engine.result.now _
-    (c.restore.ensures c.deref_mut-engine.result.now.core taken gone.grows)
+    (c.restore.ensures c.deref_mut-engine.result.now.core taken gone.grows.entries gone.grows.given gone.grows.kept)
     (c.back.ensures.current ∙ (gone.marked ∙ kept.0.marked))
     (c.back.ensures.marked ∙ gone.marked)
     kept
@@ -131,7 +136,7 @@ returns-then-gives_up-clause-unchanged g c =
     world-back c.deref_mut-engine.result.now
     (record { alloc = c.step.new.self.alloc; core = c.restore.new.self; table = c.back.new.self })
     _ c.self.inside.moment
-    (c.restore.ensures c.deref_mut-engine.result.now.core taken gone.grows)
+    (c.restore.ensures c.deref_mut-engine.result.now.core taken gone.grows.entries gone.grows.given gone.grows.kept)
     (c.back.ensures.current ∙ (gone.marked ∙ ready))
     ∙ view
 
@@ -147,5 +152,7 @@ restore-requires g c =
     record {
       before = c.deref_mut-engine.result.now.core;
       taken = subst (λ (e : Engine _). IsOf c.in_ok-before.before e.core) (c.deref.ensures ∙ sym same) c.in_ok-before.ensures;
-      grows = gone.grows;
+      grows = gone.grows.entries;
+      given = gone.grows.given;
+      kept = gone.grows.kept;
     }

@@ -3,12 +3,13 @@ use Rattle.std.proofs.Common.{List, Err, refl, sym, ap, ◌∙◌}
 use Rattle.gateway_model.specs.declared.input.Input.{Input}
 use Rattle.gateway_model.specs.declared.input.Happening.TheVariants as H
 use Rattle.gateway_model.specs.Emissions.{emissions, given_up_in}
+use Rattle.gateway_world.specs.Worlds.{memory_of}
 use Rattle.gateway_world.proofs.Running.{emitted-both, joined, takes-next, takes-rules, refused-at}
 use Rattle.gateway_world.proofs.Parted.{whole-then}
 use Rattle.gateway_world.proofs.state.World.take_all.Goals as goal
 
 pub each-init : goal.each-init
-each-init g c = record { taken = (refl, ap emissions c.requires.untold); rules = refl; rests = c.requires.rests; whole = ap (λ (os : List _). given_up_in (emissions os)) c.requires.untold }
+each-init g c = record { taken = (memory_of c.args.self.now, refl, ap emissions c.requires.untold); rules = refl; rests = c.requires.rests; whole = ap (λ (os : List _). given_up_in (emissions os)) c.requires.untold; given = refl }
 
 pub each-preserved : goal.each-preserved
 each-preserved g c =
@@ -24,6 +25,7 @@ each-preserved g c =
           (emissions c.each.outputs.items) (emissions c.in_ok-more.more.items) c.each-test.true before.taken next.takes);
       rules = takes-rules holds takes _ c.each.self c.input.new.self _ next.takes ∙ before.rules;
       rests = next.rests;
+      given = next.given ∙ before.given;
       whole = ap (λ (os : List _). given_up_in (emissions os)) c.in_ok-append.ensures.items
           ∙ (ap given_up_in (emitted-both c.each.outputs.items c.in_ok-more.more.items)
           ∙ whole-then (emissions c.each.outputs.items) (emissions c.in_ok-more.more.items) before.whole next.whole);

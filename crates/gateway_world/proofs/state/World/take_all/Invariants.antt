@@ -12,4 +12,5 @@ invariant-each g l = record {
   rules : l.self.rules ≡ l.initial.self.rules;
   rests : IsAtRest l.self;
   whole : IsWhole (emissions l.outputs.items);
+  given : l.self.core.state.given ≡ l.initial.self.core.state.given;
 }
