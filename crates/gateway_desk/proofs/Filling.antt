@@ -49,8 +49,9 @@ pass-longer (suc n) t old new h =
     omega (arith, before, last)
 
 -- No journal takes more of them than it has entries.
-pub pass-few : (n t : ℕ) (old new : CoreValue) → PassBy n t old new → KeptInRoom new.state → n ≤ 65536
-pass-few n t old new h kept =
+pub pass-few : (n t : ℕ) (old new : CoreValue) → PassBy n t old new → KeptInRoom new.state
+    → new.state.given ≡ 0 → n ≤ 65536
+pass-few n t old new h kept whole =
     let longer = pass-longer n t old new h in
     let few = (within-limits new.state kept).0 in
-    omega (arith, longer, few)
+    omega (arith, longer, few, whole)

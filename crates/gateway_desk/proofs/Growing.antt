@@ -22,7 +22,7 @@ use Rattle.exchange_model.specs.Calls.{next_by, next, refused, has_place, asked_
 use Rattle.exchange_model.specs.Growing.{HasNoClient, by_client, at_moment}
 use Rattle.exchange_model.specs.Room.{fits}
 use Rattle.exchange_model.specs.Sealing.{opens_in_room, asks_in_room, hears_in_room, ticks_in_room}
-use Rattle.exchange_model.proofs.CallerLemmas.{hears-add, hears-answer, opens-add, opens-alone, ticks-add, ticks-answer}
+use Rattle.exchange_model.proofs.CallerLemmas.{asks-add, hears-add, hears-answer, opens-add, opens-alone, ticks-add, ticks-answer}
 use Rattle.exchange_core.specs.declared.fault.OpenFault.{OpenFault}
 use Rattle.exchange_core.specs.declared.fault.OpenFault.TheVariants as Open
 use Rattle.exchange_core.specs.declared.fault.AskFault.{AskFault}
@@ -58,12 +58,13 @@ no-asks (w ∷ ws) h =
     ap (λ (ns : List ℕ). length (ns ++ flat_map (λ (v : Written). asker v.deed) ws)) (no-asker w.deed h.0)
     ∙ no-asks ws h.1
 
--- A call adds so many asks, and what it sends is to be sent after what waits.
+-- A call adds so many asks, what it sends is to be sent after what waits, and it gives nothing out.
 pub record IsStep (n : ℕ) (old new : CoreValue) : Type 0 where
   pub more : List Written
   pub entries : new.state.entries ≡ old.state.entries ++ more
   pub asks : asks_of more ≡ n
   pub unsent : new.unsent ≡ old.unsent ++ sent_in more
+  pub given : new.state.given ≡ old.state.given
 
 pub step-same : (old new : CoreValue) → new ≡ old → IsStep 0 old new
 step-same old new e = record {
@@ -71,11 +72,14 @@ step-same old new e = record {
   entries = ap (λ (v : CoreValue). v.state.entries) e ∙ sym (append-nil old.state.entries);
   asks = refl;
   unsent = ap (λ (v : CoreValue). v.unsent) e ∙ sym (append-nil old.unsent);
+  given = ap (λ (v : CoreValue). v.state.given) e;
 }
 
 pub step-by : (n : ℕ) (old new : CoreValue) (S : State) (more : List Written)
-    → new ≡ stepped S old → S.entries ≡ old.state.entries ++ more → asks_of more ≡ n → IsStep n old new
-step-by n old new S more e is count = record {
+    → new ≡ stepped S old → S.entries ≡ old.state.entries ++ more → S.given ≡ old.state.given → asks_of more ≡ n
+    → IsStep n old new
+step-by n old new S more e is given count = record {
+  given = ap (λ (v : CoreValue). v.state.given) e ∙ given;
   more = more;
   entries = ap (λ (v : CoreValue). v.state.entries) e ∙ is;
   asks = count;
@@ -110,13 +114,13 @@ pub heard-step : (t word : ℕ) (p : Peer) (d : List ℕ) (old new : CoreValue)
     → HearsSo t word p d old new → IsStep 0 old new
 heard-step t word p d old new h =
     let x = hears-add t p d h.numbers old.state in
-    step-by 0 old new (hears_in_room t p d h.numbers old.state) x.more h.is x.entries
+    step-by 0 old new (hears_in_room t p d h.numbers old.state) x.more h.is x.entries x.given
     (no-asks x.more (hears-answer t p d h.numbers old.state x))
 
 pub ticked-step : (t : ℕ) (old new : CoreValue) → new ≡ stepped (ticks_in_room t old.state) old → IsStep 0 old new
 ticked-step t old new e =
     let x = ticks-add t old.state in
-    step-by 0 old new (ticks_in_room t old.state) x.more e x.entries
+    step-by 0 old new (ticks_in_room t old.state) x.more e x.entries x.given
     (no-asks x.more (ticks-answer t old.state x))
 
 -- A connection is opened, and closed.
@@ -124,7 +128,7 @@ ticked-step t old new e =
 opens-step : (t : ℕ) (old new : CoreValue) → new ≡ stepped (opens_in_room t old.state) old → IsStep 0 old new
 opens-step t old new e =
     let x = opens-add t old.state in
-    step-by 0 old new (opens_in_room t old.state) x.more e x.entries (none x.more (opens-alone t old.state x))
+    step-by 0 old new (opens_in_room t old.state) x.more e x.entries x.given (none x.more (opens-alone t old.state x))
   where
     none : (more : List Written)
         → (more ≡ []) ⊎ ((more ≡ at_moment t (Opens old.state.opened) ∷ []) ⊎ (more ≡ at_moment t Seals ∷ []))
@@ -140,7 +144,7 @@ opened-step (Err Open.Full) t old new h = step-same old new h.0
 opened-step (Err Open.Memory) t old new h = step-same old new h.0
 
 closed-step : (t c : ℕ) (old new : CoreValue) → IsClosed t c old new → IsStep 0 old new
-closed-step t c old new h = step-by 0 old new _ (at_moment t (Shuts c) ∷ []) h.1 refl refl
+closed-step t c old new h = step-by 0 old new _ (at_moment t (Shuts c) ∷ []) h.1 refl refl refl
 
 pub closes-step : (b : Bool) (t c : ℕ) (old new : CoreValue) → (b ≡ true → IsClosed t c old new)
     → (b ≡ false → (new ≡ old) × IsUnknown c old) → IsStep 0 old new
@@ -240,7 +244,7 @@ asks-step t word c a old new unsealed h =
     let is : asks_in_room t c a h.numbers old.state ≡ S1 =
     fits-in old.state.sealed (fits S1) t old.state S1 refl (sym (ap (λ (v : CoreValue). v.state.sealed) h.is) ∙ unsealed) in
     step-by 1 old new (asks_in_room t c a h.numbers old.state) x.more h.is (ap (λ (s : State). s.entries) is ∙ x.entries)
-    x.one
+    (asks-add t c a h.numbers old.state).given x.one
 
 seals-step : (t word c : ℕ) (a : Ask) (old new : CoreValue) → new.state.sealed ≡ true → AsksSo t word c a old new
     → IsStep 0 old new
@@ -256,8 +260,9 @@ seals-step t word c a old new sealed h =
 
     by : (S ≡ old.state) ⊎ (S ≡ seals t old.state) → IsStep 0 old new
     by (inl e) = step-by 0 old new S [] h.is
-        (ap (λ (s : State). s.entries) e ∙ sym (append-nil old.state.entries)) refl
-    by (inr e) = step-by 0 old new S (at_moment t Seals ∷ []) h.is (ap (λ (s : State). s.entries) e) refl
+        (ap (λ (s : State). s.entries) e ∙ sym (append-nil old.state.entries)) (ap (λ (s : State). s.given) e) refl
+    by (inr e) = step-by 0 old new S (at_moment t Seals ∷ []) h.is (ap (λ (s : State). s.entries) e)
+        (ap (λ (s : State). s.given) e) refl
 
 pub asked-step : (k t word c : ℕ) (a : Ask) (old new : CoreValue) → IsAsked (Ok k) t word c a old new → IsStep 1 old new
 asked-step k t word c a old new h = asks-step t word c a old new h.1 h.2
@@ -289,6 +294,10 @@ pub sent-same : (b : ℕ) (d : Option Outgoing) (old new : CoreValue) → IsSent
 sent-same b None old new h e = ap (λ (v : CoreValue). asks_of v.state.entries) h.1 ∙ e
 sent-same b (Some d) old new h e = ap (λ (v : CoreValue). asks_of v.state.entries) h.1 ∙ e
 
+pub sent-whole : (d : Option Outgoing) (old new : CoreValue) → IsSent d old new → old.state.given ≡ 0 → new.state.given ≡ 0
+sent-whole None old new h e = ap (λ (v : CoreValue). v.state.given) h.1 ∙ e
+sent-whole (Some d) old new h e = ap (λ (v : CoreValue). v.state.given) h.1 ∙ e
+
 -- An answer is taken.
 pub taken-step : (r : Option Given) (k : ℕ) (old new : CoreValue) → IsTaken r k old new → IsStep 0 old new
 taken-step None k old new h = step-same old new h.0
@@ -297,4 +306,5 @@ taken-step (Some g) k old new h = record {
   entries = ap (λ (v : CoreValue). v.state.entries) h.3 ∙ sym (append-nil old.state.entries);
   asks = refl;
   unsent = ap (λ (v : CoreValue). v.unsent) h.3 ∙ sym (append-nil old.unsent);
+  given = ap (λ (v : CoreValue). v.state.given) h.3;
 }

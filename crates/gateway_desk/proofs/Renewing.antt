@@ -61,6 +61,9 @@ turned-none t given old new h =
     ap (λ (S : State). asks_of S.entries) (rotated-is (fault_of t old.state) t old.state given new.state h.is).1
     ∙ copies-none t old.state
 
+pub turned-whole : (t : ℕ) (given : List Written) (old new : CoreValue) → IsTurned t given old new → new.state.given ≡ 0
+turned-whole t given old new h = ap (λ (S : State). S.given) (rotated-is (fault_of t old.state) t old.state given new.state h.is).1
+
 -- so many asks as the book counts then
 pub counted : (n k old new : ℕ) → n ≡ 0 → k ≡ old → new + k ≡ old → n ≡ new
 counted n k old new none whole spent = omega (arith, none, whole, spent)

@@ -11,6 +11,7 @@ mod bells;
 mod clock;
 mod desk;
 mod desk_state;
+mod in_memory;
 mod pass;
 mod receipt;
 mod replies;

@@ -11,6 +11,7 @@ ghost use Rattle.gateway_desk.specs.Lines.{line_of};
 ghost use Rattle.gateway_desk.specs.Running.{is_ask};
 ghost use Rattle.gateway_desk.specs.Settled.{IsJustified, IsStranger, AreApart, IsRepeated, answered_by, answered_in, answered};
 
+use crate::in_memory::get;
 use crate::pass::{Note, Pass};
 use crate::report::{Report, SettleFault};
 use crate::shop::Shop;
@@ -27,6 +28,7 @@ fn stranger_in<R: Relation, L: Ledger>(
     journal: &Journal<R>,
     passes: &[Pass<R, L>],
 ) -> Result<Option<u32>, AllocError>
+    requires whole { journal.now.given ≡ 0 }
     ensures none { IfOk result (λ o. o ≡ None
         → All (IsJustified journal.now.entries) passes.now) }
     ensures some { IfOk result (λ o. IfSome o
@@ -116,11 +118,12 @@ fn is_ask<R: Relation>(entry: &Entry<R>) -> bool
 
 /// How many asks the journal has.
 fn count_asks<R: Relation>(journal: &Journal<R>) -> u64
+    requires whole { journal.now.given ≡ 0 }
     ensures { result ≡ asks_of journal.now.entries }
 {
     let mut asks: u64 = 0;
     'each: for number in 0..journal.len() {
-        let Some(entry) = journal.get(number) else {
+        let Some(entry) = get(journal, number) else {
             unreachable!()
         };
         if is_ask(entry) {
@@ -158,6 +161,7 @@ pub(crate) fn settled<R: Relation, L: Ledger>(
     journal: &Journal<R>,
     passes: &[Pass<R, L>],
 ) -> Result<Report, SettleFault>
+    requires whole { journal.now.given ≡ 0 }
     ensures justified { OnOk result (All (IsJustified journal.now.entries) passes.now) }
     ensures apart { OnOk result (AreApart (answered passes.now)) }
     ensures whole { OnOk result (asks_of journal.now.entries

@@ -67,7 +67,7 @@ impl<R: Relation, L: Ledger> Model for Shop<R, L> {
 
     ghost invariant = { λ s. (asks_of s.core.state.entries ≡ s.book.total)
         × AreUnsent s.core.state.entries s.core.unsent
-        × (s.rest.amount ≡ 0) × (s.rest.parts ≡ s.left) };
+        × (s.rest.amount ≡ 0) × (s.rest.parts ≡ s.left) × (s.core.state.given ≡ 0) };
 }
 
 impl<R: Relation, L: Ledger> Shop<R, L> {
@@ -89,9 +89,12 @@ impl<R: Relation, L: Ledger> Shop<R, L> {
         })
     }
 
-    /// What happened. One reading of it is legal and at rest, and says what the core keeps.
+    /// What happened, from the beginning on. One reading of it is legal and at rest, and says what
+    /// the core keeps.
     pub fn journal(&self) -> &Journal<R>
         ensures entries { result.now.entries ≡ self.now.core.state.entries }
+        ensures given { result.now.given ≡ self.now.core.state.given }
+        ensures whole { result.now.given ≡ 0 }
         ensures stands { Stands self.now.core.state.entries }
         ensures kept { KeptInRoom self.now.core.state }
     {

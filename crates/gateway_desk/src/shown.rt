@@ -9,6 +9,7 @@ ghost use Rattle.journal_book.specs.Entries.{done_of};
 ghost use Rattle.journal_book.specs.Views.{event_of};
 ghost use Rattle.gateway_desk.specs.Shown.{AreUnheard, CountsAt, bytes_heard, HearsAt, HearsNone, IsHeardAt, IsMadeAt, IsUnheard, RestsOn, SpellsNone};
 
+use crate::in_memory::get;
 use crate::replies::{are_response, ends_valid};
 use ask_model::Meaning;
 use coap_codec::{Bytes, CodecFault, Message, decode};
@@ -52,10 +53,11 @@ fn heard_in<R: Relation>(event: &Event<R>) -> Option<&Bytes>
 
 /// The bytes that were heard in the entry with this number.
 fn heard_at<R: Relation>(journal: &Journal<R>, number: u32) -> Option<&Bytes>
+    requires whole { journal.now.given ≡ 0 }
     ensures { MatchOption result (HearsNone journal.now.entries number)
         (λ bytes. HearsAt journal.now.entries number bytes.now) }
 {
-    match journal.get(number as usize) {
+    match get(journal, number as usize) {
         Some(entry) => heard_in(&entry.event),
         None => None,
     }
@@ -67,6 +69,7 @@ fn message_at<R: Relation>(
     journal: &Journal<R>,
     number: u32,
 ) -> Result<Option<Message>, AllocError>
+    requires whole { journal.now.given ≡ 0 }
     ensures { IfOk result (λ o. MatchOption o (IsUnheard journal.now.entries number)
         (λ m. IsHeardAt journal.now.entries number (content m))) }
 {
@@ -82,6 +85,7 @@ fn messages_at<R: Relation>(
     journal: &Journal<R>,
     numbers: &[u32],
 ) -> Result<Option<Vec<Message>>, AllocError>
+    requires whole { journal.now.given ≡ 0 }
     ensures { IfOk result (λ o. MatchOption o (AreUnheard journal.now.entries numbers.now)
         (λ ms. AreHeard journal.now.entries numbers.now (map content ms.items))) }
 {
@@ -97,13 +101,14 @@ fn messages_at<R: Relation>(
 
 /// Whether the entry with this number, if there is one, was made at this moment.
 fn is_made_at<R: Relation>(journal: &Journal<R>, number: Option<&u32>, moment: u64) -> bool
+    requires whole { journal.now.given ≡ 0 }
     ensures { MatchOption number.entry (result ≡ false)
         (λ n. IsTrue result ↔ IsMadeAt journal.now.entries n.now moment) }
 {
     let Some(number) = number else {
         return false;
     };
-    match journal.get(*number as usize) {
+    match get(journal, *number as usize) {
         Some(entry) => entry.moment == moment,
         None => false,
     }
@@ -117,7 +122,8 @@ fn counts_from<R: Relation>(
     messages: &[Message],
     moment: u64,
 ) -> bool
-    requires { AreHeard journal.now.entries numbers.now (map content messages.now) }
+    requires whole { journal.now.given ≡ 0 }
+    requires heard { AreHeard journal.now.entries numbers.now (map content messages.now) }
     ensures { IsTrue result ↔ CountsAt journal.now.entries moment numbers.now }
 {
     if ends_valid(messages) {
@@ -137,7 +143,8 @@ fn rests_on<R: Relation>(
     body: &[u8],
     response: &Response,
 ) -> Result<bool, AllocError>
-    requires { length body.now ≤ MAX_BODY_LEN }
+    requires whole { journal.now.given ≡ 0 }
+    requires short { length body.now ≤ MAX_BODY_LEN }
     ensures { IfOk result (λ is. IsTrue is
         ↔ RestsOn journal.now.entries numbers.now moment method (length body.now) response.now) }
 {
@@ -156,6 +163,7 @@ pub fn is_shown<R: Relation>(
     journal: &Journal<R>,
     answer: &Answer<R>,
 ) -> Result<bool, AllocError>
+    requires whole { journal.now.given ≡ 0 }
     ensures { IfOk result (λ is. IsTrue is ↔ IsShown journal.now.entries (given_of answer.now)) }
 {
     let outcome = answer.finding.outcome();

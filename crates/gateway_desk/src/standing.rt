@@ -8,6 +8,7 @@ ghost use Rattle.gateway_desk.specs.Settled.{IsAskOn, AsksAt, AnswersAs, HasRece
 ghost use Rattle.gateway_desk.specs.Settled.{AreInOrder, IsJustified, Lacks, AreOutOfOrder, IsUnjustified, number_of};
 ghost use Rattle.gateway_desk.specs.Running.{next_from};
 
+use crate::in_memory::get;
 use crate::pass::{Note, Pass};
 use crate::receipt::Receipt;
 use crate::same::{is_same_grounds, means_same};
@@ -28,9 +29,10 @@ fn is_ask_on<R: Relation>(event: &Event<R>, conn: u32) -> bool
 
 /// Whether the entry with this number asks on the connection.
 fn asks_at<R: Relation>(journal: &Journal<R>, number: u32, conn: u32) -> bool
+    requires whole { journal.now.given ≡ 0 }
     ensures { IsTrue result ↔ AsksAt conn (slice_get journal.now.entries number) }
 {
-    match journal.get(number as usize) {
+    match get(journal, number as usize) {
         Some(entry) => is_ask_on(&entry.event, conn),
         None => false,
     }
@@ -69,11 +71,12 @@ fn has_receipt<R: Relation>(
     journal: &Journal<R>,
     receipt: &Receipt<R>,
 ) -> Result<bool, AllocError>
+    requires whole { journal.now.given ≡ 0 }
     ensures { IfOk result (λ has. IsTrue has
         ↔ HasReceipt journal.now.entries (slip_of receipt.now)) }
 {
-    let answer = journal.get(receipt.answer.number as usize);
-    let ask = journal.get(receipt.number as usize);
+    let answer = get(journal, receipt.answer.number as usize);
+    let ask = get(journal, receipt.number as usize);
     match (answer, ask) {
         (Some(answer), Some(ask)) => {
             let answers = answers_as(receipt, answer, ask);
@@ -91,6 +94,7 @@ fn has_line<R: Relation>(
     conn: u32,
     note: &Note<R>,
 ) -> Result<bool, AllocError>
+    requires whole { journal.now.given ≡ 0 }
     ensures { IfOk result (λ has. IsTrue has
         ↔ HasLine journal.now.entries conn (line_of note.now)) }
 {
@@ -123,6 +127,7 @@ fn strange<R: Relation>(
     conn: u32,
     notes: &[Note<R>],
 ) -> Result<Option<u32>, AllocError>
+    requires whole { journal.now.given ≡ 0 }
     ensures none { IfOk result (λ o. o ≡ None
         → All (HasLine journal.now.entries conn) (map line_of notes.now)) }
     ensures some { IfOk result (λ o. IfSome o
@@ -176,6 +181,7 @@ pub fn stranger<R: Relation, L: Ledger>(
     journal: &Journal<R>,
     pass: &Pass<R, L>,
 ) -> Result<Option<u32>, AllocError>
+    requires whole { journal.now.given ≡ 0 }
     ensures none { IfOk result (λ o. o ≡ None → IsJustified journal.now.entries pass.now) }
     ensures some { IfOk result (λ o. IfSome o
         (IsUnjustified journal.now.entries pass.now)) }

@@ -1,4 +1,5 @@
 -- Closing asks nothing.
+use Rattle.std.proofs.Common.{◌∙◌}
 use Rattle.gateway_desk.proofs.Growing.{closes-step, as-many, unsent-on}
 use Rattle.gateway_desk.proofs.shop.Shop.close.Goals as goal
 
@@ -9,4 +10,5 @@ invariant_of-self g c =
       unsent-on _ _ _ step c.self.invariant.1,
       c.self.invariant.2,
       c.self.invariant.3,
+      step.given ∙ c.self.invariant.4,
     )

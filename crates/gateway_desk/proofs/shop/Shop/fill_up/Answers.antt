@@ -1,5 +1,5 @@
 -- One more connection passed by.
-use Rattle.std.proofs.Common.{suc, ◌∙◌, arith}
+use Rattle.std.proofs.Common.{suc, sym, ◌∙◌, arith}
 use Rattle.gateway_desk.proofs.Filling.{pass-few}
 use Rattle.gateway_desk.proofs.shop.Shop.fill_up.Goals as goal
 
@@ -13,5 +13,6 @@ each-preserved g c =
 pub unreachable-requires : goal.unreachable-requires
 unreachable-requires g c =
     let all = c.each.invariant.0 in
-    let few = pass-few all.0 _ _ _ all.2 c.journal-journal.ensures.kept in
+    let journal = c.journal-journal.ensures in
+    let few = pass-few all.0 _ _ _ all.2 journal.kept (sym journal.given ∙ journal.whole) in
     absurd (omega (arith, few, all.1))

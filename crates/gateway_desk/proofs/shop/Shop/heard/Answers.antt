@@ -1,4 +1,5 @@
 -- A datagram asks nothing.
+use Rattle.std.proofs.Common.{◌∙◌}
 use Rattle.gateway_desk.proofs.Growing.{heard-step, as-many, unsent-on}
 use Rattle.gateway_desk.proofs.shop.Shop.heard.Goals as goal
 
@@ -9,4 +10,5 @@ invariant_of-self-2 g c =
       unsent-on _ _ _ step c.self.invariant.1,
       c.self.invariant.2,
       c.self.invariant.3,
+      step.given ∙ c.self.invariant.4,
     )

@@ -1,5 +1,5 @@
 -- Opening asks nothing.
-use Rattle.std.proofs.Common.{Ok, Err, arith}
+use Rattle.std.proofs.Common.{Ok, Err, arith, ◌∙◌}
 use Rattle.gateway_desk.proofs.Growing.{opened-step, as-many, unsent-on}
 use Rattle.gateway_desk.proofs.shop.Shop.open.Goals as goal
 
@@ -10,6 +10,7 @@ invariant_of-self g c =
       unsent-on _ _ _ step c.self.invariant.1,
       c.self.invariant.2,
       c.self.invariant.3,
+      step.given ∙ c.self.invariant.4,
     )
 
 pub invariant_of-self-2 : goal.invariant_of-self-2
@@ -19,4 +20,5 @@ invariant_of-self-2 g c =
       unsent-on _ _ _ step c.self.invariant.1,
       omega (arith, c.split_off-share.ensures.amount_left, c.self.invariant.2),
       omega (arith, c.split_off-share.ensures.parts_left, c.self.invariant.3),
+      step.given ∙ c.self.invariant.4,
     )

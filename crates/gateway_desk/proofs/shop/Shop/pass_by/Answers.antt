@@ -1,5 +1,5 @@
 -- Neither opening nor closing asks anything.
-use Rattle.std.proofs.Common.{Ok, Err}
+use Rattle.std.proofs.Common.{Ok, Err, ◌∙◌}
 use Rattle.gateway_desk.proofs.Growing.{opened-step, closes-step, as-many, unsent-on}
 use Rattle.gateway_desk.proofs.shop.Shop.pass_by.Goals as goal
 
@@ -10,6 +10,7 @@ invariant_of-self g c =
       unsent-on _ _ _ step c.self.invariant.1,
       c.self.invariant.2,
       c.self.invariant.3,
+      step.given ∙ c.self.invariant.4,
     )
 
 pub invariant_of-self-2 : goal.invariant_of-self-2
@@ -20,4 +21,5 @@ invariant_of-self-2 g c =
       unsent-on _ _ _ closed (unsent-on _ _ _ opened c.self.invariant.1),
       c.self.invariant.2,
       c.self.invariant.3,
+      closed.given ∙ opened.given ∙ c.self.invariant.4,
     )

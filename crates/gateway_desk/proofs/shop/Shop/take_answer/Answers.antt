@@ -1,5 +1,5 @@
 -- Taking an answer asks nothing.
-use Rattle.std.proofs.Common.{rules, option_map}
+use Rattle.std.proofs.Common.{rules, option_map, ◌∙◌}
 use Rattle.exchange_core.specs.Answering.{given_of}
 use Rattle.gateway_desk.proofs.Growing.{taken-step, as-many, unsent-on}
 use Rattle.gateway_desk.proofs.shop.Shop.take_answer.Goals as goal
@@ -11,6 +11,7 @@ invariant_of-self g c =
       unsent-on _ _ _ step c.self.invariant.1,
       c.self.invariant.2,
       c.self.invariant.3,
+      step.given ∙ c.self.invariant.4,
     )
 
 pub returns-clause-taken : goal.returns-clause-taken

@@ -1,5 +1,5 @@
 -- A tick asks nothing.
-use Rattle.std.proofs.Common.{◌≡◌, subst}
+use Rattle.std.proofs.Common.{◌≡◌, subst, ◌∙◌}
 use Rattle.exchange_model.specs.Sealing.{ticks_in_room}
 use Rattle.exchange_core.specs.Calls.{now}
 use Rattle.exchange_core.specs.Values.{stepped}
@@ -14,6 +14,7 @@ invariant_of-self-2 g c =
       unsent-on _ _ _ step c.self.invariant.1,
       c.self.invariant.2,
       c.self.invariant.3,
+      step.given ∙ c.self.invariant.4,
     )
 
 pub returns-clause-ticks : goal.returns-clause-ticks

@@ -1,6 +1,6 @@
 -- All asks of the journal that is given out were the passes', so the book counts none.
 use Rattle.std.proofs.Common.{Err, ap, sym, ◌∙◌}
-use Rattle.gateway_desk.proofs.Renewing.{counted, turned-none, turned-unsent, unsettled}
+use Rattle.gateway_desk.proofs.Renewing.{counted, turned-none, turned-unsent, unsettled, turned-whole}
 use Rattle.gateway_desk.proofs.shop.Shop.turn_over.Goals as goal
 
 pub returns-in-Err-clause-refused : goal.returns-in-Err-clause-refused
@@ -22,4 +22,5 @@ invariant_of-self g c =
       turned-unsent _ _ c.self.inside.core c.rotate-2.new.self c.in-Ok-rotate.ensures.turned,
       c.self.invariant.2,
       c.self.invariant.3,
+      turned-whole _ _ c.self.inside.core c.rotate-2.new.self c.in-Ok-rotate.ensures.turned,
     )
