@@ -126,6 +126,9 @@ fn are_carried(journal: &Journal<Nothing>) -> bool {
 
 /// So many entries are left.
 fn cuts(journal: &mut Journal<Nothing>, len: usize) -> bool {
+    if journal.given() > len {
+        return false;
+    }
     journal.cut(len);
     journal.len() == len
 }

@@ -19,6 +19,8 @@ mod entries;
 #[cfg(test)]
 mod findings;
 #[cfg(test)]
+mod giving;
+#[cfg(test)]
 mod rooms;
 #[cfg(test)]
 mod sample;

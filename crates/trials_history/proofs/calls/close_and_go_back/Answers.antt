@@ -7,4 +7,6 @@ restore-requires c = record {
   before = c.args.core.now;
   taken = c.in-Ok.ensures;
   grows = (_, ap (λ (v : CoreValue). v.state.entries) (c.close-closed.ensures.closed c.if-closed.true).1);
+  given = ap (λ (v : CoreValue). v.state.given) (c.close-closed.ensures.closed c.if-closed.true).1;
+  kept = ap (λ (v : CoreValue). v.state.kept) (c.close-closed.ensures.closed c.if-closed.true).1;
 }
