@@ -155,6 +155,7 @@ fn tell_output<R: Relation, W: Write>(
 fn reason_of(fault: RotateFault) -> &'static str {
     match fault {
         RotateFault::Unsealed => "it isn't full",
+        RotateFault::Given => "its beginning was given out",
         RotateFault::Connected => "a client is connected",
         RotateFault::Exchanging => "a request isn't over",
         RotateFault::Spent => "too few numbers are left",

@@ -9,6 +9,7 @@ use Rattle.gateway_model.specs.declared.input.Input.{Input}
 use Rattle.gateway_model.specs.Emissions.{Emission}
 use Rattle.gateway_world.specs.Inputs.{Takes}
 use Rattle.gateway_world.specs.Worlds.{WorldValue, counted}
+use Rattle.gateway_world.proofs.Memories.{takes-hold}
 use Rattle.three_parties.specs.Arriving.{IsFull}
 use Rattle.three_parties.specs.Flights.{Reach, ToProxy, ToDevice, Nowhere}
 use Rattle.three_parties.specs.Scenes.{Scene, ProxyTakes, Reaches, TakesInput, TakesTurn, TakesTurns}
@@ -52,6 +53,29 @@ module _ (holds : Form → Form → List ℕ → List ℕ → Type 0) (takes : F
   turn-rules (T.Proxy i) a b k = input-rules _ i i.happening a b k
   turn-rules (T.Device m) a b k = ap (λ (s : Scene). s.world.rules) k.is
   turn-rules (T.Deliver w n) a b k = reach-rules (counted a.moment w.moment) w.word n _ a b k
+
+  -- Nothing is given out.
+  proxy-given : (t : ℕ) (i : Input) (a b : Scene) → ProxyTakes holds takes R t i a b → b.world.core.state.given ≡ a.world.core.state.given
+  proxy-given t i a b p =
+      ap (λ (s : Scene). s.world.core.state.given) p.is ∙ takes-hold holds takes (record i { moment = t }) a.world p.world p.given p.takes_it
+
+  input-given : (t : ℕ) (i : Input) (x : Happening) (a b : Scene) → TakesInput holds takes R t i x a b → b.world.core.state.given ≡ a.world.core.state.given
+  input-given t i (H.Datagram p bytes) a b k = ap (λ (s : Scene). s.world.core.state.given) k
+  input-given t i H.Open a b k = proxy-given t i a b k
+  input-given t i (H.Bytes c bytes) a b k = proxy-given t i a b k
+  input-given t i H.Tick a b k = proxy-given t i a b k
+  input-given t i (H.Close c) a b k = proxy-given t i a b k
+  input-given t i H.Rotate a b k = proxy-given t i a b k
+
+  reach-given : (t word n : ℕ) (r : Reach) (a b : Scene) → Reaches holds takes R t word n r a b → b.world.core.state.given ≡ a.world.core.state.given
+  reach-given t word n (ToProxy bytes) a b k = proxy-given t _ a b k.takes_it
+  reach-given t word n (ToDevice bytes) a b k = ap (λ (s : Scene). s.world.core.state.given) k.is
+  reach-given t word n Nowhere a b k = ap (λ (s : Scene). s.world.core.state.given) k
+
+  pub turn-given : (x : Turn) (a b : Scene) → TakesTurn holds takes R x a b → b.world.core.state.given ≡ a.world.core.state.given
+  turn-given (T.Proxy i) a b k = input-given _ i i.happening a b k
+  turn-given (T.Device m) a b k = ap (λ (s : Scene). s.world.core.state.given) k.is
+  turn-given (T.Deliver w n) a b k = reach-given (counted a.moment w.moment) w.word n _ a b k
 
 split-at : {A : Type 0} (xs : List A) (n : ℕ) (d : A) → n < length xs → xs ≡ take n xs ++ get_or xs n d ∷ drop (n + 1) xs
 split-at {A} xs n d lt = sym (take-append-drop n xs) ∙ ap (λ (ys : List A). take n xs ++ ys) (drop_more xs n d lt)

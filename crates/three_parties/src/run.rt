@@ -88,7 +88,7 @@ fn play<R: Relation, H: Behaviour>(
 {
     let mut stage = Stage::new(alloc, settings, origin)?;
     stage.take_all(&bank, turns)?;
-    let journal = stage.world.journal().copy()?;
+    let journal = stage.world.copy_journal()?;
     let Stage {
         origin,
         outputs,
@@ -113,6 +113,8 @@ impl<R: Relation, H: Behaviour> Stage<R, H> {
         ensures sound { Sound H.relation self.new.origin }
         ensures takes { OnOk result (TakesTurns R.holds R.takes H.relation turns.now
             (scene self.old) (scene self.new)) }
+        ensures given { OnOk result (self.new.world.core.state.given
+            ≡ self.old.world.core.state.given) }
         ensures full { result ≡ Err WorldFault.Backlog
             → IsRefused R.holds R.takes H.relation turns.now (scene self.old) }
     {

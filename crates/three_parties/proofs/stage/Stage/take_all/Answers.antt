@@ -4,11 +4,11 @@ use Rattle.gateway_model.specs.declared.input.Happening.TheVariants as H
 use Rattle.three_parties.specs.Stories.{scene}
 use Rattle.three_parties.specs.declared.turn.Turn.{Turn}
 use Rattle.three_parties.specs.declared.turn.Turn.TheVariants as T
-use Rattle.three_parties.proofs.Running.{refused-at, turn-rules, turns-next}
+use Rattle.three_parties.proofs.Running.{refused-at, turn-given, turn-rules, turns-next}
 use Rattle.three_parties.proofs.stage.Stage.take_all.Goals as goal
 
 pub each-init : goal.each-init
-each-init g c = record { taken = refl; rules = refl; sound = c.requires.sound }
+each-init g c = record { taken = refl; rules = refl; given = refl; sound = c.requires.sound }
 
 pub each-preserved : goal.each-preserved
 each-preserved g c =
@@ -21,6 +21,7 @@ each-preserved g c =
       taken = turns-next holds takes R c.args.turns.now c.each.turn-index none (scene c.args.self.now) (scene c.each.self) (scene c.take.new.self)
           c.each-test.true before.taken c.in_ok-take.ensures.takes;
       rules = turn-rules holds takes R _ (scene c.each.self) (scene c.take.new.self) c.in_ok-take.ensures.takes ∙ before.rules;
+      given = turn-given holds takes R _ (scene c.each.self) (scene c.take.new.self) c.in_ok-take.ensures.takes ∙ before.given;
       sound = c.take.ensures.sound;
     }
 

@@ -10,5 +10,6 @@ invariant-each g l = record {
   taken : TakesTurns g.R.Relation.holds g.R.Relation.takes g.H.Behaviour.relation (take l.turn-index l.turns)
       (scene l.initial.self) (scene l.self);
   rules : l.self.world.rules ≡ l.initial.self.world.rules;
+  given : l.self.world.core.state.given ≡ l.initial.self.world.core.state.given;
   sound : Sound g.H.Behaviour.relation l.self.origin;
 }
