@@ -19,7 +19,7 @@ use Rattle.history_claims.specs.Causes.{IsUnsent}
 use Rattle.history_claims.specs.Once.{IsServedSo}
 use Rattle.history_claims.proofs.Asking.{answers-ask}
 use Rattle.history_claims.proofs.Entries.{entries-at}
-use Rattle.history_claims.proofs.Hands.{open-back, opened-before, pending-back}
+use Rattle.history_claims.proofs.Hands.{open-back, opened-before, pending-back, reads-something}
 use Rattle.history_claims.proofs.Pending.{senses, asks-something, unsent-in}
 use Rattle.history_claims.proofs.Unsent.{none-for-other}
 
@@ -107,17 +107,6 @@ was-shut (x ∷ older) k c lt now h =
       | inr w ↦ let other = w.1 in was-shut older k c (omega (arith, lt, other)) (rw (w.0) at now) closed
     ])
     h
-
--- At rest, an ask that an open connection waits for reads an exchange.
-reads-something : (l : List Noted) (k c : ℕ) → Legal l → AtRest l → is_open l c ≡ true → pending l c ≡ Some k → reads l k ≡ None → ⊥
-reads-something l k c legal rest now next none =
-    let below = open-below l legal c now in
-    let hand : is_in_hand l c ≡ true = range-passes (is_in_hand l) 0 (opened l) c rest.waits (omega arith) (omega (arith, below)) in
-    let open_one : (not true || option_map_or (λ (k : ℕ). reads_open l (reads l k)) (pending l c) true) ≡ true =
-    subst (λ (b : Bool). (not b || option_map_or (λ (k : ℕ). reads_open l (reads l k)) (pending l c) true) ≡ true) now hand in
-    let reading : option_map_or (λ (k : ℕ). reads_open l (reads l k)) (Some k) true ≡ true =
-    subst (λ (o : Option ℕ). option_map_or (λ (k : ℕ). reads_open l (reads l k)) o true ≡ true) next open_one in
-    false≢true (subst (λ (o : Option ℕ). reads_open l o ≡ true) none reading)
 
 -- the ask k, which is served
 module _ (l : List Noted) (k c t : ℕ) (a : Ask) (q : CoapRequest) (js : List ℕ) (legal : Legal l)

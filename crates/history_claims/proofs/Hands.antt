@@ -9,7 +9,7 @@ use Rattle.std.proofs.lemmas.Bool.{false≢true}
 use Rattle.coap_codec.specs.Spelling.{Content}
 use Rattle.uri_map.specs.declared.peer.Peer.{Peer}
 use Rattle.ask_model.specs.Views.{Ask}
-use Rattle.journal_book.specs.Entries.{Deed, Opens, Asks, Shuts}
+use Rattle.journal_book.specs.Entries.{Grounds, Deed, Opens, Asks, Answers, Shuts}
 use Rattle.history_laws.specs.Readings.{Noted, Note, at, before, noted}
 use Rattle.history_laws.specs.Connections.{has_opened, open_by, is_open, asks_of, answers_of, opened_by, opened}
 use Rattle.history_laws.specs.Progress.{Ending}
@@ -92,6 +92,49 @@ in-hand l c k o rest below now next own =
     let reading : option_map_or (λ (k : ℕ). reads_open l (reads l k)) (Some k) true ≡ true =
     subst (λ (o : Option ℕ). option_map_or (λ (k : ℕ). reads_open l (reads l k)) o true ≡ true) next here in
     subst (λ (o : Option ℕ). reads_open l o ≡ true) own reading
+
+-- At rest, an ask that an open connection waits for reads an exchange.
+pub reads-something : (l : List Noted) (k c : ℕ) → Legal l → AtRest l → is_open l c ≡ true → pending l c ≡ Some k → reads l k ≡ None → ⊥
+reads-something l k c legal rest now next none =
+    let below = open-below l legal c now in
+    let hand : is_in_hand l c ≡ true = range-passes (is_in_hand l) 0 (opened l) c rest.waits (omega arith) (omega (arith, below)) in
+    let open_one : (not true || option_map_or (λ (k : ℕ). reads_open l (reads l k)) (pending l c) true) ≡ true =
+    subst (λ (b : Bool). (not b || option_map_or (λ (k : ℕ). reads_open l (reads l k)) (pending l c) true) ≡ true) now hand in
+    let reading : option_map_or (λ (k : ℕ). reads_open l (reads l k)) (Some k) true ≡ true =
+    subst (λ (o : Option ℕ). option_map_or (λ (k : ℕ). reads_open l (reads l k)) o true ≡ true) next open_one in
+    false≢true (subst (λ (o : Option ℕ). reads_open l o ≡ true) none reading)
+
+-- So between an ask that reads none and its answer no input comes.
+module _ (l : List Noted) (n k c t s : ℕ) (a : Ask) (g : Grounds) (note at_end : Note) (legal : Legal l) (here : at l k ≡ Some (noted t (Asks c a) note))
+    (answered : at l n ≡ Some (noted s (Answers c k g) at_end)) (none : reads l k ≡ None) where
+  waits : (is_open (before l n) c ≡ true) × (pending (before l n) c ≡ Some k)
+  waits = by (follows-at l n _ legal answered)
+    where
+      by : Follows (before l n) s (Answers c k g) at_end → (is_open (before l n) c ≡ true) × (pending (before l n) c ≡ Some k)
+      by may = (may.1, may.2)
+
+  open-then : is_open (before l k) c ≡ true
+  open-then = by (follows-at l k _ legal here)
+    where
+      by : Follows (before l k) t (Asks c a) note → is_open (before l k) c ≡ true
+      by may = may.1
+
+  pub none-comes : (i : ℕ) (x : Noted) → k < i → i < n → at l i ≡ Some x → MayCome (before l i) → ⊥
+  none-comes i x after less there come =
+      let early = legal-before l n legal in
+      let twice = before-twice l n i _ answered less in
+      let sooner = before-twice l i k _ there after in
+      let inner = at-still l n i _ _ answered less there in
+      let below = open-below (before l k) (legal-before l k legal) c open-then in
+      let more = opened-before (before l i) k (legal-before l i legal) in
+      let size : c < opened (before l i) = omega (arith, subst (λ (v : List Noted). c < opened v) (sym sooner) below, more) in
+      let now = open-back (before l n) i c early (subst (λ (v : List Noted). c < opened v) (sym twice) size) waits.0 in
+      let asked : IsAsk (before l i) k c a = record { moment = t; note = note; stands = at-still l i k _ _ there after here } in
+      let still = pending-back (before l n) i c k a early waits.1 (subst (λ (v : List Noted). IsAsk v k c a) (sym twice) asked) in
+      reads-something (before l i) k c (legal-before l i legal) come.1
+      (subst (λ (v : List Noted). is_open v c ≡ true) twice now)
+      (subst (λ (v : List Noted). pending v c ≡ Some k) twice still)
+      (subst (λ (x : Option Noted). reads_in k x ≡ None) (here ∙ sym asked.stands) none)
 
 -- an exchange waits, and expires, after it was opened
 waits-after : (l : List Noted) (k i : ℕ) → Legal l → waits_for l k ≡ Some i → k < length l

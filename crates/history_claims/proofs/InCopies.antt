@@ -118,7 +118,7 @@ written =
       moment = 10000;
       grounds = Live (6 ∷ []);
       answers = refl;
-      had_room = live-not (6 ∷ []) 4;
+      had_room = inl (live-not (6 ∷ []) 4);
     }
 
 pub carried-outrun : CarriedOutrun

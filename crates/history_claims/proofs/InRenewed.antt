@@ -209,7 +209,7 @@ written =
       moment = 100;
       grounds = Live (9 ∷ []);
       answers = refl;
-      had_room = live-not (9 ∷ []) 7;
+      had_room = inl (live-not (9 ∷ []) 7);
     }
 
 pub renewed-after : RenewedAfter

@@ -53,6 +53,7 @@ mod Accounted
 mod Again
 mod InTurn
 mod Remaining
+mod Manners
 mod Owned
 mod Current
 mod InOrder

@@ -39,7 +39,7 @@ use Rattle.history_claims.proofs.Sending.{first-before, first-entry, first-membe
 use Rattle.history_claims.proofs.Waiting.{brings, unanswered-till}
 
 -- Nothing is new and a repeat.
-never-again : (fuel j : ℕ) (h : List Written) (p : Peer) → j < fuel → IsNew h p j → IsRepeat h p j → ⊥
+pub never-again : (fuel j : ℕ) (h : List Written) (p : Peer) → j < fuel → IsNew h p j → IsRepeat h p j → ⊥
 never-again zero j h p lt a b = absurd (omega (arith, lt))
 never-again (suc fuel) j h p lt (anew f) (again i alike new) =
     let less = alike.earlier in never-again fuel i h p (omega (arith, lt, less)) new (f i alike)

@@ -10,8 +10,9 @@ use Rattle.history_laws.specs.Exchanges.{Begun, begun}
 use Rattle.history_laws.specs.Justified.{Legal}
 use Rattle.history_laws.specs.Laws.{IsFirst, IsSending, IsPart, WritesInOrder, block_sent}
 use Rattle.history_claims.specs.Headline.{IsAsked, IsFirstSending, IsSentFor, IsResponse, IsOpen}
-use Rattle.history_claims.specs.Order.{SaysMore, IsSendingFor, IsSentAsSaid, CanBeSpared, AreSentFor}
+use Rattle.history_claims.specs.Order.{MayAsk, SaysMore, IsSendingFor, IsSentAsSaid, CanBeSpared, AreSentFor}
 use Rattle.history_claims.proofs.AtHand.{spared-in}
+use Rattle.history_claims.proofs.Manners.{AskedSo, asked-so}
 use Rattle.history_claims.proofs.Pending.{sent-open}
 use Rattle.history_claims.proofs.Remaining.{more-left, says-more}
 use Rattle.history_claims.proofs.Replied.{replied}
@@ -81,6 +82,10 @@ module _ (l : List Noted) (legal : Legal l) (o : ℕ) (b : Begun) (opened : begu
             (more-left l o b legal opened write i sends j later.1 later.2),
       )
 
+-- what a message is sent for, by whom, and in which manner
+abbrev IsFor : List Noted → CoapRequest → Option Block → ℕ → Content → ℕ → Type 0
+IsFor l q part i m o = IsOpen (entries l) i o q × (s : IsSentFor (entries l) o q part i m) × MayAsk (entries l) o q s.asks.0
+
 sent-as-said : WritesInOrder → (l : List Noted) → Legal l → (i t : ℕ) (p : Peer) (m : Content) → IsFirstSending (entries l) i t p m
     → IsSentAsSaid (entries l) (owner_in l) (block_in l) i m
 sent-as-said law l legal i t p m f =
@@ -89,11 +94,16 @@ sent-as-said law l legal i t p m f =
     let it = sent-in l t o i p m legal first.1 in
     let own : owner_in l i ≡ o = owner-is l t o i p m first.1 in
     let b : Begun = it.exchange in
+    let so : AskedSo l o b.request m = asked-so l legal o b it.opened t i p m first.1 in
+    let sent : IsSentFor (entries l) o b.request so.block i m = sent-block (entries l) o b.request it.block so.block i m (so.manner, so.asks) it.sent_for in
+    let for_it : IsFor l b.request so.block i m (owner_in l i) =
+    subst (IsFor l b.request so.block i m) (sym own) (sent-open l t o i p m b legal first.1 it.opened, sent, so.may) in
     record {
       request = b.request;
-      pending = subst (λ (o : ℕ). IsOpen (entries l) i o b.request) (sym own) (sent-open l t o i p m b legal first.1 it.opened);
-      part = it.block;
-      sent_for = subst (λ (o : ℕ). IsSentFor (entries l) o b.request it.block i m) (sym own) it.sent_for;
+      pending = for_it.0;
+      part = so.block;
+      sent_for = for_it.1;
+      manner = for_it.2;
       series = λ write.
           let whole = law l t o i p m b legal it.opened write first.1 in
           let asks = whole.0 ∙ (ap (λ (c : Option Block). block_message b.request c m.mid m.token) (sym (block-is l legal o b it.opened i own))

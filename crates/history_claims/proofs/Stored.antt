@@ -115,7 +115,7 @@ written =
       moment = 5300;
       grounds = Live (16 ∷ []);
       answers = refl;
-      had_room = busy-not (16 ∷ []) 4;
+      had_room = inl (busy-not (16 ∷ []) 4);
     }
 
 pub overwritten : Overwritten

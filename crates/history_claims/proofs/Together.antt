@@ -56,7 +56,7 @@ written =
       moment = 2200;
       grounds = Live (9 ∷ []);
       answers = refl;
-      had_room = busy-not (9 ∷ []) 4;
+      had_room = inl (busy-not (9 ∷ []) 4);
     }
 
 sent-early : (j : ℕ) → lies_in (2 ∷ 8 ∷ []) j ≡ true → j < 9

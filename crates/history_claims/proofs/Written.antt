@@ -4,12 +4,15 @@ use Rattle.std.proofs.Common.{◌≡◌, ◌≢◌, ◌⊎◌, ℕ, ◌<◌, ◌
 use Rattle.std.specs.Prelude.{is_none}
 use Rattle.std.proofs.lemmas.Bool.Decides.{eqb_tells, leb_tells}
 use Rattle.std.proofs.lemmas.Bool.{false≢true}
+use Rattle.coap_codec.specs.Spelling.{Content}
+use Rattle.coap_codec.specs.declared.block.Block.{Block}
+use Rattle.uri_map.specs.declared.peer.Peer.{Peer}
 use Rattle.ask_model.specs.declared.cause.Cause.{Cause}
 use Rattle.ask_model.specs.declared.cause.Cause.TheVariants as C
 use Rattle.ask_model.specs.Requests.{CoapRequest, Sense, Requests}
 use Rattle.ask_model.specs.Sharing.{asked_place}
 use Rattle.ask_model.specs.Views.{Ask}
-use Rattle.journal_book.specs.Entries.{Grounds, Live, Kept, Fault, Asks, Answers}
+use Rattle.journal_book.specs.Entries.{Grounds, Live, Kept, Fault, Asks, Hears, Answers}
 use Rattle.history_laws.specs.Readings.{Noted, Note, Plain, Begins, Renews, Joins, Serves, entries, at, before, noted}
 use Rattle.history_laws.specs.Connections.{is_open, is_sealed}
 use Rattle.history_laws.specs.Exchanges.{Begun, begun, End, end_of}
@@ -18,11 +21,11 @@ use Rattle.history_laws.specs.Justified.{IsAsk, IsRefused, Caused, HasGrounds, A
 use Rattle.history_laws.specs.Carrying.{carried}
 use Rattle.history_laws.specs.Grounds.{IsWriteEnd}
 use Rattle.history_laws.proofs.CallerLemmas.{copied-current, at-before, at-below, at-same, at-still, before-twice, end-since, ends-first, follows-at, joins-is, legal-before, none-some, opening-begun, unoutrun-earlier}
-use Rattle.history_claims.specs.Headline.{IsWriteAnswer}
+use Rattle.history_claims.specs.Headline.{WasReplied, IsWriteAnswer}
 use Rattle.history_claims.proofs.Entries.{entries-at, grows}
 use Rattle.history_claims.proofs.Asking.{AnswersAsk, answers-ask}
 use Rattle.history_claims.proofs.Unsent.{Over, sealed-still}
-use Rattle.history_claims.proofs.Hands.{ends-after, not-at-ask, no-input}
+use Rattle.history_claims.proofs.Hands.{ends-after, none-comes, not-at-ask, no-input}
 use Rattle.history_claims.proofs.Pending.{senses, asks-something, over-grounds}
 use Rattle.history_claims.proofs.Alike.{get-method, same-get, stored-get}
 
@@ -115,8 +118,24 @@ module _ (l : List Noted) (k conn : ℕ) (a : Ask) (q : CoapRequest) (legal : Le
         | inl is ↦ is
         | inr is ↦
             let plain = subst (λ (note : Note). at l w.ask ≡ Some (noted w.write.moment (Asks w.write.conn write) note)) is there.1 in
-            absurd (w.had_room (busy-grounds l n w.ask w.write.moment w.write.conn write w.write.request plain refl w.moment w.grounds its.0.grounds))
+            elim (w.had_room) [
+              | inl not ↦ absurd (not (busy-grounds l n w.ask w.write.moment w.write.conn write w.write.request plain refl w.moment w.grounds its.0.grounds))
+              | inr it ↦ absurd (unreplied plain it)
+            ]
       ]
+    where
+      comes : (v : List Noted) (s : ℕ) (p : Peer) (b : List ℕ) (note : Note) → Follows v s (Hears p b) note → MayCome v
+      comes v s p b note may = may.0
+
+      unreplied : at l w.ask ≡ Some (noted w.write.moment (Asks w.write.conn write) Plain) → WasReplied (entries l) n w.ask w.write.request → ⊥
+      unreplied plain (block, j, m, less, it) =
+          let sent = it.sent_for.after in
+          let came = it.response.after in
+          let heard = entries-at l j _ it.response.heard.stands in
+          none-comes l n w.ask w.write.conn w.write.moment w.moment write w.grounds Plain answer.0 legal plain answer.1
+          (subst (λ (x : Option Noted). reads_in w.ask x ≡ None) (sym plain) refl)
+          j _ (omega (arith, sent, came)) less heard.1
+          (comes (before l j) it.response.moment w.write.request.peer it.response.heard.bytes heard.0 (follows-at l j _ legal heard.1))
 
   opens : at l w.ask ≡ Some (noted w.write.moment (Asks w.write.conn write) (Begins w.write.request))
   opens = subst (λ (note : Note). at l w.ask ≡ Some (noted w.write.moment (Asks w.write.conn write) note)) begins there.1

@@ -183,15 +183,20 @@ pub record IsWrite (h : List Written) (q : CoapRequest) (w : ℕ) : Type 0 where
   pub changes : request.method ≢ 1
   pub place : (request.peer ≡ q.peer) × (request.target.path ≡ q.target.path)
 
--- The entry n answers such an ask: not that there was no room for it. What was heard of the
--- resource before may be out of date.
+-- A reply came before the entry n, to what was sent for the ask, or to a part of it.
+abbrev pub WasReplied : List Written → ℕ → ℕ → CoapRequest → Type 0
+WasReplied h n k q =
+    (block : Option Block) × (j : ℕ) × (m : Content) × (j < n) × IsHeardFor h k q block j m
+
+-- The entry n answers such an ask: not that there was no room for it, unless the device has a part
+-- of it. What was heard of the resource before may be out of date.
 pub record IsWriteAnswer (h : List Written) (q : CoapRequest) (n : ℕ) : Type 0 where
   pub ask : ℕ
   pub write : IsWrite h q ask
   pub moment : ℕ
   pub grounds : Grounds
   pub answers : IsEntry h n moment (Answers write.conn ask grounds)
-  pub had_room : grounds ≢ Fault C.Busy ask
+  pub had_room : (grounds ≢ Fault C.Busy ask) ⊎ WasReplied h n ask write.request
 
 -- The resource of q is observed for the ask o (RFC 7641 section 3.1): it may be by the rules of
 -- that, its first message asked to be told of changes, and the entry n heard the reply.

@@ -1,5 +1,5 @@
 -- What goes out, and in which order: said of a journal's entries alone, and of its own sendings.
-use Rattle.std.specs.Prelude.{◌≡◌, ◌≢◌, ◌⊎◌, ℕ, ◌+◌, ◌*◌, ◌^◌, ◌<◌, ◌≤◌, List, length, Option, Some, None, ⊤, nat_lt}
+use Rattle.std.specs.Prelude.{◌≡◌, ◌≢◌, ◌⊎◌, ℕ, ◌+◌, ◌*◌, ◌^◌, ◌<◌, ◌≤◌, true, List, length, Option, Some, None, ⊤, nat_lt}
 use Rattle.std.specs.List.{Contains}
 use Rattle.limits.specs.declared.TheConstants.{MAX_RETRANSMIT, MESSAGE_ID_LIFETIME}
 use Rattle.coap_codec.specs.declared.message.MsgType.{MsgType}
@@ -8,12 +8,15 @@ use Rattle.coap_codec.specs.declared.block.Block.{Block}
 use Rattle.coap_codec.specs.Spelling.{Content, Spells}
 use Rattle.blockwise.specs.Reading.{offset_in, size_of}
 use Rattle.uri_map.specs.declared.peer.Peer.{Peer}
-use Rattle.ask_model.specs.Requests.{CoapRequest, Requests, carried_by}
+use Rattle.ask_model.specs.Requests.{CoapRequest, Requests, Manner, Plainly, Observing, Validating, carried_by}
+use Rattle.ask_model.specs.Observing.{may_observe}
+use Rattle.resp_cache.specs.Stored.{Stored}
 use Rattle.journal_book.specs.Entries.{Grounds, Sends, Hears, Passes, Answers, Written}
 use Rattle.history_laws.specs.Confirmations.{empty}
 use Rattle.history_laws.specs.Justified.{Stands}
 use Rattle.history_laws.specs.Grounds.{replies_in}
 use Rattle.history_claims.specs.Headline.{IsEntry, IsAsked, IsFirstSending, WasFirstSent, IsSentFor, IsHeard, IsResponse, IsOpen, IsWriteAnswer}
+use Rattle.history_claims.specs.Stored.{WasStored}
 use Rattle.history_claims.specs.Causes.{AreCopies}
 use Rattle.history_claims.specs.Apart.{AreSameGets}
 use Rattle.history_claims.specs.Once.{IsAtHand, CanWaitFor}
@@ -42,6 +45,16 @@ SaysMore None body = ⊤
 SaysMore (Some b) body =
     (b.szx < 7) × (b.more ≡ nat_lt (offset_in (Some b) + size_of b.szx) (length body))
 
+-- So what was asked in the entry o may be asked: for that alone; or to be told of changes too, where
+-- the rules of the ask say so (RFC 7641 section 3.1); or whether what was stored for it then is
+-- valid still, by the ETag of that (RFC 7252 section 5.10.6.2).
+abbrev pub MayAsk : List Written → ℕ → CoapRequest → Manner → Type 0
+MayAsk h o q Plainly = ⊤
+MayAsk h o q Observing =
+    (c : ℕ) × (t : ℕ) × (it : IsAsked h o c t (Requests q)) × (may_observe it.rules q ≡ true)
+MayAsk h o q (Validating tag) =
+    (s : Stored) × WasStored h o q s × (s.response.etag ≡ Some tag)
+
 -- The entry i first sent the message for what was begun in another one and was open then: for what
 -- that asks for, or a block of it. What is sent for a write is that write, or its body in blocks,
 -- each one once.
@@ -52,6 +65,7 @@ pub record IsSentAsSaid
   pub pending : IsOpen h i (owner i) request
   pub part : Option Block
   pub sent_for : IsSentFor h (owner i) request part i m
+  pub manner : MayAsk h (owner i) request sent_for.asks.0
   pub series : request.method ≢ 1
       → IsSentFor h (owner i) request (block i) i m × IsInSeries h owner block request i
       × SaysMore (block i) request.body

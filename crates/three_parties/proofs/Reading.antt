@@ -255,7 +255,7 @@ write-answer h q n t c w js answered y changes peer path = record {
   moment = t;
   grounds = Live js;
   answers = answered;
-  had_room = not-fault;
+  had_room = inl not-fault;
 }
   where
     not-fault : Live js ≡ Fault C.Busy w → ⊥
