@@ -11,10 +11,10 @@ use Rattle.journal_book.specs.Views.{ask_of}
 use Rattle.exchange_model.specs.State.{State}
 use Rattle.exchange_core.specs.declared.ending.Telling.{Telling}
 use Rattle.exchange_core.specs.Values.{written}
-use Rattle.exchange_core.specs.Answering.{Given, IsFound, CountsFrom, IsGiven}
+use Rattle.exchange_core.specs.Answering.{Given, IsFound, HasFormat, CountsFrom, IsGiven}
 use Rattle.exchange_core.specs.Drafts.{DraftValue, Drafts, IsDrafted}
 use Rattle.exchange_core.specs.Ending.{IsTold, IsAnswerTo, counted_moment, deed_of, given_to}
-use Rattle.exchange_core.proofs.Stepping.{found-stays, counts-stay, given-stay}
+use Rattle.exchange_core.proofs.Stepping.{found-stays, format-stays, counts-stay, given-stay}
 
 -- The entries after one more.
 longer : (t : ℕ) (S : State) (ds : List Deed) (x : Deed) (d e : DraftValue) → Drafts t S ds d
@@ -83,6 +83,7 @@ told-drafted t S ds x g d e h told is more answers = record {
           (sym (ap (λ (v : Ask). v.sense) ask ∙ told.asked.sense))
           (found-stays (S.entries ++ d.entries) (written t w ∷ []) x.finding.told
           x.finding.grounds (Requests told.asked.request) told.found);
+      format = format-stays (S.entries ++ d.entries) (written t w ∷ []) x.finding.told x.finding.grounds told.format;
       counts = counts-stay (S.entries ++ d.entries) (written t w ∷ []) x.finding.grounds t
           (counted_moment S.entries t x) told.counts;
     }
@@ -96,6 +97,8 @@ told-stays h more ws t x a = record {
       (Requests a.asked.request)) (append_assoc h more ws)
       (found-stays (h ++ more) ws x.finding.told x.finding.grounds (Requests a.asked.request)
       a.found);
+  format = subst (λ (es : List Written). HasFormat es x.finding.told x.finding.grounds)
+      (append_assoc h more ws) (format-stays (h ++ more) ws x.finding.told x.finding.grounds a.format);
   counts = subst (λ (es : List Written). CountsFrom es x.finding.grounds t
       (counted_moment h t x)) (append_assoc h more ws)
       (counts-stay (h ++ more) ws x.finding.grounds t (counted_moment h t x) a.counts);

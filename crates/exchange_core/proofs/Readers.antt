@@ -77,4 +77,4 @@ late-told h drafted t es (r ∷ rs) a = by (read_by es r) (late-told h drafted t
     by : (o : Option Exchange) → AllByRecursion (IsTold h drafted t) (out_of_time es rs)
         → AllByRecursion (IsTold h drafted t) (cons_option (option_map (late_of r) o) (out_of_time es rs))
     by None ih = ih
-    by (Some e) ih = (record { asked = a.0; found = refl; counts = refl }, ih)
+    by (Some e) ih = (record { asked = a.0; found = refl; format = tt; counts = refl }, ih)

@@ -28,17 +28,17 @@ use Rattle.exchange_model.specs.Room.{fits, KeptInRoom}
 use Rattle.exchange_model.specs.Sealing.{asks_in_room}
 use Rattle.exchange_model.specs.Watching.{touched, touched_for}
 use Rattle.exchange_model.proofs.CallerLemmas.{served-enters, store-heard}
-use Rattle.exchange_core.specs.Answering.{Given, AreHeard, HeardAs, IsFound, CountsFrom, IsGiven}
+use Rattle.exchange_core.specs.Answering.{Given, AreHeard, HeardAs, IsFound, IsInFormat, CountsFrom, IsGiven}
 use Rattle.exchange_core.specs.Drafts.{DraftValue, Drafts, IsDrafted}
 use Rattle.exchange_core.specs.Joining.{joined_for}
 use Rattle.exchange_core.specs.Recalling.{MayRecall, WasHeard, WasRenewed, WasWhole, kept_given, moved_for, moved_under, recall_deeds, recalled, served_for, served_under}
 use Rattle.exchange_core.specs.Sound.{SoundState}
 use Rattle.exchange_core.specs.States.{core_of, with_draft}
 use Rattle.exchange_core.specs.Values.{Outgoing, stepped, written}
-use Rattle.exchange_core.proofs.Renewals.{all-copied, all-heard, copied-at, first-counts, heard-at, renewed-of}
+use Rattle.exchange_core.proofs.Renewals.{all-copied, all-heard, copied-at, fetched-in, first-counts, heard-at, renewed-of}
 use Rattle.exchange_core.proofs.Refusals.{answer-drafted, asks-entered, asks-sealed, refusal-there}
 use Rattle.exchange_core.proofs.Sounding.{first-of, second-of, sound-drafted, sound-seal}
-use Rattle.exchange_core.proofs.Stepping.{committed, counts-stay, entered-entries, found-stays, same-core, stepped-seal, with-draft}
+use Rattle.exchange_core.proofs.Stepping.{committed, counts-stay, entered-entries, format-stays, found-stays, same-core, stepped-seal, with-draft}
 
 -- what is served, by the key that a GET reads
 
@@ -143,6 +143,12 @@ found-kept h s q get (inr w) =
     subst (λ (js : List ℕ). IsFound h (Tells s.response) (Kept js) (Requests q)) (sym w.list)
     (w.messages, w.heard, inr (get, w.renewal))
 
+format-kept : (h : List Written) (s : Stored) → WasHeard h s → IsInFormat h s.list s.response
+format-kept h s (inl w) =
+    subst (λ (js : List ℕ). IsInFormat h js s.response) (sym w.list)
+    (fetched-in h (w.number ∷ w.others) (w.number ∷ w.others) w.message w.more s.response s.response ((s.heard, w.first), w.rest) (λ j has. has) w.whole refl)
+format-kept h s (inr w) = subst (λ (js : List ℕ). IsInFormat h js s.response) (sym w.list) w.format
+
 counts-kept : (h : List Written) (s : Stored) (t : ℕ) → WasHeard h s → CountsFrom h (Kept s.list) t s.heard
 counts-kept h s t (inl w) =
     subst (λ (js : List ℕ). CountsFrom h (Kept js) t s.heard) (sym w.list)
@@ -165,6 +171,7 @@ kept-given-stands t c m s S j =
       ask_stands = there.0;
       stands = there.1;
       found = found-stays S.entries more (Tells s.response) (Kept s.list) m.sense found;
+      format = format-stays S.entries more (Tells s.response) (Kept s.list) (format-kept S.entries s j.heard);
       counts = counts-stay S.entries more (Kept s.list) t s.heard (counts-kept S.entries s t j.heard);
     })
 

@@ -76,7 +76,7 @@ refusal-given-stands t c S m cause =
     let there = refusal-there S.entries (written t (Asks c (ask_of m))) (written t (Answers c n (Fault cause n))) in
     let es = entered-entries t (refusal_deeds c (ask_of m) cause S) S in
     subst (λ (h : List Written). IsGiven h (refusal_given n t c m cause)) (sym es)
-    (record { asked = t; ask_stands = there.0; stands = there.1; found = refl; counts = refl })
+    (record { asked = t; ask_stands = there.0; stands = there.1; found = refl; format = tt; counts = refl })
 
 pub refusal-so : (t c : ℕ) (S : State) (m : Mapping) (cause : Cause) (d : DraftValue) → Drafts t S (refusal_deeds c (ask_of m) cause S) d
     → d.answers ≡ refusal_given (length S.entries) t c m cause ∷ []

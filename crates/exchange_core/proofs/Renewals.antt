@@ -1,7 +1,8 @@
 -- What is stored was heard, and what is told of it counts from its first reply, or from the 2.03 that renewed it.
-use Rattle.std.proofs.Common.{◌≡◌, inl, inr, ℕ, Bool, true, false, not, cond, eqb, List, [], ◌∷◌, ◌++◌, length, Option, Some, None, refl, sym, ap, subst, ◌∙◌}
-use Rattle.std.specs.Prelude.{◌&&◌}
-use Rattle.std.specs.List.{list_all}
+use Rattle.std.proofs.Common.{◌≡◌, arith, inl, inr, ℕ, zero, Bool, true, false, not, cond, eqb, List, [], ◌∷◌, ◌++◌, length, Option, Some, None, refl, sym, ap, subst, ◌∙◌}
+use Rattle.std.specs.Prelude.{◌&&◌, is_some}
+use Rattle.std.specs.List.{Contains, list_all}
+use Rattle.std.proofs.lemmas.List.Elements.{Contains-append_left}
 use Rattle.std.proofs.lemmas.Bool.{and_parts, eqb-true}
 use Rattle.coap_codec.specs.Spelling.{Content}
 use Rattle.coap_codec.specs.Recognition.{class_of, is_final, is_forwardable}
@@ -13,10 +14,11 @@ use Rattle.ask_model.specs.Requests.{CoapRequest}
 use Rattle.resp_cache.specs.declared.pair.Pair.{Pair}
 use Rattle.journal_book.specs.Entries.{Live, Ground, Heard, Hears, Carries, Written}
 use Rattle.resp_cache.specs.Stored.{Stored}
-use Rattle.history_laws.specs.Responses.{Response, confirms, is_tellable, last_of, renewed_response, whole_by, whole_fetched, whole_given, whole_of}
+use Rattle.history_laws.proofs.CallerLemmas.{contains-later, some-is}
+use Rattle.history_laws.specs.Responses.{Response, confirms, first_some, is_tellable, last_of, renewed_response, response_of, whole_by, whole_fetched, whole_given, whole_of}
 use Rattle.exchange_model.specs.State.{State}
 use Rattle.exchange_model.specs.Growing.{AreCopiedAt, AreHeardAt, IsCopiedAt, IsHeardAt, IsKeptIn, IsRenewedIn}
-use Rattle.exchange_core.specs.Answering.{AreHeard, CountsFrom, CountsFromFirst, HeardAs, IsRenewal, last_in}
+use Rattle.exchange_core.specs.Answering.{AreHeard, CountsFrom, CountsFromFirst, HeardAs, IsInFormat, IsRenewal, last_in}
 use Rattle.exchange_core.specs.Recalling.{WasRenewed}
 use Rattle.exchange_core.proofs.Askable.{final-other, says-valid, tells-other, whole-tells}
 
@@ -116,6 +118,62 @@ renewal-of S s m h says = record {
   renewed = ap (λ (w : Response). renewed_response w m) h.renewed;
 }
 
+-- in a format that was heard
+last-one : (j : ℕ) (js : List ℕ) → Contains (j ∷ js) (last_in j js)
+last-one j [] = (zero, omega arith, refl)
+last-one j (i ∷ js) = contains-later j (i ∷ js) (last_in i js) (last-one i js)
+
+-- that of the last piece,
+in-last : (h : List Written) (js ns : List ℕ) (m : Content) (ms : List Content) (w : Response) → AreHeard h js (m ∷ ms)
+    → ((j : ℕ) → Contains js j → Contains ns j) → (response_of (last_of m ms)).format ≡ w.format → eqb (last_of m ms).code 67 ≡ false → IsInFormat h ns w
+in-last h [] ns m ms w a within format other = absurd a
+in-last h (j ∷ js) ns m ms w a within format other =
+    let last = last-heard h j js a.0.0 m ms a.0.1 a.1 in
+    record {
+      number = last_in j js;
+      moment = last.0;
+      message = last_of m ms;
+      heard = last.1;
+      format = format;
+      source = inl (within (last_in j js) (last-one j js), other);
+    }
+
+pub fetched-in : (h : List Written) (js ns : List ℕ) (m : Content) (ms : List Content) (u w : Response) → AreHeard h js (m ∷ ms)
+    → ((j : ℕ) → Contains js j → Contains ns j) → whole_fetched m ms ≡ Some u → w.format ≡ u.format → IsInFormat h ns w
+fetched-in h js ns m ms u w a within whole format =
+    let parts = whole-tells m ms u whole in
+    in-last h js ns m ms w a within (ap (λ (v : Response). v.format) parts.1 ∙ sym format) (tells-other (last_of m ms) (last-tells m ms parts.0))
+
+-- or that of a 2.03
+pub renewed-in : (h : List Written) (S : State) (s : Stored) (m : Content) (n t : ℕ) → (k : IsKeptIn S s)
+    → ((j u : ℕ) (m : Content) → HeardAs S.entries j u m → HeardAs h j u m) → HeardAs h n t m → confirms s.response.etag m ≡ true
+    → AreHeard h s.list (k.message ∷ k.more) → IsInFormat h (s.list ++ n ∷ []) (renewed_response s.response m)
+renewed-in h S s m n t k grow last says pieces = by ((response_of m).format) refl
+  where
+    within : (j : ℕ) → Contains s.list j → Contains (s.list ++ n ∷ []) j
+    within j has = Contains-append_left s.list (n ∷ []) j has
+
+    before : (w : Response) → w.format ≡ s.response.format → w.etag ≡ s.response.etag → IsInFormat h (s.list ++ n ∷ []) w
+    before w format tag = elim (k.format) [
+      | inl same ↦ fetched-in h s.list (s.list ++ n ∷ []) k.message k.more k.response w pieces within k.whole (format ∙ same)
+      | inr named ↦ record {
+        number = named.number;
+        moment = named.heard.moment;
+        message = named.message;
+        heard = grow named.number named.heard.moment named.message (heard-at S named.number named.message named.heard);
+        format = named.names ∙ sym format;
+        source = inr (
+          ap (λ (v : Option (List ℕ)). confirms v named.message) tag ∙ named.says,
+          ap (λ (v : Option ℕ). is_some v) format ∙ named.some,
+        );
+      }
+    ]
+
+    by : (v : Option ℕ) → (response_of m).format ≡ v
+        → IsInFormat h (s.list ++ n ∷ []) (record s.response { format = first_some v s.response.format; max_age = (response_of m).max_age })
+    by None e = before (record s.response { format = s.response.format; max_age = (response_of m).max_age }) refl refl
+    by (Some f) e = record { number = n; moment = t; message = m; heard = last; format = e; source = inr (says, refl) }
+
 pub renewed-of : (S : State) (p : Pair) → IsRenewedIn S p → WasRenewed S.entries p.stored
 renewed-of S p h = by h.kept.list refl
   where
@@ -135,6 +193,9 @@ renewed-of S p h = by h.kept.list refl
       heard = subst (λ (js : List ℕ). AreHeard S.entries (js ++ h.number ∷ []) ((h.was.message ∷ h.was.more) ++ h.renewal ∷ [])) e
           (heard-push S.entries h.kept.list (h.was.message ∷ h.was.more) h.number h.confirmed.0.moment h.renewal heard last);
       renewal = subst (IsRenewal ((h.was.message ∷ h.was.more) ++ h.renewal ∷ [])) (sym h.renewed) (renewal-of S h.kept h.renewal h.was h.says);
+      format = subst (IsInFormat S.entries (n ∷ (ns ++ h.number ∷ []))) (sym h.renewed)
+          (subst (λ (js : List ℕ). IsInFormat S.entries (js ++ h.number ∷ []) (renewed_response h.kept.response h.renewal)) e
+          (renewed-in S.entries S h.kept h.renewal h.number h.confirmed.0.moment h.was (λ j u m a. a) last h.says heard));
       counts = record {
         message = h.renewal;
         last = subst (λ (k : ℕ). HeardAs S.entries k p.stored.heard h.renewal) (sym (last-push n ns h.number))
@@ -187,6 +248,34 @@ last-other q m ms w e = by (eqb q.method 1) e
     by : (b : Bool) → cond b (whole_fetched m ms) (whole_given (begun (length q.body) 6) (m ∷ ms)) ≡ Some w → eqb (last_of m ms).code 67 ≡ false
     by true f = tells-other (last_of m ms) (last-tells m ms (whole-tells m ms w f).0)
     by false f = given-last (begun (length q.body) 6) m ms w f
+
+-- It is in the format of its last message.
+one-format : (u : UploadValue) (m : Content) (w : Response) (v : Answered) → whole_by v m [] None ≡ Some w → (response_of m).format ≡ w.format
+one-format u m w A.Next e = absurd (no-response w e)
+one-format u m w A.Last e = ap (λ (v : Response). v.format) (some-is (response_of m) w e)
+one-format u m w A.Wrong e = absurd (no-response w e)
+
+given-format : (u : UploadValue) (m : Content) (ms : List Content) (w : Response) → whole_given u (m ∷ ms) ≡ Some w
+    → (response_of (last_of m ms)).format ≡ w.format
+given-format u m [] w e =
+    one-format u m w (answer_to u m) (given-parts (is_forwardable m.options) (whole_by (answer_to u m) m [] None) w e)
+given-format u m (n ∷ ns) w e =
+    given-format (next_of u m) n ns w
+    (more-last m n ns w (answer_to u m) (whole_given (next_of u m) (n ∷ ns))
+    (given-parts (is_forwardable m.options) (whole_by (answer_to u m) m (n ∷ ns) (whole_given (next_of u m) (n ∷ ns))) w e))
+
+last-format : (q : CoapRequest) (m : Content) (ms : List Content) (w : Response) → whole_of q (m ∷ ms) ≡ Some w
+    → (response_of (last_of m ms)).format ≡ w.format
+last-format q m ms w e = by (eqb q.method 1) e
+  where
+    by : (b : Bool) → cond b (whole_fetched m ms) (whole_given (begun (length q.body) 6) (m ∷ ms)) ≡ Some w → (response_of (last_of m ms)).format ≡ w.format
+    by true f = ap (λ (v : Response). v.format) (whole-tells m ms w f).1
+    by false f = given-format (begun (length q.body) 6) m ms w f
+
+pub whole-in : (h : List Written) (q : CoapRequest) (w : Response) (js : List ℕ) (ms : List Content) → whole_of q ms ≡ Some w → AreHeard h js ms
+    → IsInFormat h js w
+whole-in h q w js [] e a = absurd (no-response w e)
+whole-in h q w js (m ∷ ms) e a = in-last h js js m ms w a (λ j has. has) (last-format q m ms w e) (last-other q m ms w e)
 
 -- What ends with a 2.03 counts from that.
 pub counts-last : (h : List Written) (js : List ℕ) (n t since : ℕ) (m : Content) → HeardAs h n since m → eqb m.code 67 ≡ true → CountsFrom h (Live (js ++ n ∷ [])) t since

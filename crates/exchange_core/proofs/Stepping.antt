@@ -6,6 +6,7 @@ use Rattle.history_laws.proofs.CallerLemmas.{got-more}
 use Rattle.coap_codec.specs.Spelling.{Content}
 use Rattle.ask_model.specs.Requests.{Sense, Requests, Refuses}
 use Rattle.journal_book.specs.Entries.{Grounds, Live, Kept, Fault, Deed, Opens, Asks, Sends, Hears, Passes, Answers, Shuts, Seals, Carries, Written}
+use Rattle.history_laws.specs.Responses.{Response}
 use Rattle.reply_reading.specs.Findings.{Told, Tells, Fails}
 use Rattle.exchange_model.specs.declared.kept.Conn.{Conn}
 use Rattle.exchange_model.specs.declared.kept.Reader.{Reader}
@@ -14,7 +15,7 @@ use Rattle.exchange_model.specs.Growing.{conns_with}
 use Rattle.exchange_model.specs.Steps.{entered, seals}
 use Rattle.exchange_model.specs.Entering.{entered_all}
 use Rattle.exchange_core.specs.Values.{Outgoing, written, answered_in, sent_in, stepped}
-use Rattle.exchange_core.specs.Answering.{Given, HeardAs, AreHeard, IsFound, CountsFrom, CountsFromReplies, IsGiven, last_in}
+use Rattle.exchange_core.specs.Answering.{Given, HeardAs, AreHeard, HasFormat, IsFound, IsInFormat, CountsFrom, CountsFromReplies, IsGiven, last_in}
 use Rattle.exchange_core.specs.Drafts.{AllKeep, DraftValue, Drafts, KeepsConns, untaken_of}
 use Rattle.exchange_core.specs.States.{readers_with, with_draft, core_of}
 
@@ -113,6 +114,22 @@ found-stays h more (Fails cause) (Live js) s f = absurd f
 found-stays h more (Fails cause) (Kept js) s f = absurd f
 found-stays h more (Fails cause) (Fault named n) s f = f
 
+pub in-format-stays : (h more : List Written) (js : List ℕ) (w : Response) → IsInFormat h js w → IsInFormat (h ++ more) js w
+in-format-stays h more js w a = record {
+  number = a.number;
+  moment = a.moment;
+  message = a.message;
+  heard = heard-stays h more a.number a.moment a.message a.heard;
+  format = a.format;
+  source = a.source;
+}
+
+pub format-stays : (h more : List Written) (told : Told) (g : Grounds) → HasFormat h told g → HasFormat (h ++ more) told g
+format-stays h more (Tells w) (Live js) f = in-format-stays h more js w f
+format-stays h more (Tells w) (Kept js) f = in-format-stays h more js w f
+format-stays h more (Tells w) (Fault cause n) f = tt
+format-stays h more (Fails cause) g f = tt
+
 replies-stay : (h more : List Written) (j : ℕ) (js : List ℕ) (heard : ℕ) → CountsFromReplies h j js heard → CountsFromReplies (h ++ more) j js heard
 replies-stay h more j js heard (inl c) = inl (record {
   message = c.message;
@@ -141,6 +158,7 @@ is-given-stays h more g i = record {
   ask_stands = got-more h more g.ask _ i.ask_stands;
   stands = got-more h more g.number _ i.stands;
   found = found-stays h more g.found.told g.found.grounds g.mapping.sense i.found;
+  format = format-stays h more g.found.told g.found.grounds i.format;
   counts = counts-stay h more g.found.grounds g.moment g.heard i.counts;
 }
 

@@ -27,13 +27,13 @@ use Rattle.exchange_model.specs.Entering.{answer_of}
 use Rattle.exchange_model.specs.Growing.{AreHeardAt, IsHeardAt, IsKeptIn, IsKnown, IsWorkOf}
 use Rattle.exchange_model.specs.Keeping.{MayStep}
 use Rattle.exchange_model.proofs.CallerLemmas.{over-heard, over-renewed}
-use Rattle.exchange_core.specs.Answering.{AreHeard, CountsFrom, HeardAs, IsRenewal, IsResponse}
+use Rattle.exchange_core.specs.Answering.{AreHeard, CountsFrom, HeardAs, IsInFormat, IsRenewal, IsResponse}
 use Rattle.exchange_core.specs.Asked.{IsAskedIn}
 use Rattle.exchange_core.specs.Ending.{IsTold, deed_of, first_moment, last_moment}
 use Rattle.exchange_core.specs.Matters.{readers_told, telling_for, told_of}
 use Rattle.exchange_core.specs.Values.{written}
 use Rattle.exchange_core.proofs.Askable.{says-valid}
-use Rattle.exchange_core.proofs.Renewals.{counts-last, heard-push, kept-heard, last-heard, last-other, renewal-of}
+use Rattle.exchange_core.proofs.Renewals.{counts-last, heard-push, kept-heard, last-heard, last-other, renewal-of, renewed-in, whole-in}
 use Rattle.exchange_core.proofs.Settling.{last-got}
 use Rattle.exchange_core.proofs.Stepping.{all-heard-stay, heard-stays}
 
@@ -167,6 +167,14 @@ module _ (t : ℕ) (p : Peer) (d : List ℕ) (S : State) (rest : List Deed) wher
     inr (get, subst (λ (n : Content). IsRenewal ((was.message ∷ was.more) ++ m ∷ []) (renewed_response s.response n)) (sym same) (renewal-of S s m was says)),
   )
 
+  renewed-format : (s : Stored) (r : Reply) (m : Content) (S1 : State) → S1.entries ≡ S.entries ++ x ∷ [] → IsHeardAt S1 r.number m
+      → IsKeptIn S s → confirms s.response.etag m ≡ true → r.message ≡ m
+      → IsInFormat (S.entries ++ drafted) (s.list ++ r.number ∷ []) (renewed_response s.response r.message)
+  renewed-format s r m S1 is a was says same =
+      subst (λ (n : Content). IsInFormat (S.entries ++ drafted) (s.list ++ r.number ∷ []) (renewed_response s.response n)) (sym same)
+      (renewed-in (S.entries ++ drafted) S s m r.number a.moment was (heard-stays S.entries drafted) (renewed-heard r m S1 is a) says
+      (all-heard-stay S.entries drafted s.list (was.message ∷ was.more) (kept-heard S s was)))
+
   asked-by : (r : Reader) → IsKnown S r → IsAskedIn S.entries r
   asked-by r k = record { moment = k.moment; ask = k.ask; request = k.request; stands = k.stands; sense = k.sense }
 
@@ -188,15 +196,16 @@ module _ (t : ℕ) (p : Peer) (d : List ℕ) (S : State) (rest : List Deed) wher
     one-told : (n : ℕ) (e : Exchange) (how : Ending) → matter_of t p m (verdict_of t (link_of S.links p) m) S ≡ Over e how
         → (r : Reader) → IsKnown S r → is_reader_of e r ≡ true → IsTold S.entries drafted t (telling_for how n e.sending r)
     unfolding asked-by
-    one-told n e NotUnderstood is r k reads = record { asked = asked-by r k; found = refl; counts = refl }
-    one-told n e Reset is r k reads = record { asked = asked-by r k; found = refl; counts = refl }
-    one-told n e TimedOut is r k reads = record { asked = asked-by r k; found = refl; counts = refl }
-    one-told n e Turned is r k reads = record { asked = asked-by r k; found = refl; counts = refl }
+    one-told n e NotUnderstood is r k reads = record { asked = asked-by r k; found = refl; format = tt; counts = refl }
+    one-told n e Reset is r k reads = record { asked = asked-by r k; found = refl; format = tt; counts = refl }
+    one-told n e TimedOut is r k reads = record { asked = asked-by r k; found = refl; format = tt; counts = refl }
+    one-told n e Turned is r k reads = record { asked = asked-by r k; found = refl; format = tt; counts = refl }
     one-told n e (Whole w rs) is r k reads =
         let o = over-heard t p d m new S may known short spelled kept e w rs is in
         record {
           asked = asked-by r k;
           found = found k.request w rs (hears t p d m new S) refl o.1 o.0.request e.work (k.work e o.0.has reads) o.0.work o.0.whole;
+          format = whole-in (S.entries ++ drafted) o.0.request w (numbers rs) (messages rs) o.0.whole (heard-all rs (hears t p d m new S) refl o.1);
           counts = counted rs (hears t p d m new S) refl o.1 o.0.request w o.0.whole;
         }
     one-told n e (Renewed s r) is k known_one reads =
@@ -204,6 +213,7 @@ module _ (t : ℕ) (p : Peer) (d : List ℕ) (S : State) (rest : List Deed) wher
         record {
           asked = asked-by k known_one;
           found = renewed-found known_one.request s r m (hears t p d m new S) refl o.heard (known_one.method e o.has reads ∙ o.get) o.was o.says (ap (λ (u : Reply). u.message) o.reply);
+          format = renewed-format s r m (hears t p d m new S) refl o.heard o.was o.says (ap (λ (u : Reply). u.message) o.reply);
           counts = renewed-counted s r m (hears t p d m new S) refl o.heard (says-valid s.response.etag m o.says);
         }
 

@@ -1,5 +1,6 @@
 -- Answers, as plain data.
-use Rattle.std.specs.Prelude.{◌≡◌, ◌⊎◌, ℕ, true, false, ◌==◌, List, [], ◌∷◌, ◌++◌, Option, Some, slice_get, ⊤}
+use Rattle.std.specs.Prelude.{◌≡◌, ◌⊎◌, ℕ, true, false, ◌==◌, List, [], ◌∷◌, ◌++◌, Option, Some, is_some, slice_get, ⊤}
+use Rattle.std.specs.List.{Contains}
 use Rattle.std.specs.Arc.{arc_value}
 use Rattle.coap_codec.specs.Spelling.{Content, Spells}
 use Rattle.uri_map.specs.declared.peer.Peer.{Peer}
@@ -7,7 +8,7 @@ use Rattle.ask_model.specs.Requests.{CoapRequest, Sense, Requests}
 use Rattle.ask_model.specs.Views.{Mapping}
 use Rattle.journal_book.specs.Entries.{Grounds, Live, Kept, Fault, Heard, done_of, Deed, Asks, Answers, Written}
 use Rattle.journal_book.specs.Views.{ask_of}
-use Rattle.history_laws.specs.Responses.{Response, first_some, response_of, valid, whole_fetched, whole_of}
+use Rattle.history_laws.specs.Responses.{Response, confirms, first_some, response_of, valid, whole_fetched, whole_of}
 use Rattle.reply_reading.specs.Findings.{Found, Told, Tells, Fails}
 use Rattle.exchange_core.specs.declared.answer.Answer.{Answer}
 use Rattle.exchange_core.specs.Values.{written}
@@ -83,6 +84,22 @@ IsFound h (Tells w) (Kept js) (Requests q) =
 IsFound h (Fails cause) (Fault named n) sense = cause ≡ named
 IsFound h _ _ _ = ⊥
 
+-- A response in this format was heard: in one of the entries that it rests on, which is no 2.03; or
+-- a 2.03 named the format, by which what has its ETag is valid still.
+pub record IsInFormat (h : List Written) (js : List ℕ) (w : Response) : Type 0 where
+  pub number : ℕ
+  pub moment : ℕ
+  pub message : Content
+  pub heard : HeardAs h number moment message
+  pub format : (response_of message).format ≡ w.format
+  pub source : (Contains js number × (message.code == valid ≡ false))
+      ⊎ ((confirms w.etag message ≡ true) × (is_some w.format ≡ true))
+
+abbrev pub HasFormat : List Written → Told → Grounds → Type 0
+HasFormat h (Tells w) (Live js) = IsInFormat h js w
+HasFormat h (Tells w) (Kept js) = IsInFormat h js w
+HasFormat h told grounds = ⊤
+
 -- the last of these
 abbrev pub last_in : ℕ → List ℕ → ℕ
 last_in j [] = j
@@ -118,4 +135,5 @@ pub record IsGiven (h : List Written) (g : Given) : Type 0 where
   pub ask_stands : slice_get h g.ask ≡ Some (written asked (Asks g.conn (ask_of g.mapping)))
   pub stands : slice_get h g.number ≡ Some (answer_entry g)
   pub found : IsFound h g.found.told g.found.grounds g.mapping.sense
+  pub format : HasFormat h g.found.told g.found.grounds
   pub counts : CountsFrom h g.found.grounds g.moment g.heard

@@ -16,7 +16,7 @@ use Rattle.exchange_model.specs.Calls.{read_by, told_late}
 use Rattle.exchange_model.specs.Entering.{answer_of}
 use Rattle.exchange_core.specs.declared.ending.Telling.{Telling}
 use Rattle.exchange_core.specs.Values.{written}
-use Rattle.exchange_core.specs.Answering.{Given, IsFound, CountsFrom}
+use Rattle.exchange_core.specs.Answering.{Given, IsFound, HasFormat, CountsFrom}
 use Rattle.exchange_core.specs.Asked.{IsAskedIn}
 
 -- what tells a reader
@@ -61,6 +61,7 @@ late_deeds t S = map answer_of (told_late (filter (is_past t) S.exchanges) S.rea
 pub record IsTold (h drafted : List Written) (t : ℕ) (x : Telling) : Type 0 where
   pub asked : IsAskedIn h x.reader
   pub found : IsFound (h ++ drafted) x.finding.told x.finding.grounds (Requests asked.request)
+  pub format : HasFormat (h ++ drafted) x.finding.told x.finding.grounds
   pub counts : CountsFrom (h ++ drafted) x.finding.grounds t (counted_moment h t x)
 
 -- the answer to its ask, under this number, after these entries

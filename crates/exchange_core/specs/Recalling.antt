@@ -19,7 +19,7 @@ use Rattle.exchange_model.specs.Entering.{entered_all}
 use Rattle.exchange_model.specs.Room.{KeptInRoom}
 use Rattle.exchange_model.specs.Watching.{touched}
 use Rattle.exchange_model.specs.Sealing.{in_room}
-use Rattle.exchange_core.specs.Answering.{Given, HeardAs, AreHeard, CountsFromLast, IsRenewal}
+use Rattle.exchange_core.specs.Answering.{Given, HeardAs, AreHeard, CountsFromLast, IsInFormat, IsRenewal}
 
 -- what is stored for an ask, where it is a GET and that is fresh
 abbrev pub served_under : Option CacheKey → ℕ → List Pair → Option Stored
@@ -80,6 +80,7 @@ pub record WasRenewed (h : List Written) (s : Stored) : Type 0 where
   pub messages : List Content
   pub heard : AreHeard h (number ∷ others) messages
   pub renewal : IsRenewal messages s.response
+  pub format : IsInFormat h (number ∷ others) s.response
   pub counts : CountsFromLast h number others s.heard
 
 abbrev pub WasHeard : List Written → Stored → Type 0

@@ -1,15 +1,17 @@
 -- What is stored, and what exchanges keep of that, was heard whole.
-use Rattle.std.proofs.Common.{◌∷◌, eqb, ◌≡◌, ℕ, zero, inl, inr, List, [], Some, refl, sym, ap, subst, ◌∙◌, arith, suc, ◌<◌, ◌⊎◌, not, length, true, false}
+use Rattle.std.proofs.Common.{◌∷◌, eqb, ◌≡◌, ℕ, zero, inl, inr, List, [], Option, Some, None, refl, sym, ap, subst, ◌∙◌, arith, suc, ◌<◌, ◌⊎◌, not, length, true, false}
 use Rattle.exchange_model.proofs.Comes.{heard-fits}
 use Rattle.std.specs.List.{AllByRecursion, Contains, slice_get, list_all}
 use Rattle.std.proofs.lemmas.Bool.{and_parts}
-use Rattle.coap_codec.specs.Spelling.{Content}
+use Rattle.std.specs.Prelude.{is_some}
+use Rattle.coap_codec.specs.Spelling.{Content, Spells}
+use Rattle.uri_map.specs.declared.peer.Peer.{Peer}
 use Rattle.resp_cache.specs.declared.pair.Pair.{Pair}
 use Rattle.ask_model.specs.Requests.{CoapRequest}
 use Rattle.journal_book.specs.Entries.{Ground, Hears, Carries, Written}
 use Rattle.journal_book.specs.Entries as D
-use Rattle.history_laws.specs.Responses.{Response, whole_fetched, renewed_response, valid, is_tellable}
-use Rattle.history_laws.specs.Readings.{Says, Recalls, at, Noted, noted, before}
+use Rattle.history_laws.specs.Responses.{Response, confirms, first_some, response_of, whole_fetched, renewed_response, valid, is_tellable}
+use Rattle.history_laws.specs.Readings.{Note, Says, Recalls, at, Noted, noted, before}
 use Rattle.history_laws.specs.Progress.{Reply, numbers, messages}
 use Rattle.history_laws.specs.Joining.{asks_the_same}
 use Rattle.history_laws.specs.Exchanges.{begun, Begun, heard_for}
@@ -18,7 +20,7 @@ use Rattle.history_laws.specs.Grounds.{IsCarriedReply}
 use Rattle.history_laws.specs.Storing.{IsBrought, IsCarried, IsStored, IsAsHeard, IsRenewed, is_valid_in, pieces_in}
 use Rattle.history_laws.proofs.CallerLemmas.{comes-fit, shared-is, contains-later, replies-fit, some-is, all-more, at-entries, at-before, before-twice, begun-below, comes-since, ends-renewed, heard-of, legal-before, length-before, renewed-of, reply-before, all-of, filter-all, entries-length, renews-for, RenewsFor}
 use Rattle.exchange_model.specs.Reads.{PairIn, Reads, ExchangeIn, kept_in}
-use Rattle.exchange_model.specs.Growing.{IsHeardAt, AreHeardAt, IsCopiedAt, AreCopiedAt, IsHeardIn, StoreHeard, IsRenewedIn, IsKeptIn, StalesHeard}
+use Rattle.exchange_model.specs.Growing.{IsHeardAt, AreHeardAt, IsCopiedAt, AreCopiedAt, IsHeardIn, StoreHeard, IsRenewedIn, IsKeptIn, IsNamedIn, StalesHeard}
 use Rattle.exchange_model.specs.State.{State}
 use Rattle.exchange_model.proofs.Carried.{reply-stands}
 use Rattle.resp_cache.specs.Stored.{Stored}
@@ -116,6 +118,20 @@ Stand l rs =
     ((r : Reply) → Contains rs r → (o : ℕ) × IsReplyTo l o r)
     ⊎ ((o : ℕ) × (q : CoapRequest) × ((r : Reply) → Contains rs r → IsCarriedReply l o q r))
 
+-- a 2.03 that names this format, for what has this ETag
+record Named (l : List Noted) (tag : Option (List ℕ)) (format : Option ℕ) : Type 0 where
+  pub number : ℕ
+  pub moment : ℕ
+  pub peer : Peer
+  pub bytes : List ℕ
+  pub note : Note
+  pub message : Content
+  pub stands : at l number ≡ Some (noted moment (Hears peer bytes) note)
+  pub spelled : Spells message bytes
+  pub says : confirms tag message ≡ true
+  pub names : (response_of message).format ≡ format
+  pub some : is_some format ≡ true
+
 record HeardWhole (l : List Noted) (s : Stored) : Type 0 where
   pub first : Reply
   pub more : List Reply
@@ -124,6 +140,7 @@ record HeardWhole (l : List Noted) (s : Stored) : Type 0 where
   pub whole : whole_fetched first.message (messages more) ≡ Some response
   pub pieces : pieces_in l s.list ≡ numbers (first ∷ more)
   pub renewed : s.response ≡ record response { format = s.response.format; max_age = s.response.max_age }
+  pub format : (s.response.format ≡ response.format) ⊎ Named l s.response.etag s.response.format
 
 -- None of it is a 2.03.
 no-valid : (l : List Noted) (rs : List Reply) → Stand l rs → (r : Reply) → Contains rs r → eqb r.message.code valid ≡ false → is_valid_in (at l r.number) ≡ false
@@ -173,6 +190,7 @@ heard-whole (suc fuel) l k x q s lt legal stands (inl it) = by (heard-of (before
           whole = whole;
           pieces = ap (pieces_in l) a.list ∙ all-pieces l a.first a.more s.response stand whole;
           renewed = as-it-was s.response;
+          format = inl refl;
         }
     by (inr a) =
         let asked : CoapRequest = a.carries.exchange.request in
@@ -193,6 +211,7 @@ heard-whole (suc fuel) l k x q s lt legal stands (inl it) = by (heard-of (before
           whole = whole;
           pieces = ap (pieces_in l) a.list ∙ all-pieces l a.first a.more s.response stand whole;
           renewed = as-it-was s.response;
+          format = inl refl;
         }
 heard-whole (suc fuel) l k x q s lt legal stands (inr it) =
     let m : List Noted = before l k in
@@ -213,8 +232,38 @@ heard-whole (suc fuel) l k x q s lt legal stands (inr it) =
       whole = was.whole;
       pieces = ap (pieces_in l) it.list ∙ (pieces-since l k x q it.ending legal stands it.renewal f ∙ was.pieces);
       renewed = renews-as s it.renewal.kept was.response it.renewal.reply.message it.response (as-kept it.renewal.kept f.renews.stored was.response (ap (λ (v : Stored). v.response) f.renews.pieces) was.renewed);
+      format =
+          let u : Reply = it.renewal.reply in
+          let fits = replies-fit m o u legal_m (renewed-of m o it.ending it.renewal.kept u it.renewal.ended) in
+          let ends = ends-renewed m o it.ending it.renewal.kept u it.renewal.ended in
+          subst (λ (w : Response). (w.format ≡ was.response.format) ⊎ Named l w.etag w.format) (sym it.response)
+          (names-as l it.renewal.kept.response was.response u.number fits.moment fits.peer fits.bytes _ u.message
+          (at-before l k u.number _ fits.heard) fits.spelled ends.turned.tells
+          (subst (λ (w : Response). (w.format ≡ was.response.format) ⊎ Named l w.etag w.format)
+          (sym (ap (λ (v : Stored). v.response) f.renews.pieces)) was.format) ((response_of u.message).format) refl);
     }
   where
+    -- the format of what is renewed: that of the 2.03, where it names one
+    names-as : (l : List Noted) (u w : Response) (n t : ℕ) (p : Peer) (b : List ℕ) (note : Note) (m : Content)
+        → at l n ≡ Some (noted t (Hears p b) note) → Spells m b → confirms u.etag m ≡ true
+        → (u.format ≡ w.format) ⊎ Named l u.etag u.format
+        → (v : Option ℕ) → (response_of m).format ≡ v
+        → (first_some v u.format ≡ w.format) ⊎ Named l u.etag (first_some v u.format)
+    names-as l u w n t p b note m stands spelled says old None e = old
+    names-as l u w n t p b note m stands spelled says old (Some f) e = inr (record {
+      number = n;
+      moment = t;
+      peer = p;
+      bytes = b;
+      note = note;
+      message = m;
+      stands = stands;
+      spelled = spelled;
+      says = says;
+      names = e;
+      some = refl;
+    })
+
     renews-as : (s u : Stored) (w : Response) (m : Content) → s.response ≡ renewed_response u.response m
         → u.response ≡ record w { format = u.response.format; max_age = u.response.max_age }
         → s.response ≡ record w { format = s.response.format; max_age = s.response.max_age }
@@ -226,6 +275,23 @@ heard-whole (suc fuel) l k x q s lt legal stands (inr it) =
 stand-in : (l : List Noted) (S : State) → Reads l S → (rs : List Reply) → Stand l rs → AreHeardAt S (numbers rs) (messages rs) ⊎ AreCopiedAt S (numbers rs) (messages rs)
 stand-in l S r rs (inl h) = inl (all-heard l S r rs h)
 stand-in l S r rs (inr h) = inr (all-copied l S r h.0 h.1 rs h.2)
+
+named-in : (l : List Noted) (S : State) → Reads l S → (tag : Option (List ℕ)) (format : Option ℕ) → Named l tag format → IsNamedIn S tag format
+named-in l S r tag format n = record {
+  number = n.number;
+  message = n.message;
+  heard = record {
+    moment = n.moment;
+    peer = n.peer;
+    bytes = n.bytes;
+    stands = subst (λ (h : List Written). slice_get h n.number ≡ Some (record { moment = n.moment; deed = Hears n.peer n.bytes })) r.entries_are
+        (at-entries l n.number _ n.stands);
+    spelled = n.spelled;
+  };
+  says = n.says;
+  names = n.names;
+  some = n.some;
+}
 
 pub kept-heard : (l : List Noted) (S : State) → Reads l S → (o : ℕ) (b : Begun) (s : Stored) → RenewsFor l o b s → IsKeptIn S s
 kept-heard l S r o b s it =
@@ -239,6 +305,9 @@ kept-heard l S r o b s it =
       response = was.response;
       whole = was.whole;
       renewed = as-kept s it.stored was.response (ap (λ (v : Stored). v.response) it.pieces) was.renewed;
+      format = subst (λ (w : Response). (w.format ≡ was.response.format) ⊎ IsNamedIn S w.etag w.format)
+          (sym (ap (λ (v : Stored). v.response) it.pieces))
+          (elim (was.format) [ inl same ↦ inl same | inr n ↦ inr (named-in l S r _ _ n) ]);
     }
 
 pub stales-heard : StalesHeard

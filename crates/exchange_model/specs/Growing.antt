@@ -1,6 +1,6 @@
 -- What each call adds to the journal, each entry at its moment, and what that does to the
 -- connections.
-use Rattle.std.specs.Prelude.{◌≡◌, ◌≢◌, ◌⊎◌, ℕ, ◌+◌, ◌<◌, ◌≤◌, Bool, true, false, List, [], ◌∷◌, ◌++◌, length, slice_get, Some, ⊤}
+use Rattle.std.specs.Prelude.{◌≡◌, ◌≢◌, ◌⊎◌, ℕ, ◌+◌, ◌<◌, ◌≤◌, Bool, true, false, List, [], ◌∷◌, ◌++◌, length, slice_get, Option, Some, is_some, ⊤}
 use Rattle.std.specs.List.{AllByRecursion, Contains}
 use Rattle.coap_codec.specs.Spelling.{Content, Spells}
 use Rattle.uri_map.specs.declared.peer.Peer.{Peer}
@@ -10,7 +10,7 @@ use Rattle.ask_model.specs.Requests.{CoapRequest, Requests}
 use Rattle.ask_model.specs.Views.{Ask}
 use Rattle.journal_book.specs.Entries.{Ground, Heard, Deed, Opens, Asks, Sends, Hears, Answers, Shuts, Seals, Carries, Written}
 use Rattle.history_laws.specs.Readings.{carries}
-use Rattle.history_laws.specs.Responses.{Response, confirms, renewed_response, whole_fetched}
+use Rattle.history_laws.specs.Responses.{Response, confirms, renewed_response, response_of, whole_fetched}
 use Rattle.exchange_model.specs.declared.kept.Conn.{Conn}
 use Rattle.exchange_model.specs.declared.kept.Exchange.{Exchange}
 use Rattle.exchange_model.specs.declared.kept.Reader.{Reader}
@@ -201,7 +201,17 @@ pub record IsHeardIn (S : State) (p : Pair) : Type 0 where
       ⊎ AreCopiedFrom S p.stored.heard (number ∷ others) (message ∷ more)
   pub whole : whole_fetched message more ≡ Some p.stored.response
 
--- What an exchange keeps was heard whole: all but Max-Age and format is as it was heard.
+-- A 2.03 was heard that says that what has this ETag is valid still, and names this format.
+pub record IsNamedIn (S : State) (tag : Option (List ℕ)) (format : Option ℕ) : Type 0 where
+  pub number : ℕ
+  pub message : Content
+  pub heard : IsHeardAt S number message
+  pub says : confirms tag message ≡ true
+  pub names : (response_of message).format ≡ format
+  pub some : is_some format ≡ true
+
+-- What an exchange keeps was heard whole: all but Max-Age and format is as it was heard, and the
+-- format is so too, or was named by a 2.03.
 pub record IsKeptIn (S : State) (s : Stored) : Type 0 where
   pub message : Content
   pub more : List Content
@@ -210,6 +220,8 @@ pub record IsKeptIn (S : State) (s : Stored) : Type 0 where
   pub whole : whole_fetched message more ≡ Some response
   pub renewed : s.response
       ≡ record response { format = s.response.format; max_age = s.response.max_age }
+  pub format : (s.response.format ≡ response.format)
+      ⊎ IsNamedIn S s.response.etag s.response.format
 
 -- What is renewed was kept so, and the last of its list is the 2.03 by which it was renewed: at
 -- that moment.

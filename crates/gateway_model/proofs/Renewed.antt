@@ -11,7 +11,8 @@ use Rattle.history_laws.proofs.CallerLemmas.{none-some, some-is}
 use Rattle.history_claims.specs.Headline.{IsHeard, IsSameGet}
 use Rattle.history_claims.specs.Stored.{WasWhole, WasRenewed, never, again}
 use Rattle.exchange_core.specs.Answering.{HeardAs, AreHeard, CountsFrom, IsRenewal, IsResponse}
-use Rattle.gateway_model.specs.Told.{IsAsStored, IsRenewedAs}
+use Rattle.exchange_core.specs.Answering as Given
+use Rattle.gateway_model.specs.Told.{IsAsStored, IsInFormat, IsRenewedAs}
 use Rattle.gateway_model.proofs.Spelled.{at-last, both-heard, by-message, counts-first, counts-last, heard-one, last-of-push, messages-whole, since-whole, whole-not}
 
 fetched-of : (q : CoapRequest) (m : Content) (ms : List Content) (w : Response) → q.method ≡ 1 → whole_of q (m ∷ ms) ≡ Some w → whole_fetched m ms ≡ Some w
@@ -51,11 +52,27 @@ chain h q first n s (never before) = refl
 chain h q first n s (again {s = old} o c t j r m asked same was it before) =
     ap (λ (v : Response). renewed_response v m) (chain h q first o old was)
 
+-- The format was heard of it.
+pub in-format : (h : List Written) (js : List ℕ) (w : Response) → Given.IsInFormat h js w → IsInFormat h js w
+in-format h js w a = record {
+  peer = a.heard.peer;
+  number = a.number;
+  moment = a.moment;
+  message = a.message;
+  heard = record {
+    bytes = a.heard.bytes;
+    done = record { deed = a.heard.deed; stands = a.heard.stands; says = a.heard.says };
+    spelled = a.heard.spelled;
+  };
+  format = a.format;
+  source = a.source;
+}
+
 -- The pieces are what was heard first, and the last is the 2.03 that renews that.
 pub renewed-as : (h : List Written) (q : CoapRequest) (first old : Stored) (k n u : ℕ) (m : Content) (ms : List Content) (w : Response)
     → AreHeard h (first.list ++ n ∷ []) ms → IsRenewal ms w → HeardAs h n u m → WasWhole h q first → WasRenewed h q first k old
-    → IsRenewedAs old.response m w
-renewed-as h q first old k n u m ms w heard r at whole was =
+    → IsInFormat h (first.list ++ n ∷ []) w → IsRenewedAs h (first.list ++ n ∷ []) old.response m w
+renewed-as h q first old k n u m ms w heard r at whole was format =
     let both = both-heard h first.list n (r.first ∷ r.more) r.last (subst (AreHeard h (first.list ++ n ∷ [])) r.is heard) in
     let last : r.last ≡ m = (heard-one h n both.1.0 u r.last m both.1.1 at).1 in
     let texts : whole.messages ≡ r.first ∷ r.more =
@@ -70,13 +87,14 @@ renewed-as h q first old k n u m ms w heard r at whole was =
           ∙ (ap (λ (v : Response). renewed_response (record v { format = r.before }) r.last) response
           ∙ (ap (λ (x : Content). renewed_response (record first.response { format = r.before }) x) last
           ∙ sym (ap (λ (v : Response). renewed_response (record v { format = r.before }) m) (chain h q first k old was))));
+      format = format;
     }
 
 -- What is stored is what was given, and counts from the same moment.
 pub served-as : (h : List Written) (t heard k : ℕ) (q r : CoapRequest) (ms : List Content) (w : Response) (first s : Stored) → r ≡ q
-    → AreHeard h s.list ms → IsResponse q ms w → CountsFrom h (Kept s.list) t heard → WasWhole h r first → (was : WasRenewed h r first k s)
+    → AreHeard h s.list ms → IsResponse q ms w → CountsFrom h (Kept s.list) t heard → IsInFormat h s.list w → WasWhole h r first → (was : WasRenewed h r first k s)
     → IsAsStored h r first k s was w × (s.heard ≡ heard)
-served-as h t heard k q r ms w first s is all (inl whole) counts first_whole (never before) =
+served-as h t heard k q r ms w first s is all (inl whole) counts format first_whole (never before) =
     let texts : first_whole.messages ≡ ms =
     messages-whole h first.opening first_whole.other first.list first_whole.messages ms first.heard first_whole.heard all in
     let message : request_message first_whole.other 0 [] ≡ request_message q 0 [] =
@@ -86,17 +104,17 @@ served-as h t heard k q r ms w first s is all (inl whole) counts first_whole (ne
       since-whole h first.opening first_whole.other first.list first_whole.messages first.heard heard first_whole.heard
           (counts-first h first.list t heard q ms w all whole counts),
     )
-served-as h t heard k q r ms w first s is all (inr renewal) counts first_whole (never before) =
+served-as h t heard k q r ms w first s is all (inr renewal) counts format first_whole (never before) =
     let texts : first_whole.messages ≡ ms =
     messages-whole h first.opening first_whole.other first.list first_whole.messages ms first.heard first_whole.heard all in
     absurd (renewal-whole first_whole.other ms w first.response renewal.1
     (subst (λ (ms : List Content). whole_of first_whole.other ms ≡ Some first.response) texts first_whole.whole))
-served-as h t heard k q r ms w first s is all (inl whole) counts first_whole (again {s = old} o c u j other m asked same was it before) =
+served-as h t heard k q r ms w first s is all (inl whole) counts format first_whole (again {s = old} o c u j other m asked same was it before) =
     let at = heard-valid h other.peer j it.heard.response.moment m it.heard.response.heard in
     absurd (valid-whole h first.list j it.heard.response.moment m q ms w at it.code all whole)
-served-as h t heard k q r ms w first s is all (inr renewal) counts first_whole (again {s = old} o c u j other m asked same was it before) =
+served-as h t heard k q r ms w first s is all (inr renewal) counts format first_whole (again {s = old} o c u j other m asked same was it before) =
     let at = heard-valid h other.peer j it.heard.response.moment m it.heard.response.heard in (
-      renewed-as h r first old o j it.heard.response.moment m ms w all renewal.1 at first_whole was,
+      renewed-as h r first old o j it.heard.response.moment m ms w all renewal.1 at first_whole was format,
       sym (counts-last h first.list j t heard it.heard.response.moment m at (is-valid m it.code) counts),
     )
 

@@ -21,7 +21,7 @@ use Rattle.history_claims.specs.Causes.{AreCaused}
 use Rattle.history_claims.proofs.CallerLemmas.{rests-on-replies, rests-on-stored}
 use Rattle.reply_reading.specs.Findings.{Told, Tells as TellsOf, Fails}
 use Rattle.exchange_core.specs.Values.{CoreValue, Untaken, Outgoing, written, answered_in, sent_in}
-use Rattle.exchange_core.specs.Answering.{Given, HeardAs, AreHeard, IsFound, IsRenewal, IsResponse, CountsFrom}
+use Rattle.exchange_core.specs.Answering.{Given, HeardAs, AreHeard, HasFormat, IsFound, IsRenewal, IsResponse, CountsFrom}
 use Rattle.http_mapping.specs.Means.{Tells, MeansWhole, MeansTold, last_reply}
 use Rattle.gateway_model.specs.declared.input.Happening.{Happening}
 use Rattle.gateway_model.specs.declared.input.When.{When}
@@ -30,14 +30,14 @@ use Rattle.gateway_model.specs.Emissions.{Emission, given_up_in}
 use Rattle.gateway_model.specs.Going.{goes_in, GoesOut, SendsJust}
 use Rattle.gateway_model.specs.Orders.{IsInOrder}
 use Rattle.gateway_model.specs.Tellings.{IsMapped, AreMapped, terms_of, IsMeant, AreMeant}
-use Rattle.gateway_model.specs.Told.{ShowsGrounds, ShowsReplies, ShowsRenewed, ShowsStored, TellsAnswer, Piece, interim, final, answers_in, answers_to, IsPiece, AreOnce, IsToldAnswers, IsToldButLast, IsToldWhole, TellsAll, HasCause}
+use Rattle.gateway_model.specs.Told.{IsInFormat, IsRenewedAs, ShowsGrounds, ShowsReplies, ShowsRenewed, ShowsStored, TellsAnswer, Piece, interim, final, answers_in, answers_to, IsPiece, AreOnce, IsToldAnswers, IsToldButLast, IsToldWhole, TellsAll, HasCause}
 use Rattle.gateway_model.specs.Waiting.{IsDrained}
 use Rattle.gateway_model.proofs.Order.{all-append}
 use Rattle.gateway_model.proofs.Moves.{Whoever, Nobody, TellsGiven, IsSaid, ToldIn, Wait, Did, nums, nums-in}
 use Rattle.gateway_model.proofs.Doing.{did-all}
 use Rattle.gateway_model.proofs.Forgoing.{AreKept, ForgoneAt, AtMostLast, all-any, at-most-last, serving-or-kept}
 use Rattle.gateway_model.proofs.Pacing.{IsQuiet, flow-once, PacedAt, Paced, paced-all}
-use Rattle.gateway_model.proofs.Renewed.{counts-valid, heard-valid, renewal-whole, renewed-as, served-as, valid-whole}
+use Rattle.gateway_model.proofs.Renewed.{counts-valid, heard-valid, in-format, renewal-whole, renewed-as, served-as, valid-whole}
 use Rattle.gateway_model.proofs.Shutting.{AreServing}
 use Rattle.gateway_model.proofs.Spelled.{IsFirstAs, asks-same, counts-alike, counts-first, entry-says, messages-rest, request-same}
 
@@ -79,10 +79,10 @@ module _ (holds : Form → Form → List ℕ → List ℕ → Type 0) (takes : F
       → slice_get h g.ask ≡ Some (written asked (Asks c (ask_of g.mapping)))
       → g.mapping.rules ≡ rules → g.mapping.sense ≡ Requests q
       → IsEntry h n g.moment (Answers c g.ask (Live js))
-      → (ms : List Content) → AreHeard h js ms → IsResponse q ms w → CountsFrom h (Live js) g.moment g.heard
+      → (ms : List Content) → AreHeard h js ms → IsResponse q ms w → IsInFormat h js w → CountsFrom h (Live js) g.moment g.heard
       → MeansWhole rules.routes holds takes g.mapping w (last_reply (Live js)) (g.moment - g.heard) r
       → ShowsReplies holds takes h n g.moment c g.ask (ask_of g.mapping) js r ⊎ ShowsRenewed holds takes h n g.moment c g.ask (ask_of g.mapping) js r
-  shows-live n c g r js w q asked ask rules_are sense answered ms heard found counts means =
+  shows-live n c g r js w q asked ask rules_are sense answered ms heard found format counts means =
       by (rests-on-replies h n g.moment c g.ask js stands answered) found
     where
       counted : CountsFrom h (Kept js) g.moment g.heard
@@ -121,8 +121,10 @@ module _ (holds : Form → Form → List ℕ → List ℕ → Type 0) (takes : F
           record {
             rests = rests;
             response = w;
-            is = renewed-as h rests.request rests.was.first rests.stored rests.opening rests.number u rests.message ms w
-                (subst (λ (js : List ℕ). AreHeard h js ms) (sym rests.list) heard) renewal (at-valid rests) rests.was.whole rests.was.renewed;
+            is = subst (λ (js : List ℕ). IsRenewedAs h js rests.stored.response rests.message w) rests.list
+                (renewed-as h rests.request rests.was.first rests.stored rests.opening rests.number u rests.message ms w
+                (subst (λ (js : List ℕ). AreHeard h js ms) (sym rests.list) heard) renewal (at-valid rests) rests.was.whole rests.was.renewed
+                (subst (λ (js : List ℕ). IsInFormat h js w) (sym rests.list) format));
             shows = subst (λ (u : ℕ). MeansWhole g.mapping.rules.routes holds takes g.mapping w (last_reply (Live js)) (g.moment - u) r) since shown;
           }
 
@@ -140,16 +142,17 @@ module _ (holds : Form → Form → List ℕ → List ℕ → Type 0) (takes : F
       → slice_get h g.ask ≡ Some (written asked (Asks c (ask_of g.mapping)))
       → g.mapping.rules ≡ rules → g.mapping.sense ≡ Requests q
       → IsEntry h n g.moment (Answers c g.ask (Kept js))
-      → (ms : List Content) → AreHeard h js ms → IsResponse q ms w → CountsFrom h (Kept js) g.moment g.heard
+      → (ms : List Content) → AreHeard h js ms → IsResponse q ms w → IsInFormat h js w → CountsFrom h (Kept js) g.moment g.heard
       → MeansWhole rules.routes holds takes g.mapping w (last_reply (Kept js)) (g.moment - g.heard) r
       → ShowsStored holds takes h g.moment c g.ask (ask_of g.mapping) js r
-  shows-kept n c g r js w q asked ask rules_are sense answered ms heard found counts means =
+  shows-kept n c g r js w q asked ask rules_are sense answered ms heard found format counts means =
       let s : IsServed h g.moment c g.ask js = rests-on-stored h n g.moment c g.ask js stands answered in
       let one = asks-same g.moment asked c c _ _ (sym s.asked.stands ∙ ask) in
       let request : s.request ≡ q = request-same s.request q (ap (λ (a : Ask). a.sense) one ∙ sense) in
       let so = served-as h g.moment g.heard g.ask q s.request ms w s.is.first s.stored request
       (subst (λ (js : List ℕ). AreHeard h js ms) (sym s.list) heard) found
-      (subst (λ (js : List ℕ). CountsFrom h (Kept js) g.moment g.heard) (sym s.list) counts) s.is.whole s.is.renewed in
+      (subst (λ (js : List ℕ). CountsFrom h (Kept js) g.moment g.heard) (sym s.list) counts)
+      (subst (λ (js : List ℕ). IsInFormat h js w) (sym s.list) format) s.is.whole s.is.renewed in
       record {
         served = s;
         response = w;
@@ -163,19 +166,19 @@ module _ (holds : Form → Form → List ℕ → List ℕ → Type 0) (takes : F
       → g.mapping.rules ≡ rules
       → (told : Told) (grounds : Grounds) (sense : Sense) → g.mapping.sense ≡ sense
       → IsEntry h n g.moment (Answers c g.ask grounds)
-      → IsFound h told grounds sense → CountsFrom h grounds g.moment g.heard
+      → IsFound h told grounds sense → HasFormat h told grounds → CountsFrom h grounds g.moment g.heard
       → MeansTold rules.routes holds takes g.mapping told grounds (g.moment - g.heard) r
       → ShowsGrounds holds takes h n g.moment c g.ask (ask_of g.mapping) grounds r
-  shows-grounds n c g r asked ask by (TellsOf w) (Live js) (Requests q) sense answered found counts means =
-      shows-live n c g r js w q asked ask by sense answered found.0 found.1 found.2 counts means
-  shows-grounds n c g r asked ask by (TellsOf w) (Live js) (Refuses cause status) sense answered found counts means = absurd found
-  shows-grounds n c g r asked ask by (TellsOf w) (Kept js) (Requests q) sense answered found counts means =
-      shows-kept n c g r js w q asked ask by sense answered found.0 found.1 found.2 counts means
-  shows-grounds n c g r asked ask by (TellsOf w) (Kept js) (Refuses cause status) sense answered found counts means = absurd found
-  shows-grounds n c g r asked ask by (TellsOf w) (Fault cause j) s sense answered found counts means = absurd found
-  shows-grounds n c g r asked ask by (Fails cause) (Live js) s sense answered found counts means = absurd found
-  shows-grounds n c g r asked ask by (Fails cause) (Kept js) s sense answered found counts means = absurd found
-  shows-grounds n c g r asked ask by (Fails cause) (Fault named j) s sense answered found counts means =
+  shows-grounds n c g r asked ask by (TellsOf w) (Live js) (Requests q) sense answered found format counts means =
+      shows-live n c g r js w q asked ask by sense answered found.0 found.1 found.2 (in-format h js w format) counts means
+  shows-grounds n c g r asked ask by (TellsOf w) (Live js) (Refuses cause status) sense answered found format counts means = absurd found
+  shows-grounds n c g r asked ask by (TellsOf w) (Kept js) (Requests q) sense answered found format counts means =
+      shows-kept n c g r js w q asked ask by sense answered found.0 found.1 found.2 (in-format h js w format) counts means
+  shows-grounds n c g r asked ask by (TellsOf w) (Kept js) (Refuses cause status) sense answered found format counts means = absurd found
+  shows-grounds n c g r asked ask by (TellsOf w) (Fault cause j) s sense answered found format counts means = absurd found
+  shows-grounds n c g r asked ask by (Fails cause) (Live js) s sense answered found format counts means = absurd found
+  shows-grounds n c g r asked ask by (Fails cause) (Kept js) s sense answered found format counts means = absurd found
+  shows-grounds n c g r asked ask by (Fails cause) (Fault named j) s sense answered found format counts means =
       subst (λ (x : _). Tells g.mapping x j r) found means
 
   tells-answer : (c n : ℕ) (bytes : List ℕ) → AreMeant (terms_of holds takes rules) h
@@ -199,7 +202,7 @@ module _ (holds : Form → Form → List ℕ → List ℕ → Type 0) (takes : F
         asked = ask;
         response = x.response;
         shows = shows-grounds n c g x.response x.is.asked ask mapped.by g.found.told g.found.grounds g.mapping.sense refl
-            answered x.is.found x.is.counts x.tells;
+            answered x.is.found x.is.format x.is.counts x.tells;
         text = x.text;
       }
 

@@ -1,9 +1,10 @@
 -- What connections are told, said of the entries of the journal alone: each answer shows one whole
 -- response that was heard for just what its ask asks for, or is the proxy's own error, and tells
 -- the cause and the entry that the journal names.
-use Rattle.std.specs.Prelude.{◌≡◌, ◌⊎◌, ℕ, ◌+◌, ◌-◌, ◌<◌, ⊤, ◌==◌, if◌then◌else◌, List, [], ◌∷◌, ◌++◌, length, map, flat_map, Option}
+use Rattle.std.specs.Prelude.{◌≡◌, ◌⊎◌, ℕ, ◌+◌, ◌-◌, ◌<◌, ⊤, ◌==◌, if◌then◌else◌, List, [], ◌∷◌, ◌++◌, length, map, flat_map, true, false, Option, is_some}
 use Rattle.std.specs.List.{AllByRecursion, Contains}
 use Rattle.coap_codec.specs.Spelling.{Content}
+use Rattle.uri_map.specs.declared.peer.Peer.{Peer}
 use Rattle.media_map.specs.declared.form.Form.{Form}
 use Rattle.http_edge.specs.Answers.{answer_text}
 use Rattle.http_edge.specs.declared.answer.HttpAnswer.{HttpAnswer}
@@ -12,9 +13,9 @@ use Rattle.ask_model.specs.Views.{Ask, Mapping, Rules}
 use Rattle.journal_book.specs.Entries.{Grounds, Live, Kept, Fault, Deed, Asks, Answers, Written}
 use Rattle.http_mapping.specs.Means.{MeansWhole, Tells, last_reply}
 use Rattle.resp_cache.specs.Stored.{Stored}
-use Rattle.history_laws.specs.Responses.{Response, renewed_response}
+use Rattle.history_laws.specs.Responses.{Response, confirms, renewed_response, response_of}
 use Rattle.history_laws.specs.Justified.{Stands}
-use Rattle.history_claims.specs.Headline.{IsEntry, IsHeardFirst, RestsOn}
+use Rattle.history_claims.specs.Headline.{IsEntry, WasHeard, IsHeardFirst, RestsOn}
 use Rattle.history_claims.specs.Stored.{WasRenewed, never, again, IsServed, RestsOnRenewed}
 use Rattle.history_claims.specs.Causes.{IsCausedBy, AreCaused}
 use Rattle.exchange_core.specs.Values.{CoreValue}
@@ -29,19 +30,32 @@ use Rattle.gateway_model.specs.Waiting.{IsDrained}
 abbrev pub mapping_of : Ask → Mapping
 mapping_of a = record { came = a.came; sense = a.sense; rules = a.rules }
 
+-- The response is in a format that was heard of it: in one of these entries, which heard no 2.03; or
+-- in a 2.03 that named it, by which what has the ETag of the response is valid still.
+pub record IsInFormat (h : List Written) (js : List ℕ) (w : Response) : Type 0 where
+  pub peer : Peer
+  pub number : ℕ
+  pub moment : ℕ
+  pub message : Content
+  pub heard : WasHeard h peer number moment message
+  pub format : (response_of message).format ≡ w.format
+  pub source : (Contains js number × (message.code == 67 ≡ false))
+      ⊎ ((confirms w.etag message ≡ true) × (is_some w.format ≡ true))
+
 -- It is what was stored, as this 2.03 renews it: with the Max-Age of that, and in its format where
--- it names one (RFC 7252 section 5.9.1.3). Before it was in some format, be it one that a 2.03
--- named.
-pub record IsRenewedAs (stored : Response) (m : Content) (w : Response) : Type 0 where
+-- it names one (RFC 7252 section 5.9.1.3), or else in one of before.
+pub record IsRenewedAs (h : List Written) (js : List ℕ) (stored : Response) (m : Content)
+    (w : Response) : Type 0 where
   pub before : Option ℕ
   pub is : w ≡ renewed_response (record stored { format = before }) m
+  pub format : IsInFormat h js w
 
 -- It is what is stored, which was heard so, or renewed.
 abbrev pub IsAsStored : (h : List Written) (q : CoapRequest) (first : Stored) (n : ℕ) (s : Stored)
     → WasRenewed h q first n s → Response → Type 0
 IsAsStored h q first n s (never before) w = w ≡ s.response
 IsAsStored h q first n s (again {s = old} o c t j r m asked same was it before) w =
-    IsRenewedAs old.response m w
+    IsRenewedAs h (first.list ++ j ∷ []) old.response m w
 
 module _ (holds : Form → Form → List ℕ → List ℕ → Type 0)
     (takes : Form → Form → List ℕ → Type 0) where
@@ -61,7 +75,7 @@ module _ (holds : Form → Form → List ℕ → List ℕ → Type 0)
       : Type 0 where
     pub rests : RestsOnRenewed h n c k js
     pub response : Response
-    pub is : IsRenewedAs rests.stored.response rests.message response
+    pub is : IsRenewedAs h js rests.stored.response rests.message response
     pub shows : MeansWhole a.rules.routes holds takes (mapping_of a) response
         (last_reply (Live js)) (t - rests.valid.heard.response.moment) r
 
