@@ -34,6 +34,7 @@ mod Begins
 mod Firsts
 mod Borne
 mod Carried
+mod CarriedFresh
 mod StoredOne
 mod StoredAlike
 mod Storing

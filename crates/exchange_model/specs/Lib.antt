@@ -18,3 +18,4 @@ pub mod Worked
 pub mod Entering
 pub mod Growing
 pub mod Here
+pub mod Carried

@@ -1,5 +1,6 @@
 //! What each call adds to the journal, as contracts of functions that do nothing.
 
+ghost use Rattle.exchange_model.specs.Carried.{CarriesNothingOutrun};
 ghost use Rattle.exchange_model.specs.Growing.{
   OpensAdd,
   ShutsAdd,
@@ -57,4 +58,9 @@ pub fn connections_rise()
 pub fn stored_was_heard()
     ensures stored { StoreHeard }
     ensures kept { StalesHeard }
+{}
+
+/// What is carried over a rotation is as fresh as what stays stored: no write has outrun it.
+pub fn carries_nothing_outrun()
+    ensures { CarriesNothingOutrun }
 {}

@@ -9,7 +9,7 @@
 //!
 //! The definitions stand in `specs/`, to be read in this order: `State`, `Watching`, `Steps`,
 //! `Matters`, `Hearing`, `Reads`, `Laws`; `Resting`, `Calls`, `Keeping`, `Entering`; `Room`,
-//! `Sealing`; `Growing`, `Due`, `Backing`, `Rotating`; and `Worked`, of runs of it.
+//! `Sealing`; `Growing`, `Due`, `Backing`, `Rotating`, `Carried`; and `Worked`, of runs of it.
 #![tactic(auto)]
 
 mod growing;
