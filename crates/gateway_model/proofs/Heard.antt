@@ -39,14 +39,15 @@ use Rattle.exchange_model.specs.Keeping.{IsDone}
 use Rattle.exchange_model.specs.Room.{fits, KeptInRoom}
 use Rattle.exchange_model.specs.Sealing.{in_room, opens_in_room, asks_in_room, hears_in_room, late, ticks_in_room}
 use Rattle.exchange_model.proofs.CallerLemmas.{ticks-do}
-use Rattle.gateway_model.specs.Hearing.{IsUnheard, AreUnheard}
+use Rattle.history_laws.specs.Hearing.{is_such}
+use Rattle.gateway_model.specs.Hearing.{IsUnheard, AreUnheard, is_such_in, may_come_again}
 
 -- what the core keeps tells why a datagram is dropped
-abbrev pub KeepsMany : ℕ → Peer → State → Type 0
-KeepsMany t p S = 1024 ≤ count_by (is_fresh t) (link_of S.links p).heard
+abbrev pub KeepsMany : ℕ → Peer → List ℕ → State → Type 0
+KeepsMany t p d S = (may_come_again d ≡ true) × (1024 ≤ count_by (is_fresh t) (link_of S.links p).heard)
 
 abbrev pub WhyLost : ℕ → Peer → List ℕ → State → Type 0
-WhyLost t p d S = ((link_of S.links p).last_mid ≡ None) ⊎ ((2048 < length d) ⊎ KeepsMany t p S)
+WhyLost t p d S = ((link_of S.links p).last_mid ≡ None) ⊎ ((2048 < length d) ⊎ KeepsMany t p d S)
 
 abbrev pub IsLost : ℕ → Peer → List ℕ → State → State → Type 0
 IsLost t p d S S1 = (S1.sealed ≡ true) ⊎ WhyLost t p d S
@@ -250,8 +251,9 @@ ticks-first t S kept le = by S.sealed refl
 
 -- a datagram
 
--- Only where the memory is full a message is lost.
-lost-crowded : (t : ℕ) (s : LinkState) (m : Content) → (verdict_of t s m).news ≡ N.Lost → 1024 ≤ count_by (is_fresh t) s.heard
+-- Only where the memory is full a message is lost, and only one that may come again.
+lost-crowded : (t : ℕ) (s : LinkState) (m : Content) → (verdict_of t s m).news ≡ N.Lost
+    → (is_such m.kind ≡ true) × (1024 ≤ count_by (is_fresh t) s.heard)
 lost-crowded t s m e = kind m.kind e
   where
     fresh : (n : ℕ) (b : Bool) (r : Reply) (q : Bool) (v : Verdict) → (nat_lt (count_by (is_fresh t) s.heard) 1024) ≡ b
@@ -296,17 +298,17 @@ lost-crowded t s m e = kind m.kind e
         one true x y p q e = p e
         one false x y p q e = q e
 
-    kind : (k : MsgType) → (verdict_by t s m k).news ≡ N.Lost → 1024 ≤ count_by (is_fresh t) s.heard
-    kind Con e = found true (find (is_repeat t m.mid) s.heard) e
-    kind Non e = found false (find (is_repeat t m.mid) s.heard) e
+    kind : (k : MsgType) → (verdict_by t s m k).news ≡ N.Lost → (is_such k ≡ true) × (1024 ≤ count_by (is_fresh t) s.heard)
+    kind Con e = (refl, found true (find (is_repeat t m.mid) s.heard) e)
+    kind Non e = (refl, found false (find (is_repeat t m.mid) s.heard) e)
     kind Ack e = absurd (ack (m.code == 0) (nat_lt 31 m.code) _ _ ignored quiet
         (either_news (list_any (is_awaited_by_ack m.mid m.token) s.awaited)) quiet e)
     kind Rst e = absurd (rst s.outstanding e)
 
 -- It stands first; or nothing changes, since it was lost.
 reads-first : (t : ℕ) (p : Peer) (d : List ℕ) (n : Numbers) (S : State)
-    → Firstly t (Hears p d) S (reads_so t p d n (message_at d) S) ⊎ ((reads_so t p d n (message_at d) S ≡ S) × KeepsMany t p S)
-reads-first t p d n S = read (message_at d)
+    → Firstly t (Hears p d) S (reads_so t p d n (message_at d) S) ⊎ ((reads_so t p d n (message_at d) S ≡ S) × KeepsMany t p d S)
+reads-first t p d n S = read (message_at d) refl
   where
     nothing : (bs : List (List ℕ)) → Firstly t (Hears p d) S (given_back t p bs (hears_nothing t p d S))
     nothing bs = first t (Hears p d) S (hears_nothing t p d S) _ refl (given-unheard t p bs (hears_nothing t p d S))
@@ -321,22 +323,24 @@ reads-first t p d n S = read (message_at d)
         (both S1 S2 S3 (given-unheard t p (replies m.mid v.reply) S1) (next-unheard t p S2))
         (all-told-unheard t (told_for (length S.entries) (matter_of t p m v S) S.readers) S3))
 
-    taken : (m : Content) (v : Verdict) → (v.news ≡ N.Lost → KeepsMany t p S) → (news : News) → v.news ≡ news
-        → Firstly t (Hears p d) S (takes_by t p d m v n news S) ⊎ ((takes_by t p d m v n news S ≡ S) × KeepsMany t p S)
+    taken : (m : Content) (v : Verdict) → (v.news ≡ N.Lost → KeepsMany t p d S) → (news : News) → v.news ≡ news
+        → Firstly t (Hears p d) S (takes_by t p d m v n news S) ⊎ ((takes_by t p d m v n news S ≡ S) × KeepsMany t p d S)
     taken m v crowded N.Lost e = inr (refl, crowded e)
     taken m v crowded N.Quiet e = inl (new m v)
     taken m v crowded N.Response e = inl (new m v)
     taken m v crowded (N.Reset token) e = inl (new m v)
 
-    message : (m : Content) (v : Verdict) → (v.news ≡ N.Lost → KeepsMany t p S) → (b : Bool)
+    message : (m : Content) (v : Verdict) → (v.news ≡ N.Lost → KeepsMany t p d S) → (b : Bool)
         → Firstly t (Hears p d) S (cond b (given_back t p (replies m.mid v.reply) (hears_nothing t p d S)) (takes_by t p d m v n v.news S))
-        ⊎ ((cond b (given_back t p (replies m.mid v.reply) (hears_nothing t p d S)) (takes_by t p d m v n v.news S) ≡ S) × KeepsMany t p S)
+        ⊎ ((cond b (given_back t p (replies m.mid v.reply) (hears_nothing t p d S)) (takes_by t p d m v n v.news S) ≡ S) × KeepsMany t p d S)
     message m v crowded true = inl (nothing (replies m.mid v.reply))
     message m v crowded false = taken m v crowded v.news refl
 
-    read : (r : Result Content CodecFault) → Firstly t (Hears p d) S (reads_so t p d n r S) ⊎ ((reads_so t p d n r S ≡ S) × KeepsMany t p S)
-    read (Ok m) = message m (verdict_of t (link_of S.links p) m) (lost-crowded t (link_of S.links p) m) (repeats t (link_of S.links p) m)
-    read (Err e) = inl (nothing (resets (reset_for d)))
+    read : (r : Result Content CodecFault) → message_at d ≡ r → Firstly t (Hears p d) S (reads_so t p d n r S) ⊎ ((reads_so t p d n r S ≡ S) × KeepsMany t p d S)
+    read (Ok m) is =
+        message m (verdict_of t (link_of S.links p) m)
+        (λ e. let it = lost-crowded t (link_of S.links p) m e in (ap is_such_in is ∙ it.0, it.1)) (repeats t (link_of S.links p) m)
+    read (Err e) is = inl (nothing (resets (reset_for d)))
 
 none-said : (o : Option ℕ) → is_some o ≡ false → o ≡ None
 none-said None e = refl
@@ -347,7 +351,7 @@ heard-first : (t : ℕ) (p : Peer) (d : List ℕ) (n : Numbers) (S : State)
     × WhyLost t p d S)
 heard-first t p d n S = known (is_some (link_of S.links p).last_mid) refl
   where
-    lost : Firstly t (Hears p d) S (reads_so t p d n (message_at d) S) ⊎ ((reads_so t p d n (message_at d) S ≡ S) × KeepsMany t p S)
+    lost : Firstly t (Hears p d) S (reads_so t p d n (message_at d) S) ⊎ ((reads_so t p d n (message_at d) S ≡ S) × KeepsMany t p d S)
         → Firstly t (Hears p d) S (reads_so t p d n (message_at d) S) ⊎ ((reads_so t p d n (message_at d) S ≡ S)
         × WhyLost t p d S)
     lost (inl f) = inl f

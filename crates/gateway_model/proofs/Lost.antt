@@ -2,7 +2,10 @@
 use Rattle.std.proofs.Common.{◌≡◌, ◌⊎◌, inl, inr, ℕ, ◌+◌, ◌≤◌, ◌<◌, Bool, true, false, cond, List, [], ◌∷◌, ◌++◌, length, Option, Some, None, refl, sym, ◌∙◌, subst, arith, is_some, ap}
 use Rattle.std.specs.Prelude.{count_by, find}
 use Rattle.std.specs.List.{AllByRecursion, list_any}
-use Rattle.std.proofs.lemmas.Bool.{or_parts}
+use Rattle.std.specs.Prelude.{◌&&◌}
+use Rattle.std.proofs.lemmas.Bool.{and_parts, or_parts}
+use Rattle.coap_codec.proofs.Again.{message_again}
+use Rattle.coap_codec.specs.Spelling.{Content, Spells}
 use Rattle.uri_map.specs.declared.peer.Peer.{Peer}
 use Rattle.uri_map.specs.Peers.{same_peer}
 use Rattle.journal_book.specs.Entries.{Ground, Past, Asked, Sent, Heard, Deed, Opens, Asks, Sends, Hears, Passes, Answers, Shuts, Seals, Carries, Written}
@@ -10,12 +13,11 @@ use Rattle.history_laws.specs.Hearing.{is_such, is_live, live_heard, recalls, re
 use Rattle.history_laws.specs.Justified.{Legal, Follows}
 use Rattle.history_laws.specs.Readings.{Noted, Note, Plain, Begins, Renews, First, Copies, Confirms, Says, Repeats, Garbled, Bygone, Recalls, entries, Joins, Serves}
 use Rattle.history_laws.specs.Transmissions.{FirstSending, firsts, firsts_by, last_sent}
-use Rattle.history_laws.proofs.CallerLemmas.{and-right}
 use Rattle.exchange_model.specs.Reads.{Reads}
 use Rattle.exchange_model.specs.Room.{KeptInRoom}
 use Rattle.exchange_model.specs.State.{State}
 use Rattle.exchange_model.proofs.CallerLemmas.{count-cons, one}
-use Rattle.gateway_model.specs.Hearing.{IsSentElsewhere, IsStranger, IsCrowded, came_lately, is_recent_from}
+use Rattle.gateway_model.specs.Hearing.{IsSentElsewhere, IsStranger, IsCrowded, came_lately, is_recent_from, is_such_in, may_come_again}
 use Rattle.gateway_model.proofs.Heard.{WhyLost}
 
 all-push : (P : Written → Type 0) (ws : List Written) (w : Written) → AllByRecursion P ws → P w → AllByRecursion P (ws ++ w ∷ [])
@@ -80,29 +82,39 @@ strange (x ∷ l) p h e r =
 
 -- What can be repeated came in lately.
 
-live-came : (t s : ℕ) (p : Peer) (d : Deed) (note : Note) → is_live t p s d note ≡ true → came_lately t p s d ≡ true
-live-came t s p (Opens c) note e = absurd cc
-live-came t s p (Asks c a) note e = absurd cc
-live-came t s p (Sends q b w) note e = absurd cc
-live-came t s p (Hears q b) (Says m to notice) e = and-right (is_such m.kind) _ e
-live-came t s p (Hears q b) Plain e = absurd cc
-live-came t s p (Hears q b) (Begins r) e = absurd cc
-live-came t s p (Hears q b) (Renews r kept) e = absurd cc
-live-came t s p (Hears q b) (Joins o) e = absurd cc
-live-came t s p (Hears q b) (Serves js) e = absurd cc
-live-came t s p (Hears q b) (First o m) e = absurd cc
-live-came t s p (Hears q b) (Copies i) e = absurd cc
-live-came t s p (Hears q b) Confirms e = absurd cc
-live-came t s p (Hears q b) (Repeats m j) e = absurd cc
-live-came t s p (Hears q b) Garbled e = absurd cc
-live-came t s p (Hears q b) (Bygone m) e = absurd cc
-live-came t s p (Hears q b) (Recalls m a) e = absurd cc
-live-came t s p Passes note e = absurd cc
-live-came t s p (Answers c k g) note e = absurd cc
-live-came t s p (Shuts c) note e = absurd cc
-live-came t s p Seals note e = absurd cc
-live-came t s p (Carries k mark (Heard q b)) (Recalls m a) e = and-right (is_such m.kind) _ e
-live-came t s p (Carries k mark done) note e = absurd cc
+such-as : (m : Content) (b : List ℕ) → Spells m b → is_such m.kind ≡ true → may_come_again b ≡ true
+such-as m b spelled such = ap is_such_in (message_again m b spelled) ∙ such
+
+came-so : (m : Content) (b : List ℕ) (x y : Bool) → Spells m b → (is_such m.kind && (x && y)) ≡ true → (may_come_again b && (x && y)) ≡ true
+came-so m b x y spelled e =
+    let parts = and_parts (is_such m.kind) (x && y) e in
+    ap (λ (c : Bool). c && (x && y)) (such-as m b spelled parts.0) ∙ parts.1
+
+live-came : (l : List Noted) (t s : ℕ) (p : Peer) (d : Deed) (note : Note) → Follows l s d note → is_live t p s d note ≡ true
+    → came_lately t p s d ≡ true
+live-came l t s p (Opens c) note f e = absurd cc
+live-came l t s p (Asks c a) note f e = absurd cc
+live-came l t s p (Sends q b w) note f e = absurd cc
+live-came l t s p (Hears q b) (Says m to notice) f e = came-so m b (same_peer q p) _ f.3.spelled e
+live-came l t s p (Hears q b) Plain f e = absurd cc
+live-came l t s p (Hears q b) (Begins r) f e = absurd cc
+live-came l t s p (Hears q b) (Renews r kept) f e = absurd cc
+live-came l t s p (Hears q b) (Joins o) f e = absurd cc
+live-came l t s p (Hears q b) (Serves js) f e = absurd cc
+live-came l t s p (Hears q b) (First o m) f e = absurd cc
+live-came l t s p (Hears q b) (Copies i) f e = absurd cc
+live-came l t s p (Hears q b) Confirms f e = absurd cc
+live-came l t s p (Hears q b) (Repeats m j) f e = absurd cc
+live-came l t s p (Hears q b) Garbled f e = absurd cc
+live-came l t s p (Hears q b) (Bygone m) f e = absurd cc
+live-came l t s p (Hears q b) (Recalls m a) f e = absurd cc
+live-came l t s p Passes note f e = absurd cc
+live-came l t s p (Answers c k g) note f e = absurd cc
+live-came l t s p (Shuts c) note f e = absurd cc
+live-came l t s p Seals note f e = absurd cc
+live-came l t s p (Carries k Past (Heard q b)) (Recalls m a) f e = came-so m b (same_peer q p) _ f.2.spelled e
+live-came l t s p (Carries k Ground (Heard q b)) (Recalls m a) f e = came-so m b (same_peer q p) _ f.2.spelled e
+live-came l t s p (Carries k mark done) note f e = absurd cc
 
 count-push : (f : Written → Bool) (ws : List Written) (w : Written) → count_by f (ws ++ w ∷ []) ≡ count_by f ws + one (f w)
 count-push f [] w = let here = count-cons f w [] in omega (arith, here)
@@ -121,13 +133,13 @@ more-if true false n m f le = absurd (differ (f refl))
 more-if false true n m f le = omega arith
 more-if false false n m f le = omega arith
 
-pub lately : (t : ℕ) (p : Peer) (l : List Noted) → live_heard l t p ≤ count_by (is_recent_from t p) (entries l)
-lately t p [] = omega arith
-lately t p (x ∷ l) =
+pub lately : (t : ℕ) (p : Peer) (l : List Noted) → Legal l → live_heard l t p ≤ count_by (is_recent_from t p) (entries l)
+lately t p [] legal = omega arith
+lately t p (x ∷ l) legal =
     let push = count-push (is_recent_from t p) (entries l) x.written in
     rw push (more-if (is_live t p x.written.moment x.written.deed x.note) (is_recent_from t p x.written)
     (live_heard l t p) (count_by (is_recent_from t p) (entries l))
-    (live-came t x.written.moment p x.written.deed x.note) (lately t p l))
+    (live-came l t x.written.moment p x.written.deed x.note legal.2) (lately t p l legal.0))
 
 -- What the core keeps of the endpoint is what the entries say.
 
@@ -136,12 +148,12 @@ not-some None e = refl
 not-some (Some f) e = absurd cc
 
 pub why-dropped : (t : ℕ) (p : Peer) (d : List ℕ) (S : State) → KeptInRoom S → S.moment ≤ t → WhyLost t p d S
-    → IsStranger p S.entries ⊎ ((2048 < length d) ⊎ IsCrowded t p S.entries)
+    → IsStranger p S.entries ⊎ ((2048 < length d) ⊎ ((may_come_again d ≡ true) × IsCrowded t p S.entries))
 why-dropped t p d S kept le why =
     by kept.kept.reading kept.kept.rests.reads why
   where
     by : (l : List Noted) → Reads l S → WhyLost t p d S
-        → IsStranger p S.entries ⊎ ((2048 < length d) ⊎ IsCrowded t p S.entries)
+        → IsStranger p S.entries ⊎ ((2048 < length d) ⊎ ((may_come_again d ≡ true) × IsCrowded t p S.entries))
     by l r (inl unknown) =
         let none = or_parts (is_some (last_sent l p)) (list_any (recalls p) l) (sym (r.links_are p).known ∙ ap is_some unknown) in
         inl (subst (IsStranger p) r.entries_are (strange l p r.legal (not-some (last_sent l p) none.0) none.1))
@@ -149,6 +161,7 @@ why-dropped t p d S kept le why =
     by l r (inr (inr many)) =
         let now = r.moment_is in
         let live = (r.links_are p).heard.live t (omega (arith, now, le), omega (arith, now, le)) in
-        let most = lately t p l in
-        let all : 1024 ≤ count_by (is_recent_from t p) (entries l) = omega (arith, many, live, most) in
-        inr (inr (subst (IsCrowded t p) r.entries_are all))
+        let most = lately t p l r.legal in
+        let kept = many.1 in
+        let all : 1024 ≤ count_by (is_recent_from t p) (entries l) = omega (arith, kept, live, most) in
+        inr (inr (many.0, subst (IsCrowded t p) r.entries_are all))

@@ -1,11 +1,15 @@
 -- What comes in shows in the journal: a datagram, and that time went on.
 use Rattle.std.specs.Prelude.{◌≡◌, ◌⊎◌, ⊤, ℕ, ◌+◌, ◌≤◌, ◌<◌, Bool, true, false, ◌&&◌, nat_lt}
-use Rattle.std.specs.Prelude.{List, [], ◌∷◌, ◌++◌, length, count_by, Some}
+use Rattle.std.specs.Prelude.{List, [], ◌∷◌, ◌++◌, length, count_by, Some, Result, Ok, Err}
 use Rattle.std.specs.List.{AllByRecursion}
 use Rattle.limits.specs.declared.TheConstants.{EXCHANGE_LIFETIME, MAX_DATAGRAM_LEN, MAX_REMEMBERED}
+use Rattle.coap_codec.specs.Reading.{message_at}
+use Rattle.coap_codec.specs.Spelling.{Content}
+use Rattle.coap_codec.specs.declared.fault.CodecFault.{CodecFault}
 use Rattle.uri_map.specs.declared.peer.Peer.{Peer}
 use Rattle.uri_map.specs.Peers.{same_peer}
 use Rattle.journal_book.specs.Entries.{Sent, Heard, Deed, Sends, Hears, Passes, Carries, Written}
+use Rattle.history_laws.specs.Hearing.{is_such}
 use Rattle.exchange_model.specs.State.{State}
 use Rattle.exchange_model.specs.Calls.{something_due}
 use Rattle.exchange_model.specs.Growing.{at_moment}
@@ -45,12 +49,21 @@ IsSentElsewhere p _ = ⊤
 abbrev pub IsStranger : Peer → List Written → Type 0
 IsStranger p h = AllByRecursion (λ (w : Written). IsSentElsewhere p w.deed) h
 
--- In the last 247 seconds as many datagrams came in from the endpoint as can be remembered (RFC
--- 7252 section 4.5).
+-- The bytes spell a CON or NON, which alone may come again.
+abbrev pub is_such_in : Result Content CodecFault → Bool
+is_such_in (Ok m) = is_such m.kind
+is_such_in (Err fault) = false
+
+abbrev pub may_come_again : List ℕ → Bool
+may_come_again bytes = is_such_in (message_at bytes)
+
+-- In the last 247 seconds as many such came in from the endpoint as can be remembered (RFC 7252
+-- section 4.5).
 abbrev pub came_lately : ℕ → Peer → ℕ → Deed → Bool
-came_lately t p s (Hears q bytes) = same_peer q p && nat_lt t (s + EXCHANGE_LIFETIME)
+came_lately t p s (Hears q bytes) =
+    may_come_again bytes && (same_peer q p && nat_lt t (s + EXCHANGE_LIFETIME))
 came_lately t p s (Carries n mark (Heard q bytes)) =
-    same_peer q p && nat_lt t (s + EXCHANGE_LIFETIME)
+    may_come_again bytes && (same_peer q p && nat_lt t (s + EXCHANGE_LIFETIME))
 came_lately t p s _ = false
 
 abbrev pub is_recent_from : ℕ → Peer → Written → Bool
@@ -60,11 +73,13 @@ abbrev pub IsCrowded : ℕ → Peer → List Written → Type 0
 IsCrowded t p h = MAX_REMEMBERED ≤ count_by (is_recent_from t p) h
 
 -- Why a datagram is dropped: the journal takes nothing more; no message was ever sent to the
--- endpoint; it is too long; or no more of the endpoint's can be remembered.
+-- endpoint; it is too long; or it may come again, and no more of the endpoint's can be remembered.
 abbrev pub IsDropped : ℕ → Peer → List ℕ → State → State → Type 0
 IsDropped t p bytes S S1 =
     (S1.sealed ≡ true)
-    ⊎ (IsStranger p S.entries ⊎ ((MAX_DATAGRAM_LEN < length bytes) ⊎ IsCrowded t p S.entries))
+    ⊎ (IsStranger p S.entries
+    ⊎ ((MAX_DATAGRAM_LEN < length bytes)
+    ⊎ ((may_come_again bytes ≡ true) × IsCrowded t p S.entries)))
 
 -- The datagram stands in the entries that it brings, first of them, or was dropped.
 abbrev pub IsHeard : ℕ → Peer → List ℕ → State → State → List Written → Type 0
