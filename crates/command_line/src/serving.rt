@@ -12,7 +12,7 @@ const LONGEST_IDLE: u64 = 86_400;
 pub struct Serving<'a> {
     /// the file of the settings, or else standard input
     pub settings: Option<&'a str>,
-    /// the folder of the journals that are turned over, where they are kept
+    /// the folder of the journal, where it is kept
     pub journals: Option<&'a str>,
     /// each answer is noted
     pub access: bool,

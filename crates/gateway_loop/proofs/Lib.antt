@@ -5,7 +5,7 @@ pub mod Giving
 pub mod Growing
 pub mod Lines
 pub mod Moving
-pub mod Rotating
+pub mod Remembering
 pub mod Served
 pub mod Standing
 pub mod Stepping

@@ -3,7 +3,7 @@ use Rattle.std.proofs.Common.{◌≡◌, ◌≢◌, ◌⊎◌, inl, inr, ℕ, Li
 use Rattle.media_map.specs.declared.form.Form.{Form}
 use Rattle.ask_model.specs.Views.{Rules}
 use Rattle.exchange_core.specs.Values.{Outgoing}
-use Rattle.gateway_world.specs.Worlds.{WorldValue, new_world}
+use Rattle.gateway_world.specs.Worlds.{WorldValue, memory_of, new_world}
 use Rattle.gateway_loop.specs.Clients.{ClientValue, Leaves, Reads, Writes}
 use Rattle.gateway_loop.specs.declared.client.Flow.{Flow}
 use Rattle.gateway_loop.specs.declared.client.Flow.TheVariants as F
@@ -68,7 +68,7 @@ module _ (holds : Form → Form → List ℕ → List ℕ → Type 0) (takes : F
       (subst (λ (u : ClientsValue S). IsServing holds takes written gave sent heard (new_world rules) u.places m u.told) (sym none)
       (record {
         past = record { inputs = []; given = [] };
-        after = (refl, refl);
+        after = (memory_of (new_world rules), refl, refl);
         numbers = refl;
         each = λ c x at. absurd cc;
         goes = goes;

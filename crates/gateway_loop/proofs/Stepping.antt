@@ -1,20 +1,14 @@
 -- What a step of the world says, once it is known whether it was taken.
-use Rattle.std.proofs.Common.{◌≡◌, ◌-◌, ◌+◌, ℕ, zero, List, [], ◌∷◌, ◌++◌, length, take, Option, Some, None, refl, sym, ap, subst, ◌∙◌, arith, rules, length-append}
-use Rattle.std.specs.Prelude.{option_to_list}
+use Rattle.std.proofs.Common.{◌≡◌, ◌-◌, ◌+◌, ℕ, List, [], ◌∷◌, ◌++◌, length, take, Option, Some, None, refl, sym, ap, subst, ◌∙◌, arith, rules, length-append}
 use Rattle.exchange_core.specs.Values.{CoreValue}
 use Rattle.gateway_model.specs.declared.input.Happening.{Happening}
 use Rattle.gateway_model.specs.declared.input.Happening.TheVariants as H
-use Rattle.gateway_model.specs.declared.input.Output.{Output}
-use Rattle.gateway_model.specs.declared.input.When.{When}
-use Rattle.gateway_model.specs.Acts.{at}
-use Rattle.gateway_model.specs.Emissions.{emissions}
-use Rattle.gateway_model.specs.Rotating.{Rotates}
 use Rattle.gateway_world.specs.declared.engine.Step.{Step}
 use Rattle.gateway_world.specs.declared.engine.Step.TheVariants as S
 use Rattle.gateway_world.specs.Openings.{IsCounted}
 use Rattle.gateway_world.specs.Refusals.{IfTaken, IsRefused, MayBeRefused, opened_in}
-use Rattle.gateway_world.specs.Worlds.{WorldValue, IsTooMuch, served_in, when_in}
-use Rattle.gateway_loop.specs.Gateways.{IsBare, TurnsOrStays, rotation_at}
+use Rattle.gateway_world.specs.Worlds.{WorldValue, IsTooMuch, served_in}
+use Rattle.gateway_loop.specs.Gateways.{BringsNoBytes, IsBare}
 
 pub taken : {P : Type 0} (s : Step) (n : Option ℕ) → s ≡ S.Taken n → IfTaken s P → P
 taken (S.Taken m) n e h = h
@@ -31,14 +25,28 @@ refused s e h = h (subst IsRefused (sym e) tt)
 pub not-refused : (s : Step) (x : Happening) → s ≡ S.Refused → (IsRefused s → MayBeRefused x) → (MayBeRefused x → ⊥) → ⊥
 not-refused s x e may never = never (may (subst IsRefused (sym e) tt))
 
--- what brings nothing doesn't bring too much
-pub bare-fits : (x : Happening) (w : WorldValue) → IsBare x → IsTooMuch x (served_in w) → ⊥
-bare-fits H.Open w h m = absurd h
-bare-fits (H.Bytes d b) w h m = absurd h
-bare-fits (H.Datagram p b) w h m = absurd h
-bare-fits H.Tick w h m = m
-bare-fits H.Rotate w h m = m
-bare-fits (H.Close d) w h m = m
+-- so it is of more that holds where it was done
+pub taken-more : {P Q : Type 0} (s : Step) → (P → Q) → IfTaken s P → IfTaken s Q
+taken-more (S.Taken n) f h = f h
+taken-more S.Refused f h = tt
+
+-- what brings nothing brings no bytes
+
+pub bare-quiet : (x : Happening) → IsBare x → BringsNoBytes x
+bare-quiet H.Open h = tt
+bare-quiet (H.Bytes d b) h = h
+bare-quiet (H.Datagram p b) h = tt
+bare-quiet H.Tick h = tt
+bare-quiet H.Rotate h = tt
+bare-quiet (H.Close d) h = tt
+
+pub quiet-fits : (x : Happening) (w : WorldValue) → BringsNoBytes x → IsTooMuch x (served_in w) → ⊥
+quiet-fits H.Open w h m = m
+quiet-fits (H.Bytes d b) w h m = absurd h
+quiet-fits (H.Datagram p b) w h m = m
+quiet-fits H.Tick w h m = m
+quiet-fits H.Rotate w h m = m
+quiet-fits (H.Close d) w h m = m
 
 -- a place that was made last is taken away again
 pub pop-last : {A : Type 0} (xs zs : List A) (x : A) → zs ≡ xs ++ x ∷ [] → take (length zs - 1) zs ≡ xs
@@ -54,13 +62,3 @@ pop-last {A} xs zs x e =
     front : (us : List A) → take (length us) (us ++ x ∷ []) ≡ us
     front [] = refl
     front (u ∷ us) = ap (λ (ws : List A). u ∷ ws) (front us)
-
--- all that is given out for a turn of the journal is told
-pub turns-told : {R : Type 0} (when : When) (old new : WorldValue) (told : Option (Output R)) (ys : List (Output R))
-    → length ys ≡ 1 → option_to_list told ≡ ys
-    → Rotates (at (when_in old (rotation_at when)) (served_in old)) old.core (emissions ys) new.core
-    → TurnsOrStays when old told new
-turns-told {R} when old new (Some o) ys one is r =
-    subst (λ (zs : List (Output R)). Rotates (at (when_in old (rotation_at when)) (served_in old)) old.core (emissions zs) new.core) (sym is) r
-turns-told when old new None ys one is r =
-    let none : zero ≡ length ys = ap length is in absurd (omega (arith, none, one))

@@ -60,7 +60,7 @@ bare-other H.Open h e = absurd h
 bare-other (H.Bytes d b) h e = absurd h
 bare-other (H.Datagram p b) h e = absurd h
 bare-other H.Tick h e = cc
-bare-other H.Rotate h e = cc
+bare-other H.Rotate h e = absurd h
 bare-other (H.Close d) h e = cc
 
 bare-brings : (x : Happening) (c : ℕ) → IsBare x → brought_by c x ≡ []
@@ -68,7 +68,7 @@ bare-brings H.Open c h = refl
 bare-brings (H.Bytes d b) c h = absurd h
 bare-brings (H.Datagram p b) c h = refl
 bare-brings H.Tick c h = refl
-bare-brings H.Rotate c h = refl
+bare-brings H.Rotate c h = absurd h
 bare-brings (H.Close d) c h = refl
 
 bare-heard : (x : Happening) → IsBare x → heard_by x ≡ []
@@ -76,7 +76,7 @@ bare-heard H.Open h = refl
 bare-heard (H.Bytes d b) h = refl
 bare-heard (H.Datagram p b) h = absurd h
 bare-heard H.Tick h = refl
-bare-heard H.Rotate h = refl
+bare-heard H.Rotate h = absurd h
 bare-heard (H.Close d) h = refl
 
 -- It brings a datagram.

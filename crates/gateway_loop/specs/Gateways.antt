@@ -1,17 +1,15 @@
 -- What contracts see of a gateway.
-use Rattle.std.specs.Prelude.{◌≡◌, ◌⊎◌, ⊤, ℕ, [], slice_get, option_to_list, Option, Some, None}
+use Rattle.std.specs.Prelude.{◌≡◌, ⊤, ℕ, map, slice_get, Option, Some, None}
+use Rattle.journal_book.specs.Views.{item_of}
 use Rattle.exchange_model.specs.Resting.{HasConn}
-use Rattle.exchange_model.specs.State.{State}
-use Rattle.exchange_core.specs.Due.{next_tick}
 use Rattle.gateway_model.specs.declared.input.Happening.{Happening}
 use Rattle.gateway_model.specs.declared.input.Happening.TheVariants as H
-use Rattle.gateway_model.specs.declared.input.Input.{Input}
-use Rattle.gateway_model.specs.declared.input.Output.{Output}
-use Rattle.gateway_model.specs.declared.input.When.{When}
-use Rattle.gateway_model.specs.Acts.{at}
-use Rattle.gateway_model.specs.Emissions.{emissions}
-use Rattle.gateway_model.specs.Rotating.{Rotates}
-use Rattle.gateway_world.specs.Worlds.{WorldValue, IsAllAsked, served_in, when_in}
+use Rattle.gateway_world.specs.declared.engine.Step.{Step}
+use Rattle.gateway_world.specs.Giving.{IsGivenOut}
+use Rattle.gateway_world.specs.Openings.{IsCounted}
+use Rattle.gateway_world.specs.Refusals.{IfTaken, IsRefused, opened_in}
+use Rattle.gateway_world.specs.Worlds.{WorldValue, IsAllAsked, Memory, memory_of, with_memory}
+use Rattle.gateway_loop.specs.declared.leaving.Segment.{Segment}
 use Rattle.gateway_loop.specs.Places.{ClientsValue, IsWritten}
 
 pub record GatewayValue (S W : Type 0) : Type 0 where
@@ -30,34 +28,35 @@ pub record MayGoOn {S W : Type 0} (n : ℕ) (g : GatewayValue S W) : Type 0 wher
   pub may_ask : MayAsk n g
   pub asked : IsAllAsked n g.world
 
--- No exchange is open. Those of a sealed journal stay open: then nothing is due, as nobody waits for
--- any of them.
-abbrev pub IsQuiet : State → Type 0
-IsQuiet S = (S.exchanges ≡ []) ⊎ (next_tick S ≡ None)
-
--- No connection is open either: a turn waits for nothing more.
-abbrev pub IsDone : State → Type 0
-IsDone S = (S.conns ≡ []) × IsQuiet S
-
 -- It brings nothing, and no connection opens with it.
 abbrev pub IsBare : Happening → Type 0
 IsBare H.Tick = ⊤
-IsBare H.Rotate = ⊤
 IsBare (H.Close c) = ⊤
 IsBare _ = ⊥
 
-abbrev pub rotation_at : When → Input
-rotation_at when = record { moment = when.moment; word = when.word; happening = H.Rotate }
+-- It brings no bytes of a connection, so never too many.
+abbrev pub BringsNoBytes : Happening → Type 0
+BringsNoBytes (H.Bytes c bytes) = ⊥
+BringsNoBytes _ = ⊤
 
--- The world gives its journal out and goes on with the next one, or it doesn't: this is all that it
--- tells.
-abbrev pub TurnsOver : {R : Type 0} → When → WorldValue → Option (Output R) → WorldValue → Type 0
-TurnsOver when old told new =
-    Rotates (at (when_in old (rotation_at when)) (served_in old)) old.core
-    (emissions (option_to_list told)) new.core
+-- The segment that leaves memory has the number of the first entry that was held.
+abbrev pub IsNumbered : {R : Type 0} → Segment R → WorldValue → Type 0
+IsNumbered s w = s.first ≡ (memory_of w).given
 
--- .. or, where memory is refused, it tells nothing and is as it was.
-abbrev pub TurnsOrStays : {R : Type 0} → When → WorldValue → Option (Output R) → WorldValue
-    → Type 0
-TurnsOrStays when old (Some o) new = TurnsOver when old (Some o) new
-TurnsOrStays when old None new = new ≡ old
+-- The next segment of the history leaves memory, where one is given out; and nothing else changes.
+abbrev pub GivesNext : {R : Type 0} → Option (Segment R) → WorldValue → WorldValue → Type 0
+GivesNext (Some s) old new =
+    IsNumbered s old × IsGivenOut (map item_of s.entries.items) old new
+GivesNext None old new = new ≡ old
+
+-- Entries left memory, if any did, and nothing else changed.
+abbrev pub IsShorter : WorldValue → WorldValue → Type 0
+IsShorter old new = (m : Memory) × (new ≡ with_memory m old)
+
+-- An input is taken, or refused, after entries left memory, if any did.
+pub record IsTriedAfter (Taken : WorldValue → Type 0) (x : Happening) (step : Step)
+    (old new : WorldValue) : Type 0 where
+  pub memory : Memory
+  pub takes : IfTaken step (Taken (with_memory memory old))
+  pub stays : IsRefused step → new ≡ with_memory memory old
+  pub opened : IsCounted x (opened_in step) (with_memory memory old).core new.core

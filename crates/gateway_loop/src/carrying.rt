@@ -1,5 +1,5 @@
 //! A client's stream goes on as another connection of the world: so others have places while it asks
-//! nothing, and the journal can be turned over beside it.
+//! nothing.
 
 ghost use Rattle.std.specs.Prelude.{◌≡◌, true, IfOk};
 ghost use Rattle.gateway_loop.specs.Gateways.{MayGoOn};
@@ -9,6 +9,7 @@ use crate::delivery::deliver;
 use crate::gateway::{Ends, Gateway};
 use crate::host::Host;
 use crate::inputs::Passed;
+use crate::leaving::take_in;
 use crate::sockets::{Stream, Wire};
 use gateway_world::{Advanced, Happening, Input, Step, When};
 use http_edge::Memory;
@@ -70,7 +71,7 @@ impl<R: Relation, S: Stream + Drop, W: Wire + Drop> Gateway<R, S, W> {
             word: when.word,
             happening: Happening::Open,
         };
-        let Advanced { world, step } = world.advance(bank, input, outputs)?;
+        let Advanced { world, step } = take_in(world, bank, input, outputs)?;
         match step {
             Step::Taken(Some(opened)) => {
                 deliver(outputs, clients, wire);

@@ -18,6 +18,7 @@ use crate::waits::Waits;
 use std::alloc::{AllocError, Global};
 use std::collections::VecDeque;
 use std::marker::Model;
+use std::mem;
 
 /// The connections. Each has the place of its number; one that ended leaves it empty, since no
 /// number is given twice.
@@ -33,6 +34,8 @@ pub struct Clients<S> {
     pub(crate) everyone: bool,
     /// How many are there.
     pub(crate) streams: usize,
+    /// One was given up, since memory was refused.
+    refused: bool,
     /// How often something was given out, or one came.
     stamp: u64,
     /// What was given out, for who notes it.
@@ -65,6 +68,7 @@ impl<S: Stream + Drop> Clients<S> {
             line: VecDeque::new(alloc),
             everyone: false,
             streams: 0,
+            refused: false,
             stamp: 0,
             notes: Notes::new(alloc),
         }
@@ -134,16 +138,6 @@ impl<S: Stream + Drop> Clients<S> {
         }
     }
 
-    /// The next number is nobody's: its place is empty.
-    pub fn push_nobody(&mut self) -> Result<(), AllocError>
-        ensures ok { OnOk result (self.new
-            ≡ record self.old { places = self.old.places ++ None ∷ [] }) }
-        ensures unchanged { OnErr result (self.new ≡ self.old) }
-    {
-        self.places.push(None)?;
-        Ok(())
-    }
-
     /// Takes the last place away again: the next number is that of this one.
     pub fn pop(&mut self)
         ensures { self.new ≡ record self.old
@@ -166,6 +160,21 @@ impl<S: Stream + Drop> Clients<S> {
         if let Some(client) = &mut self.places[place] {
             client.close();
         }
+    }
+
+    /// The connection is given up, since memory was refused: the proxy closes it.
+    pub fn give_up(&mut self, number: u32)
+        ensures { self.new ≡ self.old }
+    {
+        self.refused = true;
+        self.close(number);
+    }
+
+    /// Whether one was given up. That is told once.
+    pub fn take_refused(&mut self) -> bool
+        ensures { self.new ≡ self.old }
+    {
+        mem::replace(&mut self.refused, false)
     }
 
     /// Bytes were given out for the connection. What tells of them is kept, where that is wanted.

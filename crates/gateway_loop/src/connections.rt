@@ -89,6 +89,11 @@ impl<R: Relation, S: Stream + Drop, W: Wire + Drop> Gateway<R, S, W> {
         }
     }
 
+    /// Whether the connection waits for no answer, though it is open.
+    pub fn is_idle(&self, number: u32) -> bool {
+        self.world.is_idle(number)
+    }
+
     /// The connection is there no more, with what is left for it.
     pub(crate) fn remove(&mut self, number: u32)
         ensures { self.new.world ≡ self.old.world }

@@ -55,7 +55,7 @@ fn deliver_one<R: Relation, S: Stream + Drop, W: Wire>(
             clients.line_up(number);
         }
         Output::GivenUp(number) => {
-            clients.close(number);
+            clients.give_up(number);
             clients.line_up(number);
         }
         // What is told of the journal is taken before.

@@ -5,6 +5,7 @@ ghost use Rattle.transformers.specs.Suits.{Suits};
 
 use crate::delivery::deliver;
 use crate::gateway::{Ends, Gateway};
+use crate::leaving::take_in;
 use crate::sockets::{Received, Stream, Wire};
 use gateway_world::{Advanced, Happening, Input, Step, When};
 use http_edge::Memory;
@@ -53,7 +54,7 @@ impl<R: Relation, S: Stream + Drop, W: Wire + Drop> Gateway<R, S, W> {
             word: when.word,
             happening: Happening::Datagram(peer, &buffer[..count]),
         };
-        let Advanced { world, step } = world.advance(bank, input, outputs)?;
+        let Advanced { world, step } = take_in(world, bank, input, outputs)?;
         match step {
             Step::Taken(_) => {
                 deliver(outputs, clients, wire);

@@ -10,6 +10,7 @@ ghost use Rattle.transformers.specs.Suits.{Suits};
 
 use crate::delivery::deliver;
 use crate::gateway::{Ends, Gateway};
+use crate::leaving::take_in;
 use crate::sockets::{Stream, Wire};
 use gateway_world::{Advanced, Happening, Input, Step, When};
 use http_edge::Memory;
@@ -46,7 +47,7 @@ impl<R: Relation, S: Stream + Drop, W: Wire + Drop> Gateway<R, S, W> {
             word: when.word,
             happening: Happening::Open,
         };
-        let Advanced { world, step } = world.advance(bank, input, outputs)?;
+        let Advanced { world, step } = take_in(world, bank, input, outputs)?;
         match step {
             Step::Taken(Some(_)) => {
                 deliver(outputs, clients, wire);
@@ -105,7 +106,7 @@ impl<R: Relation, S: Stream + Drop, W: Wire + Drop> Gateway<R, S, W> {
             word: when.word,
             happening,
         };
-        let Advanced { world, step } = world.advance(bank, input, outputs)?;
+        let Advanced { world, step } = take_in(world, bank, input, outputs)?;
         match step {
             Step::Taken(_) => {
                 deliver(outputs, clients, wire);

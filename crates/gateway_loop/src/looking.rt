@@ -37,6 +37,11 @@ impl<R: Relation, S: Stream + Drop, W: Wire + Drop> Loop<R, S, W> {
         self.gateway.world.core()
     }
 
+    /// The moment of the last turn.
+    pub fn moment(&self) -> u64 {
+        self.rest.moment
+    }
+
     /// The wire.
     pub fn wire(&self) -> &W
         ensures { result.now ≡ self.now.gateway.wire }

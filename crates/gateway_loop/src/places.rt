@@ -28,11 +28,6 @@ impl<R: Relation, S: Stream + Drop, W: Wire + Drop> Gateway<R, S, W> {
         self.world.core().conns().len() < MOST_OPEN
     }
 
-    /// The number of the connection with this place among those that the world has.
-    pub fn conn_at(&self, place: usize) -> Option<u32> {
-        Some(self.world.core().conns().get(place)?.id)
-    }
-
     /// Whether the stream of the connection is parked, and asks nothing.
     pub fn is_asleep(&self, number: u32) -> bool {
         let clients = &self.ends.clients;
@@ -152,13 +147,13 @@ impl<R: Relation, S: Stream + Drop, W: Wire + Drop> Loop<R, S, W> {
 
     /// Whether one waits for a place who may get one.
     pub(crate) fn has_waiting(&self) -> bool {
-        self.rest.turning.is_none() && !self.rest.full && self.rest.queue.len() > 0
+        !self.rest.full && self.rest.queue.len() > 0
     }
 
     /// Whether there may be one for whom there is a place.
     fn may_seat(&self) -> bool {
         let waits = self.rest.queue.len() > 0 || self.takes_clients();
-        self.rest.turning.is_none() && !self.rest.full && waits
+        !self.rest.full && waits
     }
 
     /// Gives places to those who wait for them, some of them: by turns to who waits longest of those

@@ -7,13 +7,12 @@ ghost use Rattle.transformers.specs.Suits.{Suits};
 use crate::farewells::Farewells;
 use crate::gateway::Gateway;
 use crate::host::{Host, Sign};
+use crate::leaving::Held;
 use crate::patience::{GivenUp, Patience};
 use crate::sockets::{Stream, Wire};
-use crate::turning::{LOOK, Turning};
 use crate::waiting::Waiting;
 use gateway_world::When;
 use http_edge::Memory;
-use journal_book::Journal;
 use std::alloc::AllocError;
 use transformers::{Bank, Relation};
 
@@ -41,7 +40,7 @@ pub enum Stop {
     Clock,
     /// Signs can't be waited for.
     Wait,
-    /// No numbers are left for the next journal.
+    /// Numbers are spent: nothing leaves memory any more, and it can hardly hold more.
     Spent,
 }
 
@@ -56,7 +55,7 @@ fn sooner(a: Option<u64>, b: Option<u64>) -> Option<u64> {
 
 /// What the loop keeps beside its gateway.
 #[derive(Drop)]
-pub(crate) struct Rest<R: Relation> {
+pub(crate) struct Rest {
     pub(crate) farewells: Farewells,
     pub(crate) buffer: Vec<u8>,
     /// The moment of the last turn.
@@ -83,11 +82,11 @@ pub(crate) struct Rest<R: Relation> {
     pub(crate) patience: Patience,
     /// The moment at which connections are looked at again.
     pub(crate) sweeps: u64,
-    /// The journal is nearly full, and is to be turned over.
-    pub(crate) turning: Option<Turning>,
-    /// The journal that was turned over last.
-    pub(crate) journal: Option<Journal<R>>,
-    /// No numbers are left for the next journal.
+    /// The moment at which whoever drives the loop looks at it again, if that is known.
+    looks: Option<u64>,
+    /// How much of the history is held.
+    pub(crate) held: Held,
+    /// Numbers are spent: nothing of it leaves memory any more.
     pub(crate) spent: bool,
     /// Those that were given up in the last turn.
     pub(crate) given_up: Vec<GivenUp>,
@@ -98,12 +97,17 @@ pub(crate) struct Rest<R: Relation> {
 pub struct Loop<R: Relation, S: Stream, W: Wire> {
     pub(crate) gateway: Gateway<R, S, W>,
     /// In a place of its own, so that who hands a loop on moves little.
-    pub(crate) rest: Box<Rest<R>>,
+    pub(crate) rest: Box<Rest>,
 }
 
 impl<R: Relation, S: Stream + Drop, W: Wire + Drop> Loop<R, S, W> {
-    /// A loop that looks at everything first, and bears so long with its clients.
-    pub fn new(gateway: Gateway<R, S, W>, patience: Patience) -> Result<Loop<R, S, W>, AllocError>
+    /// A loop that looks at everything first, bears so long with its clients, and holds so much of
+    /// its history.
+    pub fn new(
+        gateway: Gateway<R, S, W>,
+        patience: Patience,
+        held: Held,
+    ) -> Result<Loop<R, S, W>, AllocError>
         ensures { IfOk result (λ l. l.gateway ≡ gateway) }
     {
         let alloc = gateway.alloc();
@@ -123,8 +127,8 @@ impl<R: Relation, S: Stream + Drop, W: Wire + Drop> Loop<R, S, W> {
             parked: Waiting::new(alloc),
             patience,
             sweeps: 0,
-            turning: None,
-            journal: None,
+            looks: None,
+            held,
             spent: false,
             given_up: Vec::new(alloc),
         };
@@ -139,7 +143,7 @@ impl<R: Relation, S: Stream + Drop, W: Wire + Drop> Loop<R, S, W> {
     pub fn wait<H: Host<S>>(&mut self, host: &mut H) -> Result<(), Stop>
         ensures { self.new.gateway ≡ self.old.gateway }
     {
-        if self.rest.spent {
+        if self.rest.spent && self.gateway.is_nearly_full() {
             return Err(Stop::Spent);
         }
         if !host.wait(self.longest_wait()) {
@@ -164,6 +168,7 @@ impl<R: Relation, S: Stream + Drop, W: Wire + Drop> Loop<R, S, W> {
         let it = it.seat_all(bank, host)?;
         let it = it.hear_all(bank, host)?;
         let mut it = it.go_on(bank, host)?;
+        it.gateway.let_go();
         it.rest.due = it.gateway.next_due();
         // Mostly that is all, and then the loop isn't handed on to whoever would only look.
         if it.is_over() {
@@ -174,9 +179,7 @@ impl<R: Relation, S: Stream + Drop, W: Wire + Drop> Loop<R, S, W> {
 
     /// Whether nothing else is due in this turn.
     fn is_over(&self) -> bool {
-        let waits = self.rest.turning.is_some() || self.gateway.is_nearly_full();
         !self.is_time(self.rest.due)
-            && !waits
             && self.rest.moment < self.rest.sweeps
             && !self.rest.farewells.any_over(self.rest.moment)
     }
@@ -188,23 +191,28 @@ impl<R: Relation, S: Stream + Drop, W: Wire + Drop> Loop<R, S, W> {
     {
         let it = self.end_farewells(bank, host)?;
         let it = it.pass(bank, host)?;
-        let it = it.sweep(bank, host)?;
-        let mut it = it.see_to_journal(bank, host)?;
+        let mut it = it.sweep(bank, host)?;
         it.rest.due = it.gateway.next_due();
         Ok(it)
     }
 
+    /// The loop waits no longer than until then, if anything, so that who drives it looks at it.
+    pub fn look_again(&mut self, moment: Option<u64>)
+        ensures { self.new.gateway ≡ self.old.gateway }
+    {
+        self.rest.looks = moment;
+    }
+
     /// How long to wait: not at all where something is left to do, else until the next tick is due,
-    /// a farewell is over, clients are taken again, or connections are looked at whose journal is
-    /// turned over.
+    /// a farewell is over, clients are taken again, connections are looked at, or the loop is.
     fn longest_wait(&self) -> Option<u64> {
         if self.rest.wire || self.gateway.have_turns() || self.has_waiting() {
             return Some(0);
         }
-        let resumes = match self.rest.turning {
-            Some(turning) => Some(turning.again.max(self.rest.moment.saturating_add(LOOK))),
-            None if self.wants_clients() => Some(self.rest.resumes),
-            None => None,
+        let resumes = if self.wants_clients() {
+            Some(self.rest.resumes)
+        } else {
+            None
         };
         let sweeps = if self.gateway.streams() > 0 {
             Some(self.rest.sweeps)
@@ -214,6 +222,7 @@ impl<R: Relation, S: Stream + Drop, W: Wire + Drop> Loop<R, S, W> {
         let due = self.rest.due.map(|due| due.max(self.rest.again));
         let until = sooner(due, self.rest.farewells.next_due());
         let until = sooner(until, sweeps);
+        let until = sooner(until, self.rest.looks);
         let until = sooner(until, resumes)?;
         Some(until.saturating_sub(self.rest.moment).min(LONGEST))
     }

@@ -46,7 +46,7 @@ A gateway from HTTP/1.1 to CoAP.
   demo ADDRESS:PORT       .. and takes connections there
   serve FILE              runs the gateway by the settings of FILE, or of standard input without FILE
   serve FILE --journals FOLDER
-                          .. and writes each journal that is full to a file in FOLDER
+                          .. and writes what happens to files in FOLDER, within a second
   serve FILE --access     .. and notes each answer: who asked for what, and what came of it
   serve FILE --idle SECONDS
                           .. and waits so long for a client that stands still in a request, or doesn't

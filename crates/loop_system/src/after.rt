@@ -2,52 +2,43 @@
 
 ghost use Rattle.std.specs.Prelude.{◌≡◌};
 
-use crate::archive::Archive;
 use crate::client::Client;
 use crate::devices::Devices;
 use crate::glass::Glass;
 use crate::host::Arrival;
 use crate::notes::Notes;
-use crate::shelf::Shelf;
+use crate::outlet::Outlet;
 use gateway_loop::Loop;
-use journal_book::Journal;
 use log::Log;
 use route_bank::Profile;
 use std::alloc::Global;
 use std::rt::Clock;
-use std::sync::{Arc, Wait};
+use std::sync::Wait;
 use std::thread::Threads;
 
 /// What is done after each turn.
 #[derive(Drop)]
-pub struct After<'a, A: Archive<Profile> + Drop> {
+pub struct After<'a> {
     alloc: Global,
-    archive: Arc<A>,
     /// through which the gateway is looked at, if it is
     glass: Option<&'a Glass>,
     notes: Notes<'a>,
-    shelf: Shelf,
+    outlet: Outlet,
 }
 
-impl<'a, A: Archive<Profile> + Drop + Send + Sync + 'static> After<'a, A> {
+impl<'a> After<'a> {
     /// Nothing was done yet. Answers are noted, where that is wanted, and counted, where there is a
     /// glass.
-    pub fn new(
-        alloc: Global,
-        archive: Arc<A>,
-        glass: Option<&'a Glass>,
-        access: bool,
-    ) -> After<'a, A> {
+    pub fn new(alloc: Global, outlet: Outlet, glass: Option<&'a Glass>, access: bool) -> After<'a> {
         let watch = match glass {
             Some(glass) => Some(&glass.watch),
             None => None,
         };
         After {
             alloc,
-            archive,
             glass,
             notes: Notes::new(alloc, access, watch),
-            shelf: Shelf::new(),
+            outlet,
         }
     }
 
@@ -60,50 +51,31 @@ impl<'a, A: Archive<Profile> + Drop + Send + Sync + 'static> After<'a, A> {
         }
     }
 
-    /// Notes what was done in the turn, gives the journal to the archive where it was turned over,
+    /// Notes what was done in the turn, lets the first entries leave memory, where too many are held,
     /// and answers who looks.
-    pub fn look<V: Threads + Wait + Log + Clock>(
+    pub fn look<V: Wait + Log + Clock>(
         &mut self,
         rt: &V,
         it: &mut Loop<Profile, Client, Devices>,
         arrivals: &[Arrival],
     )
-        ensures { it.new.gateway.world ≡ it.old.gateway.world }
+        ensures { it.new.gateway.world.rules ≡ it.old.gateway.world.rules }
     {
-        if it.is_turning() {
-            self.shelf.look(rt);
+        if self.notes.wants(it, arrivals) {
+            self.notes.look(rt, it, arrivals);
         }
-        let journal = it.take_journal();
-        self.note(rt, it, arrivals, journal);
         it.forget_told();
+        self.outlet.look(rt, it);
         self.show(rt, it);
     }
 
-    /// Notes what was done in the turn, after which this journal was given out, if one was.
-    fn note<V: Threads + Wait + Log + Clock>(
+    /// The loop ends: all is kept that it holds.
+    pub fn end<V: Threads + Wait + Log + Clock>(
         &mut self,
         rt: &V,
-        it: &Loop<Profile, Client, Devices>,
-        arrivals: &[Arrival],
-        journal: Option<Journal<Profile>>,
+        it: Option<&Loop<Profile, Client, Devices>>,
     ) {
-        match journal {
-            Some(journal) => {
-                self.notes.look(rt, it, arrivals, &journal);
-                self.notes.begin_anew();
-                self.shelf.keep(rt, &self.archive, journal);
-            }
-            None => {
-                if self.notes.wants(it, arrivals) {
-                    self.notes.look(rt, it, arrivals, it.core().journal());
-                }
-            }
-        }
-    }
-
-    /// The loop ends: the archive has kept the last journal that was turned over then, and this one.
-    pub fn end<V: Threads>(&mut self, rt: &V, journal: Option<&Journal<Profile>>) {
-        self.shelf.end(rt, &self.archive, journal);
+        self.outlet.end(rt, it);
     }
 
     /// Answers who looks, if anybody does.

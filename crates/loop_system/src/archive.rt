@@ -1,19 +1,26 @@
-//! Where journals go that are turned over.
+//! Where the history goes.
 
-use journal_book::Journal;
+use journal_book::Entry;
 use transformers::Relation;
 
-/// Where journals go that are turned over.
+/// Where the history goes, entry by entry.
 pub trait Archive<R: Relation> {
-    /// Keeps the journal with this number, counted from 1. Where it can't, it says so itself, and
-    /// nothing stops.
-    fn keep(&self, number: u64, journal: &Journal<R>);
+    /// Whether it keeps anything.
+    fn keeps(&self) -> bool;
+
+    /// Keeps entries, the first of which has this number. Those before them that never came are lost.
+    /// Where it can't, it says so itself, and nothing stops.
+    fn keep(&mut self, first: usize, entries: &[Entry<R>]);
 }
 
 /// An archive that keeps nothing.
-#[derive(Clone, Copy, Debug)]
+#[derive(Clone, Copy, Debug, Drop)]
 pub struct NoArchive;
 
 impl<R: Relation> Archive<R> for NoArchive {
-    fn keep(&self, _number: u64, _journal: &Journal<R>) {}
+    fn keeps(&self) -> bool {
+        false
+    }
+
+    fn keep(&mut self, _first: usize, _entries: &[Entry<R>]) {}
 }

@@ -29,10 +29,11 @@ pub fn figures_of<R: Relation>(
     let mut exchanges: Vec<Exchange> = Vec::new(alloc);
     exchanges.extend_from_slice(core.exchanges())?;
     let conns = core.conns();
+    let journal = core.journal();
     Ok(Figures {
         connections: conns.len(),
         asking: asking_count(conns),
-        entries: core.journal().len(),
+        entries: journal.len().saturating_sub(journal.given()),
         bytes: core.bytes(),
         stored: core.stored_count(),
         exchanges,

@@ -33,8 +33,6 @@ enum Reply {
     /// The search has to go on.
     Going(Search),
     About(Vec<Numbered<Profile>>),
-    /// The journal is turned over.
-    Turning,
     /// Memory was refused.
     Memory,
 }
@@ -53,7 +51,6 @@ pub struct Glass {
     payloads: Payloads,
     /// wakes the loop
     waker: Waker,
-    turning: AtomicBool,
     /// something is asked
     asked: AtomicBool,
     /// held by the one who asks
@@ -69,7 +66,6 @@ impl Glass {
             watch,
             payloads,
             waker,
-            turning: AtomicBool::new(false),
             asked: AtomicBool::new(false),
             asks: Mutex::new(false),
             slot: Mutex::new(Slot {
@@ -82,10 +78,6 @@ impl Glass {
 
     /// Answers what is asked, as the loop is now.
     pub fn answer<W: Wait>(&self, rt: &W, alloc: Global, it: &Loop<Profile, Client, Devices>) {
-        let turning = it.is_turning();
-        if turning != self.turning.load(Ordering::SeqCst) {
-            self.turning.store(turning, Ordering::SeqCst);
-        }
         if !self.asked.load(Ordering::SeqCst) {
             return;
         }
@@ -145,7 +137,6 @@ fn reply_to(
     let core = it.core();
     match question {
         Question::Figures => Ok(Reply::Figures(figures_of(alloc, core, it.wire())?)),
-        _ if it.is_turning() => Ok(Reply::Turning),
         Question::From(from) => {
             let entries = Vec::with_capacity(alloc, MOST_COPIED)?;
             Ok(Reply::From(extract_of(core.journal(), from, entries)?))
@@ -175,11 +166,7 @@ impl Shown for Glass {
     }
 
     fn phase<W: Wait>(&self, _rt: &W) -> Phase {
-        if self.turning.load(Ordering::SeqCst) {
-            Phase::Turning
-        } else {
-            Phase::Serving
-        }
+        Phase::Serving
     }
 
     fn figures<W: Wait>(&self, rt: &W, _alloc: Global) -> Result<Figures, AllocError> {
@@ -197,7 +184,6 @@ impl Shown for Glass {
     ) -> Result<Option<Extract<Profile>>, AllocError> {
         match self.ask(rt, Question::From(from)) {
             Reply::From(extract) => Ok(Some(extract)),
-            Reply::Turning => Ok(None),
             _ => Err(AllocError),
         }
     }
@@ -210,16 +196,11 @@ impl Shown for Glass {
         number: usize,
     ) -> Result<Option<Vec<Numbered<Profile>>>, AllocError> {
         let mut search = Search::new(alloc, number)?;
-        let turned = self.watch.turned();
         'each: for _ in 0..MOST_GOES {
             let reply = self.ask(rt, Question::About(search));
-            if self.watch.turned() != turned {
-                return Ok(None);
-            }
             match reply {
                 Reply::Going(rest) => search = rest,
                 Reply::About(found) => return Ok(Some(found)),
-                Reply::Turning => return Ok(None),
                 _ => return Err(AllocError),
             }
         }

@@ -13,9 +13,9 @@ mod figures;
 mod glass;
 mod host;
 mod notes;
+mod outlet;
 mod ports;
 mod server;
-mod shelf;
 
 pub use archive::{Archive, NoArchive};
 pub use gateway_window::{Options, Payloads};

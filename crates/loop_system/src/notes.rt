@@ -3,24 +3,37 @@
 use crate::client::Client;
 use crate::devices::Devices;
 use crate::host::Arrival;
+use ask_model::Mapped;
 use gateway_loop::{GivenUp, Loop, Told, Why};
 use gateway_window::{Given, Line, Watch, heading_of};
-use journal_book::{Event, Journal};
+use journal_book::{Entry, Event, Grounds, Journal};
 use log::{Log, info, warn};
+use route_bank::Profile;
 use std::alloc::{AllocError, Global};
 use std::collections::VecDeque;
 use std::net::SocketAddr;
 use std::rt::Clock;
-use std::sync::Wait;
-use transformers::Relation;
+use std::sync::{Arc, Wait};
+
+/// An answer that was told, and isn't noted yet: what its line needs of two entries, which may leave
+/// memory until then.
+#[derive(Drop)]
+struct Answer {
+    /// the entry of the request, and what was asked
+    ask: u32,
+    asked: Arc<Mapped<Profile>>,
+    grounds: Grounds,
+    /// how long it took, in milliseconds
+    time: u64,
+}
 
 /// One who is connected.
 #[derive(Drop)]
 struct Seat {
     number: u32,
     address: SocketAddr,
-    /// the entries of its answers that weren't noted yet
-    answers: VecDeque<usize>,
+    /// its answers that weren't noted yet
+    answers: VecDeque<Answer>,
 }
 
 /// Notes and counts what the loop does, as far as that is wanted.
@@ -61,17 +74,16 @@ impl<'a> Notes<'a> {
     }
 
     /// Whether anything is to be noted or counted of the last turn, in which these came.
-    pub fn wants<R: Relation>(&self, it: &Loop<R, Client, Devices>, arrivals: &[Arrival]) -> bool {
+    pub fn wants(&self, it: &Loop<Profile, Client, Devices>, arrivals: &[Arrival]) -> bool {
         self.wants_told() || !arrivals.is_empty() || !it.given_up().is_empty()
     }
 
-    /// Notes what was done since it looked last, of which this journal tells.
-    pub fn look<R: Relation, V: Wait + Log + Clock>(
+    /// Notes what was done since it looked last.
+    pub fn look<V: Wait + Log + Clock>(
         &mut self,
         rt: &V,
-        it: &Loop<R, Client, Devices>,
+        it: &Loop<Profile, Client, Devices>,
         arrivals: &[Arrival],
-        journal: &Journal<R>,
     ) {
         'given_up: for given_up in it.given_up() {
             note_given_up(rt, *given_up);
@@ -80,26 +92,18 @@ impl<'a> Notes<'a> {
         if !self.wants_told() {
             return;
         }
+        let journal = it.core().journal();
         let count = journal.len();
         if !it.told().is_empty() {
             self.add_answers(journal);
         }
         'told: for told in it.told() {
-            self.note_told(rt, journal, told);
+            self.note_told(rt, told);
         }
         'shut: for place in self.seen..count {
             self.unseat(journal, place);
         }
         self.seen = count;
-    }
-
-    /// Another journal begins, when the world has no connection.
-    pub fn begin_anew(&mut self) {
-        self.seats.clear();
-        self.seen = 0;
-        if let Some(watch) = self.watch {
-            watch.count_turned();
-        }
     }
 
     /// Those who came are connected or were turned away; the next has this number.
@@ -138,15 +142,15 @@ impl<'a> Notes<'a> {
         Ok(())
     }
 
-    /// The entries of the answers that were given out stand in the order of each connection's answers.
-    fn add_answers<R: Relation>(&mut self, journal: &Journal<R>) {
+    /// The answers that were told stand in the order of each connection's answers.
+    fn add_answers(&mut self, journal: &Journal<Profile>) {
         'each: for place in self.seen..journal.len() {
             self.add_answer(journal, place);
         }
     }
 
     /// An entry that is an answer is one of its connection.
-    fn add_answer<R: Relation>(&mut self, journal: &Journal<R>, place: usize) {
+    fn add_answer(&mut self, journal: &Journal<Profile>, place: usize) {
         let Some(entry) = journal.get(place) else {
             return;
         };
@@ -155,25 +159,27 @@ impl<'a> Notes<'a> {
         };
         'each: for seat in self.seats.iter_mut() {
             if seat.number == *conn {
-                let _ = seat.answers.push_back(place);
+                if let Some(answer) = answer_of(journal, entry) {
+                    let _ = seat.answers.push_back(answer);
+                }
                 return;
             }
         }
     }
 
-    /// Who is connected under this number, and the entry of the next of its answers, which is noted.
-    fn take_answer(&mut self, number: u32) -> Option<(SocketAddr, usize)> {
+    /// Who is connected under this number, and the next of its answers, which is noted.
+    fn take_answer(&mut self, number: u32) -> Option<(SocketAddr, Answer)> {
         'each: for seat in self.seats.iter_mut() {
             if seat.number == number {
-                let place = seat.answers.pop_front()?;
-                return Some((seat.address, place));
+                let answer = seat.answers.pop_front()?;
+                return Some((seat.address, answer));
             }
         }
         None
     }
 
     /// One is connected no more whose connection was closed by this entry.
-    fn unseat<R: Relation>(&mut self, journal: &Journal<R>, place: usize) {
+    fn unseat(&mut self, journal: &Journal<Profile>, place: usize) {
         let Some(entry) = journal.get(place) else {
             return;
         };
@@ -184,63 +190,62 @@ impl<'a> Notes<'a> {
     }
 
     /// Notes and counts what was given out, if it is an answer: the next one of its connection.
-    fn note_told<R: Relation, V: Wait + Log + Clock>(
-        &mut self,
-        rt: &V,
-        journal: &Journal<R>,
-        told: &Told,
-    ) {
+    fn note_told<V: Wait + Log + Clock>(&mut self, rt: &V, told: &Told) {
         if heading_of(&told.head).status < FIRST_STATUS {
             return;
         }
-        if let Some((client, place)) = self.take_answer(told.number) {
-            self.note(rt, journal, place, told, client);
+        if let Some((client, answer)) = self.take_answer(told.number) {
+            self.note(rt, &answer, told, client);
         }
     }
 
-    /// Notes and counts the answer with this entry.
-    fn note<R: Relation, V: Wait + Log + Clock>(
+    /// Notes and counts the answer.
+    fn note<V: Wait + Log + Clock>(
         &self,
         rt: &V,
-        journal: &Journal<R>,
-        place: usize,
+        answer: &Answer,
         told: &Told,
         client: SocketAddr,
     ) {
-        let Some(entry) = journal.get(place) else {
-            return;
-        };
-        let Event::Answered { conn, ask, grounds } = &entry.event else {
-            return;
-        };
-        let Some(request) = journal.get(*ask as usize) else {
-            return;
-        };
-        let Event::Asked(_, mapped) = &request.event else {
-            return;
-        };
         let heading = heading_of(&told.head);
         let given = Given {
-            came: mapped.came(),
-            peer: mapped.peer(),
-            grounds,
+            came: answer.asked.came(),
+            peer: answer.asked.peer(),
+            grounds: &answer.grounds,
             status: heading.status,
             cause: heading.cause,
             count: Some(told.count),
         };
         if let Some(watch) = self.watch {
-            watch.count_answer(rt, &given, *ask);
+            watch.count_answer(rt, &given, answer.ask);
         }
         if self.access {
             let line = Line {
                 client,
-                conn: *conn,
-                time: entry.moment.saturating_sub(request.moment),
+                conn: told.number,
+                time: answer.time,
                 given,
             };
             info!(rt; target: "access", "{line}");
         }
     }
+}
+
+/// What the line of the answer with this entry needs. None where memory is refused for it.
+fn answer_of(journal: &Journal<Profile>, entry: &Entry<Profile>) -> Option<Answer> {
+    let Event::Answered { ask, grounds, .. } = &entry.event else {
+        return None;
+    };
+    let request = journal.get(*ask as usize)?;
+    let Event::Asked(_, asked) = &request.event else {
+        return None;
+    };
+    Some(Answer {
+        ask: *ask,
+        asked: Arc::try_clone(asked).ok()?,
+        grounds: grounds.copy().ok()?,
+        time: entry.moment.saturating_sub(request.moment),
+    })
 }
 
 /// Notes that a connection was closed since its client didn't go on.

@@ -10,11 +10,11 @@ use crate::client::Client;
 use crate::devices::Devices;
 use crate::glass::Glass;
 use crate::host::{System, waker_of, watched};
+use crate::outlet::Outlet;
 use crate::ports::Ports;
 use ask_model::Settings;
-use gateway_loop::{Gateway, Loop, Patience, Stop};
+use gateway_loop::{Gateway, Held, Loop, Patience, Stop};
 use gateway_window::{Options, Watch, show_all};
-use gateway_world::RotateFault;
 use http_edge::Memory;
 use log::{Log, info, warn};
 use mio::Poll;
@@ -34,16 +34,22 @@ const LONGEST_HEAD: u64 = 60_000;
 /// How many clients may be connected.
 const MOST_CONNECTIONS: usize = 4096;
 
+/// How much of its history the gateway holds.
+const HELD: Held = Held {
+    entries: 32_768,
+    bytes: 67_108_864,
+};
+
 /// Runs the gateway at these ports, as the options say, until the clock fails, signs can't be waited
-/// for, memory is refused or the numbers of its journals are spent.
+/// for, memory is refused or the numbers of its history are spent.
 ///
-/// Each time that the journal is nearly full it is turned over and given to the archive, with the
-/// number of those before it and it, in a thread of its own; so is the last one as the gateway stops,
-/// unless memory is refused. Where there is a window, those who look are served by threads too.
+/// What happens is given to the archive, entry by entry, by a thread of its own for which nothing
+/// waits, within a second; and so is what is left as the gateway stops, unless memory is refused.
+/// Where there is a window, those who look are served by threads too.
 pub fn run<
     N: Net,
     W: Threads + Wait + Log + Clock + RandomSource + Copy + Drop + Send + Sync + 'static,
-    A: Archive<Profile> + Drop + Send + Sync + 'static,
+    A: Archive<Profile> + Drop + Send + 'static,
 >(
     net: &N,
     rt: W,
@@ -63,7 +69,7 @@ pub fn run<
 fn run_with_bank<
     N: Net,
     W: Threads + Wait + Log + Clock + RandomSource + Copy + Drop + Send + Sync + 'static,
-    A: Archive<Profile> + Drop + Send + Sync + 'static,
+    A: Archive<Profile> + Drop + Send + 'static,
 >(
     net: &N,
     rt: W,
@@ -93,7 +99,7 @@ fn run_with_bank<
 fn run_on<
     N: Net,
     W: Threads + Wait + Log + Clock + RandomSource + Copy + Drop + Send + Sync + 'static,
-    A: Archive<Profile> + Drop + Send + Sync + 'static,
+    A: Archive<Profile> + Drop + Send + 'static,
 >(
     net: &N,
     rt: W,
@@ -123,9 +129,9 @@ fn run_on<
     };
     let mut host = System::new(rt, alloc, poll, listener, begin)?;
     let gateway: Gateway<Profile, Client, Devices> = Gateway::new(alloc, settings, devices)?;
-    let it = Loop::new(gateway, patience_of(options))?;
-    let archive = Arc::new(alloc, archive)?;
-    let after = After::new(alloc, archive, seen(&glass), options.access);
+    let it = Loop::new(gateway, patience_of(options), HELD)?;
+    let outlet = Outlet::new(rt, alloc, archive)?;
+    let after = After::new(alloc, outlet, seen(&glass), options.access);
     Ok(go_on(&rt, it, bank, &mut host, after))
 }
 
@@ -192,16 +198,12 @@ fn start_window<W: Threads + Wait + Clock + Copy + Drop + Send + Sync + 'static>
 }
 
 /// Turns until it can't go on, and tells why.
-fn go_on<
-    V: Threads + Wait + Log + Clock,
-    W: Clock + RandomSource + Drop,
-    A: Archive<Profile> + Drop + Send + Sync + 'static,
->(
+fn go_on<V: Threads + Wait + Log + Clock, W: Clock + RandomSource + Drop>(
     rt: &V,
     it: Loop<Profile, Client, Devices>,
     bank: &Bank<Profile>,
     host: &mut System<W>,
-    after: After<'_, A>,
+    after: After<'_>,
 ) -> ServeFault
     requires { Suits profile_holds profile_takes it.gateway.world.rules.routes bank.now }
 {
@@ -211,7 +213,7 @@ fn go_on<
     'each: for _ in 0..u64::MAX {
         if let Err(stop) = it.wait(host) {
             note_stop(rt, stop);
-            after.end(rt, Some(it.core().journal()));
+            after.end(rt, Some(&it));
             return ServeFault::Stopped;
         }
         it = match it.turn(bank, host) {
@@ -230,6 +232,6 @@ fn go_on<
 /// Notes why the loop ends, where its end doesn't tell.
 fn note_stop<V: Log>(rt: &V, stop: Stop) {
     if stop == Stop::Spent {
-        warn!(rt; target: "hcproxy", "the journal isn't turned over: {}", RotateFault::Spent);
+        warn!(rt; target: "hcproxy", "the journal takes nothing more: its numbers are spent");
     }
 }

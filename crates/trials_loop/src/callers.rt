@@ -9,9 +9,8 @@ use std::cell::Cell;
 pub struct Caller {
     asks: &'static [u8],
     gets: &'static [u8],
-    /// It asks no more while a journal is being turned over, and takes each answer at once, of which
-    /// it knows how it begins.
-    patient: bool,
+    /// How often it asks.
+    most: usize,
     /// Under which number it is watched, and how often that changed.
     number: Cell<u32>,
     renamed: Cell<usize>,
@@ -22,19 +21,17 @@ pub struct Caller {
     answered: Cell<usize>,
     got: Cell<usize>,
     wrong: Cell<bool>,
-    /// How often it asks.
-    most: Cell<usize>,
     /// It ended, and its connection is gone.
     ended: Cell<bool>,
     gone: Cell<bool>,
 }
 
 impl Caller {
-    pub fn new(asks: &'static [u8], gets: &'static [u8], patient: bool) -> Caller {
+    pub fn new(asks: &'static [u8], gets: &'static [u8], most: usize) -> Caller {
         Caller {
             asks,
             gets,
-            patient,
+            most,
             number: Cell::new(0),
             renamed: Cell::new(0),
             asked: Cell::new(0),
@@ -42,7 +39,6 @@ impl Caller {
             answered: Cell::new(0),
             got: Cell::new(0),
             wrong: Cell::new(false),
-            most: Cell::new(usize::MAX),
             ended: Cell::new(false),
             gone: Cell::new(false),
         }
@@ -53,31 +49,18 @@ impl Caller {
         self.gone.get()
     }
 
-    /// It asks so often besides.
-    fn ask_on(&self, more: usize) {
-        self.most.set(self.asked.get().saturating_add(more));
-    }
-
     /// It was answered as often as it asked.
     fn is_answered(&self) -> bool {
         self.answered.get() == self.asked.get()
     }
 
-    /// It takes an answer at once.
-    fn take(&self, bytes: &[u8]) {
-        if !bytes.starts_with(self.gets) || !bytes.ends_with(b"\r\n\r\n") {
-            self.wrong.set(true);
-        }
-        self.answered.set(self.answered.get().saturating_add(1));
-    }
-
-    /// It was answered as often as it asked, and got nothing else; its connection was carried on
-    /// once, and is gone since it ended.
+    /// It was answered as often as it asks, and got nothing else; its connection stayed the same, and
+    /// is gone since it ended.
     pub fn is_served(&self) -> bool {
         !self.wrong.get()
-            && self.is_answered()
+            && self.answered.get() == self.most
             && self.got.get() == 0
-            && self.renamed.get() == 1
+            && self.renamed.get() == 0
             && self.ended.get()
             && self.gone.get()
     }
@@ -107,8 +90,8 @@ impl Stream for Line<'_> {
 
     fn read(&mut self, buffer: &mut [u8]) -> Moved {
         let caller = self.caller;
-        if caller.sent.get() == 0 && caller.asked.get() >= caller.most.get() {
-            let done = caller.is_answered() && caller.renamed.get() > 0;
+        if caller.sent.get() == 0 && caller.asked.get() >= caller.most {
+            let done = caller.is_answered();
             caller.ended.set(done);
             return if done { Moved::End } else { Moved::Later };
         }
@@ -129,10 +112,6 @@ impl Stream for Line<'_> {
 
     fn write(&mut self, bytes: &[u8]) -> Moved {
         let caller = self.caller;
-        if caller.patient {
-            caller.take(bytes);
-            return Moved::Bytes(bytes.len());
-        }
         let rest = caller.gets.get(caller.got.get()..).unwrap_or(&[]);
         let count = self.dice.below(bytes.len() + 1).min(rest.len());
         if count == 0 || count > bytes.len() {
@@ -163,10 +142,6 @@ pub struct Board<'a> {
     taken: usize,
     signs: usize,
     moment: u64,
-    /// For how many milliseconds a patient one waited while a journal was being turned over.
-    waited: u64,
-    /// For how many milliseconds one was being turned over.
-    turning: u64,
 }
 
 impl<'a> Board<'a> {
@@ -177,53 +152,11 @@ impl<'a> Board<'a> {
             taken: 0,
             signs: 0,
             moment: 0,
-            waited: 0,
-            turning: 0,
         }
     }
-
-    /// For how many milliseconds a journal was being turned over.
-    pub fn turning(&self) -> u64 {
-        self.turning
-    }
-
-    /// For how many milliseconds a patient one waited while a journal was being turned over.
-    pub fn waited(&self) -> u64 {
-        self.waited
-    }
-}
-
-/// Who is told how a journal is turned over.
-pub trait Turns {
-    /// It is being turned over at this moment.
-    fn tell_turning(&mut self);
-
-    /// It was turned over: who isn't patient asks so often besides, and who is once.
-    fn tell_turned(&self, more: usize);
 
     /// Whether the connections of all callers are gone.
-    fn is_left(&self) -> bool;
-}
-
-impl<'a> Turns for Board<'a> {
-    fn tell_turning(&mut self) {
-        self.turning = self.turning.saturating_add(1);
-        'each: for caller in self.callers {
-            if caller.patient {
-                caller.ask_on(0);
-                let waits = !caller.is_answered();
-                self.waited = self.waited.saturating_add(u64::from(waits));
-            }
-        }
-    }
-
-    fn tell_turned(&self, more: usize) {
-        'each: for caller in self.callers {
-            caller.ask_on(if caller.patient { 1 } else { more });
-        }
-    }
-
-    fn is_left(&self) -> bool {
+    pub fn is_left(&self) -> bool {
         self.callers.iter().all(Caller::is_gone)
     }
 }

@@ -2,7 +2,7 @@
 //! asks now and then: each is served, also where others send heads byte by byte.
 
 use crate::chance::Dice;
-use crate::fakes::{Devices, Hears, patience};
+use crate::fakes::{Devices, HELD, Hears, patience};
 use crate::signs::goes;
 use gateway_loop::{Accepted, Gateway, Host, Loop, Moved, Sign, Stream, Told};
 use std::alloc::Global;
@@ -210,7 +210,7 @@ fn is_run<'a>(alloc: Global, dice: &'a Dice, host: &mut Door<'a>) -> bool {
     let Ok(gateway) = Gateway::new(alloc, settings, Devices::new(alloc, dice)) else {
         return false;
     };
-    match Loop::new(gateway, patience(HEAD)) {
+    match Loop::new(gateway, patience(HEAD), HELD) {
         Ok(it) => goes(&bank, it, host, TURNS),
         Err(_) => false,
     }

@@ -2,11 +2,17 @@
 //! gives the signs.
 
 use crate::chance::Dice;
-use gateway_loop::{Accepted, Host, Moved, Patience, Received, Sign, Stream, Told, Wire};
+use gateway_loop::{Accepted, Held, Host, Moved, Patience, Received, Sign, Stream, Told, Wire};
 use std::alloc::Global;
 use std::cell::Cell;
 use std::collections::VecDeque;
 use uri_map::Peer;
+
+/// How much of its history a loop holds.
+pub const HELD: Held = Held {
+    entries: 32_768,
+    bytes: 67_108_864,
+};
 
 /// Within which time, in milliseconds, a head has to be whole, and a client to go on.
 pub fn patience(idle: u64) -> Patience {

@@ -1,7 +1,7 @@
 //! A loop that stands still for long: what came meanwhile is heard before time goes on, so who asked
 //! is told what the device answered, though no sign told of it yet.
 
-use crate::fakes::{Hears, patience, reply_to};
+use crate::fakes::{HELD, Hears, patience, reply_to};
 use crate::signs::goes;
 use gateway_loop::{Accepted, Gateway, Host, Loop, Moved, Received, Sign, Stream, Told, Wire};
 use std::alloc::Global;
@@ -179,7 +179,7 @@ fn is_run<'a>(alloc: Global, host: &mut Door<'a>) -> bool {
     let Ok(gateway) = Gateway::new(alloc, settings, device) else {
         return false;
     };
-    match Loop::new(gateway, patience(IDLE)) {
+    match Loop::new(gateway, patience(IDLE), HELD) {
         Ok(it) => goes(&bank, it, host, TURNS),
         Err(_) => false,
     }

@@ -2,7 +2,7 @@
 //! waited for once that has left.
 
 use crate::chance::Dice;
-use crate::fakes::{Devices, Hears, patience};
+use crate::fakes::{Devices, HELD, Hears, patience};
 use crate::signs::goes;
 use gateway_loop::{Accepted, Gateway, Host, Loop, Moved, Sign, Stream, Told};
 use std::alloc::Global;
@@ -190,7 +190,7 @@ fn is_run<'a>(alloc: Global, dice: &'a Dice, host: &mut Door<'a>) -> bool {
     let Ok(gateway) = Gateway::new(alloc, settings, Devices::new(alloc, dice)) else {
         return false;
     };
-    match Loop::new(gateway, patience(IDLE)) {
+    match Loop::new(gateway, patience(IDLE), HELD) {
         Ok(it) => goes(&bank, it, host, TURNS),
         Err(_) => false,
     }

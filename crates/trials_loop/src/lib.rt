@@ -1,8 +1,8 @@
 //! Trials of the loop, by its public calls alone: over sockets in memory that give any signs in any
 //! order.
 //!
-//! Tried is what no contract says: that each client gets all that it asked for, also where a
-//! journal is turned over meanwhile, and for what the loop waits. Nothing stands on this crate.
+//! Tried is what no contract says: that each client gets all that it asked for, also where entries
+//! leave memory meanwhile, and for what the loop waits. Nothing stands on this crate.
 #![tactic(auto)]
 
 #[cfg(test)]
@@ -14,6 +14,8 @@ mod crowd;
 #[cfg(test)]
 mod fakes;
 #[cfg(test)]
+mod flowing;
+#[cfg(test)]
 mod late;
 #[cfg(test)]
 mod leaving;
@@ -21,5 +23,3 @@ mod leaving;
 mod refused;
 #[cfg(test)]
 mod signs;
-#[cfg(test)]
-mod turning;

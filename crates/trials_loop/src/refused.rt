@@ -4,7 +4,7 @@
 ghost use Rattle.std.specs.Prelude.{◌≡◌, [], IfSome};
 
 use crate::chance::Dice;
-use crate::fakes::{Devices, Hears, Talk, Tape, patience};
+use crate::fakes::{Devices, HELD, Hears, Talk, Tape, patience};
 use crate::signs::goes;
 use gateway_loop::{Accepted, Gateway, Host, Loop, Sign, Told};
 use std::alloc::Global;
@@ -138,7 +138,7 @@ fn new_loop<'a>(alloc: Global, dice: &'a Dice) -> Option<Loop<Nothing, Tape<'a>,
 {
     let settings = settings(alloc).ok()?;
     let gateway = Gateway::new(alloc, settings, Devices::new(alloc, dice)).ok()?;
-    Loop::new(gateway, patience(IDLE)).ok()
+    Loop::new(gateway, patience(IDLE), HELD).ok()
 }
 
 /// How a run goes, of which memory may be refused once.

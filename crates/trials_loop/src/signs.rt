@@ -3,7 +3,7 @@
 ghost use Rattle.transformers.specs.Suits.{Suits};
 
 use crate::chance::Dice;
-use crate::fakes::{Chance, Devices, Hears, Talk, patience};
+use crate::fakes::{Chance, Devices, HELD, Hears, Talk, patience};
 use gateway_loop::{Gateway, Host, Loop, Stream, Wire};
 use std::alloc::Global;
 use transformers::{Bank, Relation};
@@ -56,7 +56,7 @@ fn is_run(alloc: Global, seed: u64, talks: &[Talk], turns: u32) -> bool {
     let Ok(gateway) = Gateway::new(alloc, settings, Devices::new(alloc, &dice)) else {
         return false;
     };
-    match Loop::new(gateway, patience(IDLE)) {
+    match Loop::new(gateway, patience(IDLE), HELD) {
         Ok(it) => goes(&bank, it, &mut host, turns) && host.is_told_all(),
         Err(_) => false,
     }

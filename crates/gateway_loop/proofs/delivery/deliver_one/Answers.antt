@@ -14,5 +14,5 @@ returns-in-Closed-clause-given g c =
 
 pub returns-in-GivenUp-clause-given : goal.returns-in-GivenUp-clause-given
 returns-in-GivenUp-clause-given g c =
-    rw (c.in-GivenUp.is, c.line_up-in-GivenUp.ensures.places, c.close-in-GivenUp.ensures)
+    rw (c.in-GivenUp.is, c.line_up-in-GivenUp.ensures.places, c.give_up.ensures)
     (given-up c.in-GivenUp.number c.args.clients.now.places)

@@ -2,11 +2,13 @@
 use Rattle.std.proofs.Common.{[], ◌∙◌, Some, ap, refl, rules, sym, subst}
 use Rattle.gateway_model.specs.declared.input.Happening.TheVariants as H
 use Rattle.gateway_model.specs.Emissions.{emissions}
+use Rattle.gateway_world.specs.Worlds.{with_memory}
 use Rattle.gateway_world.proofs.Running.{takes-rules}
 use Rattle.gateway_loop.specs.Delivery.{AreGiven}
 use Rattle.gateway_loop.specs.Places.{ClientsValue}
 use Rattle.gateway_loop.specs.Serving.{IsServing}
 use Rattle.gateway_loop.proofs.Growing.{grown-none}
+use Rattle.gateway_loop.proofs.Remembering.{serving-gives}
 use Rattle.gateway_loop.proofs.Standing.{serving-at}
 use Rattle.gateway_loop.proofs.Stepping.{counted, pop-last, refused, taken}
 use Rattle.gateway_loop.proofs.Served.{serving-emptied}
@@ -14,8 +16,8 @@ use Rattle.gateway_loop.proofs.Taking.{serving-resumes, serving-stays, serving-t
 use Rattle.gateway_loop.proofs.Tellings.{tells-as, tells-from}
 use Rattle.gateway_loop.proofs.gateway.Gateway.resume.Goals as goal
 
-pub advance-requires-clause-suits : goal.advance-requires-clause-suits
-advance-requires-clause-suits g c = let s = rw (← c.self.view_is) at c.requires.suits in s
+pub take_in-requires-clause-suits : goal.take_in-requires-clause-suits
+take_in-requires-clause-suits g c = let s = rw (← c.self.view_is) at c.requires.suits in s
 
 pub of-requires : goal.of-requires
 of-requires g c =
@@ -32,40 +34,44 @@ of-requires-in-Taken-Some g c =
     subst (λ ps. IsServing g.R.Relation.holds g.R.Relation.takes g.S.Stream.written g.S.Stream.gave g.W.Wire.sent g.W.Wire.heard c.in_ok-world.field-0.world ps c.deliver.new.wire c.line_up.new.self.told) (sym c.line_up.ensures.places)
     (serving-resumes g.R.Relation.holds g.R.Relation.takes g.S.Stream.written g.S.Stream.gave g.W.Wire.sent g.W.Wire.heard
     (record { moment = c.args.when.moment; word = c.args.when.word; happening = H.Open })
-    c.in-Taken-Some.field-0 c.in-Taken-Some.opened (emissions c.advance.new.outputs.items)
-    c.self.inside.world c.in_ok-world.field-0.world c.deref_mut.result.now.clients.places c.carry.new.self.places
+    c.in-Taken-Some.field-0 c.in-Taken-Some.opened (emissions c.take_in.new.outputs.items)
+    (with_memory c.in_ok-world.ensures.tried.memory c.self.inside.world) c.in_ok-world.field-0.world c.deref_mut.result.now.clients.places c.carry.new.self.places
     c.deliver.new.clients.places
     c.deref_mut.result.now.wire c.deliver.new.wire c.args.number c.deref_mut.result.now.clients.told
     c.line_up.new.self.told
+    (serving-gives g.R.Relation.holds g.R.Relation.takes g.S.Stream.written g.S.Stream.gave g.W.Wire.sent
+    g.W.Wire.heard c.in_ok-world.ensures.tried.memory c.self.inside.world _ _ _
     (serving-at g.R.Relation.holds g.R.Relation.takes g.S.Stream.written g.S.Stream.gave g.W.Wire.sent
-    g.W.Wire.heard c.self.inside.world _ _ c.deref_mut.ensures.value c.self.invariant) (taken _ _ c.in-Taken-Some.is c.in_ok-world.ensures.takes)
-    (counted _ _ _ _ _ c.in-Taken-Some.is c.in_ok-world.ensures.opened) refl
+    g.W.Wire.heard c.self.inside.world _ _ c.deref_mut.ensures.value c.self.invariant)) (taken _ _ c.in-Taken-Some.is c.in_ok-world.ensures.tried.takes)
+    (counted _ _ _ _ _ c.in-Taken-Some.is c.in_ok-world.ensures.tried.opened) refl
     (rw (c.in-Taken-Some.is) at c.in-Taken-Some.field-0-is)
     carried c.deliver.ensures.given c.deliver.ensures.wire c.deliver.ensures.quiet
-    (tells-from (emissions c.advance.new.outputs.items) c.deref_mut.result.now.clients.told c.carry.new.self.told c.line_up.new.self.told c.carry.ensures.told
-    (tells-as (emissions c.advance.new.outputs.items) c.carry.new.self.told c.deliver.new.clients.told c.line_up.new.self.told c.line_up.ensures.told c.deliver.ensures.told)))
+    (tells-from (emissions c.take_in.new.outputs.items) c.deref_mut.result.now.clients.told c.carry.new.self.told c.line_up.new.self.told c.carry.ensures.told
+    (tells-as (emissions c.take_in.new.outputs.items) c.carry.new.self.told c.deliver.new.clients.told c.line_up.new.self.told c.line_up.ensures.told c.deliver.ensures.told)))
 
 pub of-requires-in-Taken-None : goal.of-requires-in-Taken-None
 of-requires-in-Taken-None g c =
     let carried = (c.carry.ensures.carried (search rules)) in
     let same = ap (λ (v : ClientsValue _). v.places) c.pop.ensures ∙ pop-last carried.rest c.carry.new.self.places (Some carried.here) carried.next in
     let kept = (serving-emptied g.R.Relation.holds g.R.Relation.takes g.S.Stream.written g.S.Stream.gave g.W.Wire.sent g.W.Wire.heard
-    c.self.inside.world c.args.number c.deref_mut.result.now.clients.places carried.rest c.deref_mut.result.now.wire
-    c.deref_mut.result.now.clients.told c.carry.new.self.told (serving-at g.R.Relation.holds g.R.Relation.takes g.S.Stream.written g.S.Stream.gave g.W.Wire.sent
-    g.W.Wire.heard c.self.inside.world _ _ c.deref_mut.ensures.value c.self.invariant) c.carry.ensures.told carried.emptied) in
+    (with_memory c.in_ok-world.ensures.tried.memory c.self.inside.world) c.args.number c.deref_mut.result.now.clients.places carried.rest c.deref_mut.result.now.wire
+    c.deref_mut.result.now.clients.told c.carry.new.self.told (serving-gives g.R.Relation.holds g.R.Relation.takes g.S.Stream.written g.S.Stream.gave g.W.Wire.sent
+    g.W.Wire.heard c.in_ok-world.ensures.tried.memory c.self.inside.world _ _ _
+    (serving-at g.R.Relation.holds g.R.Relation.takes g.S.Stream.written g.S.Stream.gave g.W.Wire.sent
+    g.W.Wire.heard c.self.inside.world _ _ c.deref_mut.ensures.value c.self.invariant)) c.carry.ensures.told carried.emptied) in
     serving-turned g.R.Relation.holds g.R.Relation.takes g.S.Stream.written g.S.Stream.gave
     g.W.Wire.sent g.W.Wire.heard
     (record { moment = c.args.when.moment; word = c.args.when.word; happening = H.Open })
-    c.in-Taken-None.field-0 (emissions c.advance.new.outputs.items)
-    c.self.inside.world c.in_ok-world.field-0.world carried.rest
+    c.in-Taken-None.field-0 (emissions c.take_in.new.outputs.items)
+    (with_memory c.in_ok-world.ensures.tried.memory c.self.inside.world) c.in_ok-world.field-0.world carried.rest
     c.deliver-in-Taken-None.new.clients.places c.deref_mut.result.now.wire c.deliver-in-Taken-None.new.wire
     c.carry.new.self.told c.deliver-in-Taken-None.new.clients.told
-    kept (taken _ _ c.in-Taken-None.is c.in_ok-world.ensures.takes)
-    (counted _ _ _ _ _ c.in-Taken-None.is c.in_ok-world.ensures.opened) refl
+    kept (taken _ _ c.in-Taken-None.is c.in_ok-world.ensures.tried.takes)
+    (counted _ _ _ _ _ c.in-Taken-None.is c.in_ok-world.ensures.tried.opened) refl
     (rw (c.in-Taken-None.is) at c.in-Taken-None.field-0-is)
-    (subst (λ ps. AreGiven (emissions c.advance.new.outputs.items) ps c.deliver-in-Taken-None.new.clients.places) same c.deliver-in-Taken-None.ensures.given)
+    (subst (λ ps. AreGiven (emissions c.take_in.new.outputs.items) ps c.deliver-in-Taken-None.new.clients.places) same c.deliver-in-Taken-None.ensures.given)
     c.deliver-in-Taken-None.ensures.wire c.deliver-in-Taken-None.ensures.quiet
-    (tells-from (emissions c.advance.new.outputs.items) c.carry.new.self.told c.pop.new.self.told c.deliver-in-Taken-None.new.clients.told
+    (tells-from (emissions c.take_in.new.outputs.items) c.carry.new.self.told c.pop.new.self.told c.deliver-in-Taken-None.new.clients.told
     (ap (λ (v : ClientsValue _). v.told) c.pop.ensures) c.deliver-in-Taken-None.ensures.told)
 
 pub of-requires-in-Refused : goal.of-requires-in-Refused
@@ -74,14 +80,16 @@ of-requires-in-Refused g c =
     let same = ap (λ (v : ClientsValue _). v.places) c.pop-in-Refused.ensures
     ∙ pop-last carried.rest c.carry.new.self.places (Some carried.here) carried.next in
     let kept = (serving-emptied g.R.Relation.holds g.R.Relation.takes g.S.Stream.written g.S.Stream.gave g.W.Wire.sent g.W.Wire.heard
-    c.self.inside.world c.args.number c.deref_mut.result.now.clients.places carried.rest c.deref_mut.result.now.wire
-    c.deref_mut.result.now.clients.told c.carry.new.self.told (serving-at g.R.Relation.holds g.R.Relation.takes g.S.Stream.written g.S.Stream.gave g.W.Wire.sent
-    g.W.Wire.heard c.self.inside.world _ _ c.deref_mut.ensures.value c.self.invariant) c.carry.ensures.told carried.emptied) in
+    (with_memory c.in_ok-world.ensures.tried.memory c.self.inside.world) c.args.number c.deref_mut.result.now.clients.places carried.rest c.deref_mut.result.now.wire
+    c.deref_mut.result.now.clients.told c.carry.new.self.told (serving-gives g.R.Relation.holds g.R.Relation.takes g.S.Stream.written g.S.Stream.gave g.W.Wire.sent
+    g.W.Wire.heard c.in_ok-world.ensures.tried.memory c.self.inside.world _ _ _
+    (serving-at g.R.Relation.holds g.R.Relation.takes g.S.Stream.written g.S.Stream.gave g.W.Wire.sent
+    g.W.Wire.heard c.self.inside.world _ _ c.deref_mut.ensures.value c.self.invariant)) c.carry.ensures.told carried.emptied) in
     subst (λ ps. IsServing g.R.Relation.holds g.R.Relation.takes g.S.Stream.written g.S.Stream.gave g.W.Wire.sent g.W.Wire.heard c.in_ok-world.field-0.world ps c.deref_mut.result.now.wire c.pop-in-Refused.new.self.told) (sym same)
     (serving-stays g.R.Relation.holds g.R.Relation.takes g.S.Stream.written g.S.Stream.gave g.W.Wire.sent g.W.Wire.heard
-    c.self.inside.world c.in_ok-world.field-0.world carried.rest c.deref_mut.result.now.wire c.deref_mut.result.now.wire
+    (with_memory c.in_ok-world.ensures.tried.memory c.self.inside.world) c.in_ok-world.field-0.world carried.rest c.deref_mut.result.now.wire c.deref_mut.result.now.wire
     [] c.carry.new.self.told c.pop-in-Refused.new.self.told
-    kept (refused _ c.in-Refused.is c.in_ok-world.ensures.stays).0 (grown-none _) (grown-none _)
+    kept (refused _ c.in-Refused.is c.in_ok-world.ensures.tried.stays) (grown-none _) (grown-none _)
     (ap (λ (v : ClientsValue _). v.told) c.pop-in-Refused.ensures))
 
 pub returns-in-Taken-Some : goal.returns-in-Taken-Some
@@ -89,8 +97,8 @@ returns-in-Taken-Some g c = record {
   rules = rw (← c.self.view_is) (ap (λ v. v.world.rules) c.of-in-Taken-Some.ensures
       ∙ takes-rules g.R.Relation.holds g.R.Relation.takes
       (record { moment = c.args.when.moment; word = c.args.when.word; happening = H.Open })
-      c.self.inside.world c.in_ok-world.field-0.world (emissions c.advance.new.outputs.items)
-      (taken _ _ c.in-Taken-Some.is c.in_ok-world.ensures.takes));
+      (with_memory c.in_ok-world.ensures.tried.memory c.self.inside.world) c.in_ok-world.field-0.world (emissions c.take_in.new.outputs.items)
+      (taken _ _ c.in-Taken-Some.is c.in_ok-world.ensures.tried.takes));
 }
 
 pub returns-in-Taken-None : goal.returns-in-Taken-None
@@ -98,11 +106,11 @@ returns-in-Taken-None g c = record {
   rules = rw (← c.self.view_is) (ap (λ v. v.world.rules) c.of-in-Taken-None.ensures
       ∙ takes-rules g.R.Relation.holds g.R.Relation.takes
       (record { moment = c.args.when.moment; word = c.args.when.word; happening = H.Open })
-      c.self.inside.world c.in_ok-world.field-0.world (emissions c.advance.new.outputs.items)
-      (taken _ _ c.in-Taken-None.is c.in_ok-world.ensures.takes));
+      (with_memory c.in_ok-world.ensures.tried.memory c.self.inside.world) c.in_ok-world.field-0.world (emissions c.take_in.new.outputs.items)
+      (taken _ _ c.in-Taken-None.is c.in_ok-world.ensures.tried.takes));
 }
 
 pub returns-in-Refused : goal.returns-in-Refused
 returns-in-Refused g c = record {
-  rules = rw (← c.self.view_is) (ap (λ v. v.world.rules) c.of-in-Refused.ensures ∙ ap (λ w. w.rules) ((refused _ c.in-Refused.is c.in_ok-world.ensures.stays).0));
+  rules = rw (← c.self.view_is) (ap (λ v. v.world.rules) c.of-in-Refused.ensures ∙ ap (λ w. w.rules) ((refused _ c.in-Refused.is c.in_ok-world.ensures.tried.stays)));
 }

@@ -8,13 +8,7 @@ pass-requires g c = record { suits = rw c.in_ok-it.ensures.rules c.requires.suit
 pub sweep-requires : goal.sweep-requires
 sweep-requires g c = record { suits = rw (c.in_ok-it-2.ensures.rules, c.in_ok-it.ensures.rules) c.requires.suits }
 
-pub see_to_journal-requires : goal.see_to_journal-requires
-see_to_journal-requires g c = record {
-  suits = rw (c.in_ok-it-3.ensures.rules, c.in_ok-it-2.ensures.rules, c.in_ok-it.ensures.rules) c.requires.suits;
-}
-
 pub returns : goal.returns
 returns g c = record {
-  rules = c.in_ok-it-4.ensures.rules
-      ∙ (c.in_ok-it-3.ensures.rules ∙ (c.in_ok-it-2.ensures.rules ∙ c.in_ok-it.ensures.rules));
+  rules = c.in_ok-it-3.ensures.rules ∙ (c.in_ok-it-2.ensures.rules ∙ c.in_ok-it.ensures.rules);
 }

@@ -17,18 +17,19 @@ go_on-requires g c = record {
 
 pub end_turn-requires : goal.end_turn-requires
 end_turn-requires g c = record {
-  suits = rw (c.in_ok-it-3.ensures.rules, c.in_ok-it-2.ensures.rules, c.in_ok-it.ensures.rules, c.take_signs.ensures) c.requires.suits;
+  suits = rw (c.let_go.ensures.rules, c.in_ok-it-3.ensures.rules, c.in_ok-it-2.ensures.rules, c.in_ok-it.ensures.rules, c.take_signs.ensures) c.requires.suits;
 }
 
 pub returns-then-is_over : goal.returns-then-is_over
 returns-then-is_over g c = record {
-  rules = c.in_ok-it-3.ensures.rules
-      ∙ (c.in_ok-it-2.ensures.rules ∙ (c.in_ok-it.ensures.rules ∙ ap (λ (w : WorldValue). w.rules) c.take_signs.ensures));
+  rules = c.let_go.ensures.rules
+      ∙ (c.in_ok-it-3.ensures.rules
+      ∙ (c.in_ok-it-2.ensures.rules ∙ (c.in_ok-it.ensures.rules ∙ ap (λ (w : WorldValue). w.rules) c.take_signs.ensures)));
 }
 
 pub returns : goal.returns
 returns g c =
-    let same : c.in_ok-it-3.it.gateway.world.rules ≡ c.args.self.gateway.world.rules =
-    c.in_ok-it-3.ensures.rules
-    ∙ (c.in_ok-it-2.ensures.rules ∙ (c.in_ok-it.ensures.rules ∙ ap (λ (w : WorldValue). w.rules) c.take_signs.ensures)) in
+    let same = c.let_go.ensures.rules
+    ∙ (c.in_ok-it-3.ensures.rules
+    ∙ (c.in_ok-it-2.ensures.rules ∙ (c.in_ok-it.ensures.rules ∙ ap (λ (w : WorldValue). w.rules) c.take_signs.ensures))) in
     record { rules = IfOk-weaker c.end_turn.result _ _ (λ l e. e ∙ same) c.end_turn.ensures.rules }

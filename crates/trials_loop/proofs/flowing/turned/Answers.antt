@@ -4,7 +4,7 @@ use Rattle.std.specs.Option.{IfSome}
 use Rattle.std.specs.Result.{IfOk, result_ok}
 use Rattle.std.proofs.lemmas.Result.{IfOk-weaker}
 use Rattle.gateway_loop.specs.Gateways.{GatewayValue}
-use Rattle.trials_loop.proofs.turning.turned.Goals as goal
+use Rattle.trials_loop.proofs.flowing.turned.Goals as goal
 
 IfSome-of_ok : {X E : Type 0} (r : Result X E) (P : X → Type 0) → IfOk r P → IfSome (result_ok r) P
 IfSome-of_ok (Ok x) P h = h
