@@ -9,12 +9,12 @@ _hcproxy() {
       serve)
         case $before in
           --journals) paths=-d ;;
-          --idle | --status | :) ;;
+          --held-bytes | --idle | --status | :) ;;
           *)
-            words="--journals --access --idle --status --loop --threads" paths=-f
+            words="--journals --access --held-bytes --idle --status --loop --threads" paths=-f
             [[ $given != *" --status "* ]] || words+=" --status-bodies"
             # threads take --idle alone
-            [[ ! $given =~ \ --(loop|journals|access|status)\  ]] || words=${words/ --threads/}
+            [[ ! $given =~ \ --(loop|journals|access|held-bytes|status)\  ]] || words=${words/ --threads/}
             [[ $given != *" --loop "* ]] || words=${words/ --loop/}
             [[ $given != *" --threads "* ]] || words="--idle"
             ;;

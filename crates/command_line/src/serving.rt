@@ -7,6 +7,11 @@ use uri_map::{Peer, peer_at};
 /// How long a client may stand still at most, in seconds: a day.
 const LONGEST_IDLE: u64 = 86_400;
 
+/// How many bytes of what happened may be held, at least and at most: 1 and 128 MiB.
+const LEAST_HELD: u64 = 1_048_576;
+
+const MOST_HELD: u64 = 134_217_728;
+
 /// How the gateway is to run.
 #[derive(Clone, Copy, PartialEq, Eq)]
 pub struct Serving<'a> {
@@ -19,6 +24,8 @@ pub struct Serving<'a> {
     /// how long a client may stand still in a request, in seconds, and is idle at least before its
     /// connection may be closed for another one, where that is said
     pub idle: Option<u64>,
+    /// how many bytes of what happened are held in memory, where that is said
+    pub held: Option<u64>,
     /// where it shows how it does, if it does
     pub status: Option<Peer>,
     /// what datagrams carry is shown there too
@@ -33,6 +40,7 @@ pub struct Serving<'a> {
 enum Flag {
     Journals,
     Idle,
+    Held,
     Status,
 }
 
@@ -42,6 +50,7 @@ impl Flag {
         match self {
             Flag::Journals => "--journals",
             Flag::Idle => "--idle",
+            Flag::Held => "--held-bytes",
             Flag::Status => "--status",
         }
     }
@@ -63,6 +72,7 @@ struct Words<'a> {
     journals: Option<&'a str>,
     access: bool,
     idle: Option<u64>,
+    held: Option<u64>,
     status: Option<Peer>,
     bodies: bool,
     /// how it is to run, where that is said
@@ -79,9 +89,11 @@ impl<'a> Words<'a> {
         match (self.flag, word) {
             (Some(Flag::Journals), _) => words.journals = Some(word),
             (Some(Flag::Idle), _) => words.idle = Some(seconds_of(word)?),
+            (Some(Flag::Held), _) => words.held = Some(held_of(word)?),
             (Some(Flag::Status), _) => words.status = Some(address_of(word)?),
             (None, "--journals") if self.journals.is_none() => words.flag = Some(Flag::Journals),
             (None, "--idle") if self.idle.is_none() => words.flag = Some(Flag::Idle),
+            (None, "--held-bytes") if self.held.is_none() => words.flag = Some(Flag::Held),
             (None, "--status") if self.status.is_none() => words.flag = Some(Flag::Status),
             (None, "--access") if !self.access => words.access = true,
             (None, "--status-bodies") if !self.bodies => words.bodies = true,
@@ -99,6 +111,8 @@ impl<'a> Words<'a> {
             Some(Flag::Journals.word())
         } else if self.access {
             Some("--access")
+        } else if self.held.is_some() {
+            Some(Flag::Held.word())
         } else if self.status.is_some() {
             Some(Flag::Status.word())
         } else {
@@ -123,15 +137,24 @@ fn seconds_of(word: &str) -> Result<u64, Wrong<'_>> {
     }
 }
 
+/// A number of bytes that may be held.
+fn held_of(word: &str) -> Result<u64, Wrong<'_>> {
+    match word.parse::<u64>() {
+        Ok(bytes) if (LEAST_HELD..=MOST_HELD).contains(&bytes) => Ok(bytes),
+        _ => Err(Wrong::Held(word)),
+    }
+}
+
 /// What the words after `serve` ask for: `[FILE] [--journals FOLDER] [--access] [--idle SECONDS]
-/// [--status ADDRESS:PORT [--status-bodies]] [--loop]`, or `[FILE] [--idle SECONDS] --threads`, in
-/// any order. Where no form is named, it is the loop.
+/// [--held-bytes BYTES] [--status ADDRESS:PORT [--status-bodies]] [--loop]`, or
+/// `[FILE] [--idle SECONDS] --threads`, in any order. Where no form is named, it is the loop.
 pub fn serving_of(words: &[String]) -> Result<Serving<'_>, Wrong<'_>> {
     let mut so_far = Words {
         settings: None,
         journals: None,
         access: false,
         idle: None,
+        held: None,
         status: None,
         bodies: false,
         form: None,
@@ -156,6 +179,7 @@ pub fn serving_of(words: &[String]) -> Result<Serving<'_>, Wrong<'_>> {
         journals: so_far.journals,
         access: so_far.access,
         idle: so_far.idle,
+        held: so_far.held,
         status: so_far.status,
         bodies: so_far.bodies,
         looped,

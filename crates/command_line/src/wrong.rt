@@ -21,6 +21,8 @@ pub enum Wrong<'a> {
     Address(&'a str),
     /// No number of seconds for which a client may stand still.
     Idle(&'a str),
+    /// No number of bytes that may be held.
+    Held(&'a str),
 }
 
 impl fmt::Display for Wrong<'_> {
@@ -34,6 +36,12 @@ impl fmt::Display for Wrong<'_> {
             Wrong::Not(word, other) => write!(f, "{word}: not with {other}"),
             Wrong::Address(word) => write!(f, "{word}: no address and port, as 127.0.0.1:8080 is"),
             Wrong::Idle(word) => write!(f, "--idle {word}: no number of seconds from 1 to 86400"),
+            Wrong::Held(word) => {
+                write!(
+                    f,
+                    "--held-bytes {word}: no number from 1048576 to 134217728"
+                )
+            }
         }
     }
 }

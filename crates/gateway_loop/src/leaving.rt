@@ -70,11 +70,10 @@ impl<R: Relation, S: Stream + Drop, W: Wire + Drop> Gateway<R, S, W> {
         ensures wire { self.new.wire ≡ self.old.wire }
     {
         let first = self.world.given();
-        match self.world.give() {
-            Ok(Some(entries)) => Ok(Some(Segment { first, entries })),
-            Ok(None) => Ok(None),
-            Err(error) => Err(error),
-        }
+        let Some(entries) = self.world.give()? else {
+            return Ok(None);
+        };
+        Ok(Some(Segment { first, entries }))
     }
 
     /// Where memory was refused for a connection, so that it was given up, all segments leave, which
@@ -156,7 +155,8 @@ fn let_all_go<R: Relation>(world: &mut World<R>)
     'each: for _ in 0..ALL {
         match world.give() {
             Ok(Some(_)) => {}
-            _ => return,
+            Ok(None) => return,
+            Err(_) => return,
         }
     }
 }

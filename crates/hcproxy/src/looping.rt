@@ -51,9 +51,11 @@ pub fn serve_loop<
 
 /// How the gateway is to run.
 pub fn options_of(serving: Serving<'_>) -> Options {
+    let plain = Options::default();
     Options {
         access: serving.access,
-        idle: serving.idle.unwrap_or(Options::default().idle),
+        idle: serving.idle.unwrap_or(plain.idle),
+        held: serving.held.unwrap_or(plain.held),
         payloads: if serving.bodies {
             Payloads::Shown
         } else {

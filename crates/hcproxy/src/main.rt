@@ -48,6 +48,9 @@ A gateway from HTTP/1.1 to CoAP.
   serve FILE --journals FOLDER
                           .. and writes what happens to files in FOLDER, within a second
   serve FILE --access     .. and notes each answer: who asked for what, and what came of it
+  serve FILE --held-bytes BYTES
+                          .. and holds so much of what happened in memory, 1048576 to 134217728. 67108864
+                          without it
   serve FILE --idle SECONDS
                           .. and waits so long for a client that stands still in a request, or doesn't
                           take its answer. 60 without it

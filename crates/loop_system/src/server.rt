@@ -34,11 +34,8 @@ const LONGEST_HEAD: u64 = 60_000;
 /// How many clients may be connected.
 const MOST_CONNECTIONS: usize = 4096;
 
-/// How much of its history the gateway holds.
-const HELD: Held = Held {
-    entries: 32_768,
-    bytes: 67_108_864,
-};
+/// How many entries of its history the gateway holds.
+const MOST_HELD: usize = 32_768;
 
 /// Runs the gateway at these ports, as the options say, until the clock fails, signs can't be waited
 /// for, memory is refused or the numbers of its history are spent.
@@ -129,7 +126,7 @@ fn run_on<
     };
     let mut host = System::new(rt, alloc, poll, listener, begin)?;
     let gateway: Gateway<Profile, Client, Devices> = Gateway::new(alloc, settings, devices)?;
-    let it = Loop::new(gateway, patience_of(options), HELD)?;
+    let it = Loop::new(gateway, patience_of(options), held_by(options))?;
     let outlet = Outlet::new(rt, alloc, archive)?;
     let after = After::new(alloc, outlet, seen(&glass), options.access);
     Ok(go_on(&rt, it, bank, &mut host, after))
@@ -141,6 +138,14 @@ fn patience_of(options: Options) -> Patience {
         idle: options.idle.saturating_mul(1000),
         head: LONGEST_HEAD,
         connections: MOST_CONNECTIONS,
+    }
+}
+
+/// How much of its history it holds.
+fn held_by(options: Options) -> Held {
+    Held {
+        entries: MOST_HELD,
+        bytes: options.held,
     }
 }
 

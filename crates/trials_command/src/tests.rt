@@ -71,7 +71,7 @@ fn a_script_may_come_byte_by_byte(rt: HostRuntime) {
 }
 
 /// What a line of words asks for, or None where it is answered by the usage.
-static COMMANDS: [(&str, Option<Command<'static>>); 55] = [
+static COMMANDS: [(&str, Option<Command<'static>>); 59] = [
     ("replay", RUN),
     (
         "replay --journal",
@@ -135,6 +135,10 @@ static COMMANDS: [(&str, Option<Command<'static>>); 55] = [
     ("serve a.toml --idle 0", None),
     ("serve a.toml --idle 86401", None),
     ("serve a.toml --idle 5s", None),
+    ("serve a.toml --held-bytes 1048576", LITTLE),
+    ("serve a.toml --held-bytes 1048575", None),
+    ("serve a.toml --held-bytes 134217729", None),
+    ("serve --threads --held-bytes 1048576", None),
     ("serve a.toml b.toml", None),
     ("serve a.toml --journals", None),
     ("serve --journals", None),
@@ -192,6 +196,7 @@ const PLAIN: Serving<'static> = Serving {
     journals: None,
     access: false,
     idle: None,
+    held: None,
     status: None,
     bodies: false,
     looped: true,
@@ -206,6 +211,11 @@ const WATCHED: Option<Command<'static>> = Some(Command::Serve(Serving {
     journals: Some("past"),
     access: true,
     idle: Some(5),
+    ..PLAIN
+}));
+
+const LITTLE: Option<Command<'static>> = Some(Command::Serve(Serving {
+    held: Some(1_048_576),
     ..PLAIN
 }));
 

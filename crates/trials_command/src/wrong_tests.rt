@@ -5,7 +5,7 @@ use command_line::{Report, USAGE, command_of};
 use std::alloc::{AllocError, Global};
 
 /// Lines of words, and what is wrong with each.
-const WRONG: [(&str, &str); 23] = [
+const WRONG: [(&str, &str); 25] = [
     ("bogus", "bogus: no such command"),
     ("--journal replay", "--journal: no such command"),
     (
@@ -19,6 +19,14 @@ const WRONG: [(&str, &str); 23] = [
     (
         "serve a.toml --idle 5s",
         "--idle 5s: no number of seconds from 1 to 86400",
+    ),
+    (
+        "serve a.toml --held-bytes 64M",
+        "--held-bytes 64M: no number from 1048576 to 134217728",
+    ),
+    (
+        "serve --threads --held-bytes 1048576",
+        "--held-bytes: not with --threads",
     ),
     (
         "serve a.toml --idle",

@@ -2,7 +2,7 @@
 
 use journal_book::Entry;
 use log::Log;
-use loop_system::{Archive, NoArchive, Options, Payloads, Ports, run};
+use loop_system::{Archive, NoArchive, Options, Ports, run};
 use route_bank::Profile;
 use std::alloc::{AllocError, Global};
 use std::net::{Net, TcpListener, TcpStream};
@@ -22,7 +22,7 @@ fn hasty() -> Options {
     Options {
         access: true,
         idle: IDLE,
-        payloads: Payloads::Hidden,
+        ..Options::default()
     }
 }
 

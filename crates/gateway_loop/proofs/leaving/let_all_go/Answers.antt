@@ -15,7 +15,7 @@ each-preserved g c =
 
 pub returns-in-Ok-None : goal.returns-in-Ok-None
 returns-in-Ok-None g c =
-    subst (IsShorter c.args.world.now) (sym (c.in-Ok-None.ensures.none c.in-Ok-None.field-0-is)) c.each.invariant
+    subst (IsShorter c.args.world.now) (sym (c.in-Ok-None.ensures.none c.in-Ok-None.field-0-is).0) c.each.invariant
 
 pub returns-in-Err : goal.returns-in-Err
 returns-in-Err g c = subst (IsShorter c.args.world.now) (sym c.in-Err.ensures.memory) c.each.invariant

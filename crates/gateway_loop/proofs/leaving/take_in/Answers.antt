@@ -1,12 +1,10 @@
 -- It is taken at once, or tried once more after all that may leave memory did.
 use Rattle.std.proofs.Common.{ap, sym, subst, ◌∙◌}
-use Rattle.gateway_world.specs.Inputs.{Takes}
-use Rattle.gateway_world.specs.Openings.{IsCounted}
-use Rattle.gateway_world.specs.Refusals.{opened_in}
+use Rattle.gateway_model.specs.Emissions.{emissions}
 use Rattle.gateway_world.specs.Worlds.{WorldValue, memory_of, with_memory}
 use Rattle.transformers.specs.Suits.{Suits}
-use Rattle.gateway_loop.proofs.Remembering.{all-three}
-use Rattle.gateway_loop.proofs.Stepping.{counted, quiet-fits, refused, taken, taken-more}
+use Rattle.gateway_loop.proofs.Remembering.{all-three, tried-again}
+use Rattle.gateway_loop.proofs.Stepping.{counted, quiet-fits, refused, taken}
 use Rattle.gateway_loop.proofs.leaving.take_in.Goals as goal
 
 pub advance-requires-clause-room : goal.advance-requires-clause-room
@@ -37,10 +35,7 @@ returns-in-Refused g c =
     let is = c.let_all_go.ensures.1 ∙ ap (with_memory c.let_all_go.ensures.0) same in
     record {
       tried = all-three c.advance-in-Refused.result _ _ _ _ c.advance-in-Refused.ensures.takes c.advance-in-Refused.ensures.stays
-          c.advance-in-Refused.ensures.opened (λ a t s o. record {
-            memory = c.let_all_go.ensures.0;
-            takes = taken-more a.step (λ k. subst (λ (w : WorldValue). Takes g.R.Relation.holds g.R.Relation.takes _ w _ a.world) is k) t;
-            stays = λ r. (s r).0 ∙ is;
-            opened = subst (λ (w : WorldValue). IsCounted _ (opened_in a.step) w.core a.world.core) is o;
-          });
+          c.advance-in-Refused.ensures.opened (λ a t s o.
+          tried-again g.R.Relation.holds g.R.Relation.takes c.args.input (emissions c.advance-in-Refused.new.outputs.items)
+          a.step c.let_all_go.ensures.0 c.args.world c.let_all_go.new.world a.world is t s o);
     }
