@@ -26,7 +26,7 @@ grows-then a b c h k = record {
   entries = (
     h.entries.0 ++ k.entries.0,
     k.entries.1
-    ∙ (ap (λ (q : List Written). q ++ k.entries.0) h.entries.1 ∙ append_assoc a.entries h.entries.0 k.entries.0),
+        ∙ (ap (λ (q : List Written). q ++ k.entries.0) h.entries.1 ∙ append_assoc a.entries h.entries.0 k.entries.0),
   );
   given = k.given ∙ h.given;
   kept = k.kept ∙ h.kept;
